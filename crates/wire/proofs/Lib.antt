@@ -1,0 +1,4 @@
+pub mod PastEnd
+pub mod Over
+pub mod OneAnswer
+pub mod Determined

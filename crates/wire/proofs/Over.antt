@@ -1,0 +1,56 @@
+-- Laws of `over`: how runs of bytes laid over the front of a room compose.
+use mathlib.Core.Path.{_≡_, refl, sym, ap, _∙_}
+use mathlib.Core.List.{List, [], _∷_, _++_, append-assoc, append-nil}
+use Prim.Native.Nat.{ℕ, suc, _+_, _-_, _≤_, _<_}
+use native.Mathlib.Omega.{arith}
+use lib.ListN.{length, take, drop, set, getD, length-append, length-drop, drop-of-length-le}
+use lib.Seq.{take-at, drop-at, set-at, drop-cons, drop-drop, take-all}
+use Rattle.wire.specs.Room.{over}
+
+pub over-nil : (room : List ℕ) → over [] room ≡ room
+unfolding over
+over-nil room = refl
+
+pub length-over : (s room : List ℕ) → length s ≤ length room → length (over s room) ≡ length room
+unfolding over
+length-over s room fits = simp (length-append, length-drop) (omega arith)
+
+pub take-over : (s room : List ℕ) (n : ℕ) → length s ≡ n → take n (over s room) ≡ s
+unfolding over
+take-over s room n is = take-at s (drop (length s) room) n is
+
+pub drop-over : (s room : List ℕ) (n : ℕ) → length s ≡ n → drop n (over s room) ≡ drop n room
+unfolding over
+drop-over s room n is = drop-at s (drop (length s) room) n is ∙ ap (λ (k : ℕ). drop k room) is
+
+-- one store right behind what has been laid
+pub over-more : (s room : List ℕ) (b n : ℕ) → length s ≡ n → n < length room → set (over s room) n b ≡ over (s ++ (b ∷ [])) room
+unfolding over
+over-more s room b n is inside =
+    let fits : length s < length room = omega arith in
+    let one : length (s ++ (b ∷ [])) ≡ suc (length s) = simp length-append (omega arith) in
+    rw (drop-cons room (length s) 0 fits, set-at s (getD room (length s) 0) (drop (suc (length s)) room) b n is, one, append-assoc)
+
+-- a list is its own part from a place on, whatever way the part's end is counted
+pub part-whole : (l : List ℕ) (n : ℕ) → take (length l - n) (drop n l) ≡ drop n l
+part-whole l n =
+    let all : length (drop n l) ≤ length l - n = simp length-drop (omega arith) in
+    take-all (length l - n) (drop n l) all
+
+pub part-end : (l : List ℕ) (n : ℕ) → drop (length l - n) (drop n l) ≡ []
+part-end l n =
+    let all : length (drop n l) ≤ length l - n = simp length-drop (omega arith) in
+    drop-of-length-le (drop n l) all
+
+over-over : (s t room : List ℕ) → s ++ over t (drop (length s) room) ≡ over (s ++ t) room
+unfolding over
+over-over s t room = rw (drop-drop, length-append s t, append-assoc)
+
+-- a second run laid over the room's part behind the first, as the part comes back to the lender
+pub over-part : (s t room l r : List ℕ) (n : ℕ) → length s ≡ n → l ≡ over s room → r ≡ over t (take (length l - n) (drop n l))
+    → take n l ++ (r ++ drop (length l - n) (drop n l)) ≡ over (s ++ t) room
+over-part s t room l r n is p q =
+    let front : take n l ≡ s = rw p (take-over s room n is) in
+    let behind : drop n l ≡ drop (length s) room = rw p (drop-over s room n is ∙ ap (λ (k : ℕ). drop k room) (sym is)) in
+    let laid : r ≡ over t (drop (length s) room) = q ∙ ap (over t) (part-whole l n ∙ behind) in
+    rw (front, part-end l n, append-nil, laid) (over-over s t room)

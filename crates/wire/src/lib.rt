@@ -1,0 +1,57 @@
+// How 01's multi-byte numbers stand in bytes, and how a run of bytes is laid over the front of a lent room.
+// The only place where a byte order is written out.
+ghost use mathlib.Core.Path.{_≡_};
+ghost use Rattle.wire.specs.ByteOrder.{highByte, lowByte, word, byteAt, wordAt};
+
+// A byte as a 16-bit number.
+pub fn wide(b: u8) -> u16
+    ensures { λ r. ⌜ r ≡ b ⌝ }
+{
+    b as u16
+}
+
+// A byte as a count or an index.
+pub fn count(b: u8) -> usize
+    ensures { λ r. ⌜ r ≡ b ⌝ }
+{
+    b as usize
+}
+
+// The first of the two bytes of a number that goes high byte first.
+pub fn high_byte(w: u16) -> u8
+    ensures { λ r. ⌜ r ≡ highByte w ⌝ }
+{
+    (w / 256) as u8
+}
+
+// The second of them.
+pub fn low_byte(w: u16) -> u8
+    ensures { λ r. ⌜ r ≡ lowByte w ⌝ }
+{
+    (w % 256) as u8
+}
+
+// The number whose two bytes these are.
+pub fn word(high: u8, low: u8) -> u16
+    ensures { λ r. ⌜ r ≡ word high low ⌝ }
+{
+    wide(high) * 256 + wide(low)
+}
+
+// The byte at a place; past the end, 0.
+pub fn byte_at(bytes: &[u8], at: usize) -> u8
+    ensures { λ r. ⌜ r ≡ byteAt (now (bytes .entry)) at ⌝ }
+{
+    if at < bytes.len() { bytes[at] } else { 0 }
+}
+
+// The number that stands high byte first at a place; bytes past the end count as 0.
+pub fn word_at(bytes: &[u8], at: usize) -> u16
+    ensures { λ r. ⌜ r ≡ wordAt (now (bytes .entry)) at ⌝ }
+{
+    if at < bytes.len() {
+        word(bytes[at], byte_at(bytes, at + 1))
+    } else {
+        0
+    }
+}
