@@ -1,0 +1,2 @@
+pub mod CheckValue
+pub mod Tables

@@ -1,0 +1,67 @@
+// The check value of 01, "Frame", with the two nibble tables that the manuals print.
+ghost use mathlib.Core.Path.{_≡_};
+ghost use Rattle.check_value.specs.CheckValue.{byteStep, checkFrom, checkValue};
+
+// What a byte's low four bits contribute.
+const LOW: [u16; 16] = [
+    0x0000,
+    0xC0C1,
+    0xC181,
+    0x0140,
+    0xC301,
+    0x03C0,
+    0x0280,
+    0xC241,
+    0xC601,
+    0x06C0,
+    0x0780,
+    0xC741,
+    0x0500,
+    0xC5C1,
+    0xC481,
+    0x0440,
+];
+
+// What its high four bits contribute.
+const HIGH: [u16; 16] = [
+    0x0000,
+    0xCC01,
+    0xD801,
+    0x1400,
+    0xF001,
+    0x3C00,
+    0x2800,
+    0xE401,
+    0xA001,
+    0x6C00,
+    0x7800,
+    0xB401,
+    0x5000,
+    0x9C01,
+    0x8801,
+    0x4400,
+];
+
+// Reads on from a value that was reached before.
+pub fn check_from(value: u16, bytes: &[u8]) -> u16
+    ensures { λ r. ⌜ r ≡ checkFrom value (now (bytes .entry)) ⌝ }
+{
+    // Copied once: an indexed constant would be laid on the stack anew for each byte.
+    let low = LOW;
+    let high = HIGH;
+    let mut reached = value;
+    let mut i = 0;
+    while i < bytes.len() {
+        let x = reached ^ wire::wide(bytes[i]);
+        reached = (x >> 8) ^ low[(x & 15) as usize] ^ high[((x >> 4) & 15) as usize];
+        i += 1;
+    }
+    reached
+}
+
+// The check value of a list of bytes.
+pub fn check_value(bytes: &[u8]) -> u16
+    ensures { λ r. ⌜ r ≡ checkValue (now (bytes .entry)) ⌝ }
+{
+    check_from(0xFFFF, bytes)
+}
