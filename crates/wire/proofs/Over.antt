@@ -4,7 +4,7 @@ use mathlib.Core.List.{List, [], _∷_, _++_, append-assoc, append-nil}
 use Prim.Native.Nat.{ℕ, suc, _+_, _-_, _≤_, _<_}
 use native.Mathlib.Omega.{arith}
 use lib.ListN.{length, take, drop, set, getD, length-append, length-drop, drop-of-length-le}
-use lib.Seq.{take-at, drop-at, set-at, drop-cons, drop-drop, take-all}
+use lib.Seq.{take-at, drop-at, set-at, drop-cons, drop-drop, take-all, drop-append-add}
 use Rattle.wire.specs.Room.{over}
 
 pub over-nil : (room : List ℕ) → over [] room ≡ room
@@ -54,3 +54,10 @@ over-part s t room l r n is p q =
     let behind : drop n l ≡ drop (length s) room = rw p (drop-over s room n is ∙ ap (λ (k : ℕ). drop k room) (sym is)) in
     let laid : r ≡ over t (drop (length s) room) = q ∙ ap (over t) (part-whole l n ∙ behind) in
     rw (front, part-end l n, append-nil, laid) (over-over s t room)
+
+-- the same bytes laid again, with more behind them
+pub over-longer : (s t room : List ℕ) → over (s ++ t) (over s room) ≡ over (s ++ t) room
+unfolding over
+over-longer s t room =
+    let n : length (s ++ t) ≡ length s + length t = length-append s t in
+    rw (n, drop-append-add s (drop (length s) room) (length t), drop-drop)

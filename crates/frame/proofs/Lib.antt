@@ -1,0 +1,6 @@
+pub mod Prefix
+pub mod Laying
+pub mod Writers
+pub mod GoodFrames
+pub mod Examples
+pub mod Determined

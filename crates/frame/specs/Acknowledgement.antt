@@ -1,0 +1,18 @@
+-- 01, "Commands": "each accepted frame is first answered by header, length, command, 0xFF, check; each bad check by the same with 0x00."
+use Prim.Native.Nat.{ℕ}
+use mathlib.Core.Bool.{Bool, true, false}
+use mathlib.Core.List.{List, [], _∷_}
+use Rattle.frame.specs.Frame.{enclosed}
+
+-- "The length byte follows the general rule above and is 4."
+unfoldable pub acknowledgementLength : ℕ
+acknowledgementLength = 4
+
+-- FF for an accepted frame, 00 for a bad check
+unfoldable pub verdict : Bool → ℕ
+verdict true = 0xFF
+verdict false = 0x00
+
+-- acknowledgements are written only with checking on
+unfoldable pub acknowledgement : List ℕ → ℕ → Bool → List ℕ
+acknowledgement header command accepted = enclosed true header acknowledgementLength (command ∷ verdict accepted ∷ [])
