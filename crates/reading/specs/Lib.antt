@@ -1,0 +1,4 @@
+pub mod Place
+pub mod Stretch
+pub mod Line
+pub mod Moves
