@@ -1,12 +1,11 @@
 -- Laws of the bitwise steps: they keep xor, and a byte's eight steps split into its two nibbles'.
 use mathlib.Core.Path.{_≡_, refl, sym, ap, ap₂, _∙_}
-use mathlib.Core.List.{List, [], _∷_, _++_}
-use Prim.Native.Nat.{ℕ, zero, suc, _+_, _*_, _/_, _%_, _^_, _<_}
+use Prim.Native.Nat.{ℕ, zero, suc, _*_, _/_, _%_, _^_, _<_}
 use native.Mathlib.Nat.{zero-mul, mul-one, mul-assoc, pow-suc, mod-lt}
 use native.Mathlib.Omega.{arith}
-use lib.Bits.{bitXor, xor-shr, xor-mod, xor-shifted, xor-lt, xor-zero-r, xor-comm}
+use lib.Bits.{bitXor, xor-shr, xor-mod, xor-shifted, xor-zero-r, xor-comm}
 use lib.Pow.{split, field, mod-mod-pow, pow-pos}
-use Rattle.check_value.specs.CheckValue.{polynomial, bitStep, bitSteps, byteStep, checkFrom, checkValue}
+use Rattle.check_value.specs.CheckValue.{polynomial, bitStep, bitSteps}
 use Rattle.check_value.proofs.Xor.{digit, xor-assoc, xor-middle}
 
 -- the low bit's share keeps xor

@@ -1,10 +1,9 @@
 -- Laws of xor that lib.Bits leaves out.
 use mathlib.Core.Path.{_≡_, refl, sym, ap, ap₂, _∙_}
 use Prim.Native.Nat.{ℕ, zero, suc, _+_, _*_, _/_, _%_, _<_}
-use native.Mathlib.Nat.{mod-lt}
 use native.Mathlib.Omega.{arith}
 use lib.Arith.{bin-ind}
-use lib.Bits.{bitXor, differ, xor-step, xor-shr, xor-mod, xor-comm, xor-self, xor-zero-r}
+use lib.Bits.{bitXor, differ, xor-step, xor-shr, xor-mod, xor-comm}
 
 -- what holds of 0 and of 1 holds of a binary digit
 pub digit : (P : ℕ → Type 0) → P 0 → P 1 → (x : ℕ) → x < 2 → P x

@@ -1,6 +1,6 @@
 // The check value of 01, "Frame", with the two nibble tables that the manuals print.
 ghost use mathlib.Core.Path.{_≡_};
-ghost use Rattle.check_value.specs.CheckValue.{byteStep, checkFrom, checkValue};
+ghost use Rattle.check_value.specs.CheckValue.{checkFrom, checkValue};
 
 // What a byte's low four bits contribute.
 const LOW: [u16; 16] = [

@@ -1,5 +1,5 @@
 -- One answer fits each public function.
-use mathlib.Core.Path.{_≡_, sym, ap, _∙_}
+use mathlib.Core.Path.{sym, ap, _∙_}
 use denote.Ref.{now}
 use Rattle.wire.proofs.OneAnswer.{OneAnswer, OneAnswerLeft}
 use Rattle.frame.specs.Writer.{Laid, Writing}

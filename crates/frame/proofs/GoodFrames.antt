@@ -7,8 +7,8 @@ use native.Mathlib.Omega.{arith}
 use borrow.Author.Tests.{eqb-true, eq-eqb}
 use lib.Dec.{eqb}
 use lib.ListN.{length, getD, take, drop, length-append, length-drop, take-append-drop, drop-of-length-le}
-use lib.Seq.{take-at, take-all, take-append-seam, getD-append-seam, getD-append-add, drop-cons, length-take-le}
-use Rattle.wire.specs.ByteOrder.{lowByte, highByte, lowFirst}
+use lib.Seq.{take-at, take-all, take-append-seam, getD-append-seam, getD-append-add, drop-cons}
+use Rattle.wire.specs.ByteOrder.{lowByte, highByte}
 use Rattle.check_value.specs.CheckValue.{checkValue}
 use Rattle.frame.specs.Frame.{checkLength, checkBytes, lengthByte, enclosed, framed, frameOf, leastLength, mostData, contentOf, rightCheck, GoodFrame}
 use Rattle.frame.proofs.Laying.{length-checkBytes}

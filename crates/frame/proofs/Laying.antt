@@ -1,15 +1,13 @@
 -- How the parts of a frame, laid one behind the other over the front of a room, make the whole.
 use mathlib.Core.Path.{_≡_, refl, sym, ap, ap₂, _∙_}
 use mathlib.Core.Bool.{Bool, true, false}
-use mathlib.Core.List.{List, [], _∷_, _++_, append-assoc}
-use Prim.Native.Nat.{ℕ, suc, _+_, _-_, _≤_, _<_}
-use native.Mathlib.Omega.{arith}
+use mathlib.Core.List.{List, [], _∷_, _++_}
+use Prim.Native.Nat.{ℕ, _+_, _-_, _≤_}
 use lib.ListN.{length, take, drop, set, length-append}
 use lib.Seq.{sets-eq, take-length}
 use Rattle.wire.specs.Room.{over}
-use Rattle.wire.proofs.Over.{over-part, over-longer, take-over, drop-over, part-whole}
-use Rattle.frame.specs.declared.Header.{Header}
-use Rattle.frame.specs.Frame.{headerBytes, checkLength, checkBytes, lengthByte, enclosed, framed, frameOf}
+use Rattle.wire.proofs.Over.{over-part, over-longer, take-over}
+use Rattle.frame.specs.Frame.{checkLength, checkBytes, enclosed}
 
 pub first-laid : (b : ℕ) (room : List ℕ) → 1 ≤ length room → set room 0 b ≡ over (b ∷ []) room
 unfolding over

@@ -1,13 +1,13 @@
 -- Laws of the stores that lay header and length byte, and the check bytes.
-use mathlib.Core.Path.{_≡_, refl, sym, ap, _∙_}
+use mathlib.Core.Path.{_≡_, sym, ap, _∙_}
 use mathlib.Core.Bool.{Bool, true, false}
 use mathlib.Core.List.{List, [], _∷_, _++_, append-nil, append-assoc}
-use Prim.Native.Nat.{ℕ, suc, _+_, _-_, _≤_, _<_}
+use Prim.Native.Nat.{ℕ, _+_, _-_, _≤_, _<_}
 use native.Mathlib.Nat.{add-zero}
 use native.Mathlib.Omega.{arith}
-use lib.ListN.{length, take, drop, set, length-set, length-take, length-append, take-append-drop}
+use lib.ListN.{length, take, set, length-set, length-append, take-append-drop}
 use lib.Seq.{sets-eq, length-take-le}
-use Rattle.wire.specs.ByteOrder.{lowByte, highByte, lowFirst}
+use Rattle.wire.specs.ByteOrder.{lowByte, highByte}
 use Rattle.wire.specs.Room.{over}
 use Rattle.wire.proofs.Over.{over-more}
 use Rattle.check_value.specs.CheckValue.{checkValue}

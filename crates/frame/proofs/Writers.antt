@@ -1,20 +1,19 @@
 -- Laws of the inner writers and of the frame writer: one for each way they answer.
-use mathlib.Core.Path.{_≡_, refl, sym, ap, ap₂, _∙_}
-use mathlib.Core.Bool.{Bool, true, false, cond, _&&_}
+use mathlib.Core.Path.{_≡_, refl, sym, ap, _∙_}
+use mathlib.Core.Bool.{Bool, true, false, _&&_}
 use mathlib.Core.List.{List, [], _∷_, _++_}
 use Prim.Native.Nat.{ℕ, suc, _+_, _-_, _≤_, _<_}
-use native.Mathlib.Nat.{le-of-lt}
 use native.Mathlib.Omega.{arith}
 use mir.Val.{Fits}
 use mir.Syntax.{w8}
 use borrow.Author.Tests.{lt-ltb, le-ltb, lt-leb, le-leb}
-use lib.Dec.{leb, ltb}
+use lib.Dec.{leb}
 use lib.ListN.{length, take, drop, length-drop}
 use lib.Seq.{length-take-le}
 use Rattle.wire.specs.Room.{over}
-use Rattle.wire.proofs.Over.{drop-over, part-whole}
+use Rattle.wire.proofs.Parts.{part-whole}
+use Rattle.wire.proofs.Over.{drop-over}
 use Rattle.frame.specs.declared.Header.{Header}
-use Rattle.frame.specs.declared.Written.{Written}
 use Rattle.frame.specs.declared.Written.the-variants.{Frame, DataTooLong, RoomTooSmall}
 use Rattle.frame.specs.Frame.{headerBytes, checkLength, checkBytes, lengthByte, enclosed, framed, frameOf, mostData}
 use Rattle.frame.specs.Acknowledgement.{acknowledgementLength, verdict, acknowledgement}

@@ -1,11 +1,11 @@
 -- 01, "Frame": "Two header bytes H1 H2, fixed at setup; a length byte L; command; data; and, with checking on, two check bytes."
 -- A header is a list here, so that all that is said of frames is said for a header of any length.
-use Prim.Native.Nat.{ℕ, _+_, _-_, _≤_, _<_}
+use Prim.Native.Nat.{ℕ, _+_, _-_, _≤_}
 use mathlib.Core.Path.{_≡_}
 use mathlib.Core.Bool.{Bool, true, false, _&&_}
 use mathlib.Core.List.{List, [], _∷_, _++_}
 use lib.Dec.{eqb}
-use lib.ListN.{length, getD, take, drop}
+use lib.ListN.{length, getD, take}
 use Rattle.wire.specs.ByteOrder.{lowByte, highByte, lowFirst}
 use Rattle.check_value.specs.CheckValue.{checkValue}
 use Rattle.frame.specs.declared.Header.{Header}

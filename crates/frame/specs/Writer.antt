@@ -1,8 +1,8 @@
 -- 01, "Frame": "The frame writer takes any header pair, checking choice, command byte, data and room; it refuses with 14, then 3, else
 -- answers the frame's length; room past the frame stays."
 use Prim.Native.Nat.{ℕ, _+_}
-use mathlib.Core.Bool.{Bool, true, false, cond, _&&_}
-use mathlib.Core.List.{List, [], _∷_}
+use mathlib.Core.Bool.{Bool, cond, _&&_}
+use mathlib.Core.List.{List}
 use lib.Dec.{leb, ltb}
 use lib.ListN.{length, take, drop}
 use Rattle.wire.specs.Room.{over}

@@ -2,9 +2,9 @@
 ghost use mathlib.Core.Path.{_≡_};
 ghost use mathlib.Core.List.{[], _∷_, _++_};
 ghost use Prim.Native.Nat.{_+_, _≤_};
-ghost use lib.ListN.{length, take, drop};
+ghost use lib.ListN.{length, take};
 ghost use Rattle.wire.specs.Room.{over};
-ghost use Rattle.frame.specs.Frame.{headerBytes, checkLength, checkBytes, enclosed, frameOf, mostData};
+ghost use Rattle.frame.specs.Frame.{headerBytes, checkLength, checkBytes, enclosed, mostData};
 ghost use Rattle.frame.specs.Acknowledgement.{verdict};
 ghost use Rattle.frame.specs.Writer.{answers, writing, lays, frameLaid, acknowledgementLaid, closedLaid};
 

@@ -1,8 +1,8 @@
 -- 01, "Reading the line": "Reading a stretch starts at its first byte", and goes from place to place.
 use Prim.Native.Nat.{ℕ, zero, suc, _+_}
-use mathlib.Core.Bool.{Bool, true, false, cond}
+use mathlib.Core.Bool.{Bool, false, cond}
 use mathlib.Core.List.{List, [], _∷_, _++_, map}
-use Rattle.reading.specs.Place.{Rules, Seen, Report, look, reportOf, goneBy, isWait}
+use Rattle.reading.specs.Place.{Rules, Report, look, reportOf, goneBy, isWait}
 
 -- a report and the place, counted from the stretch's first byte, that it stands at
 pub record Placed : Type 0 where

@@ -1,4 +1,5 @@
 pub mod PastEnd
+pub mod Parts
 pub mod Over
 pub mod OneAnswer
 pub mod Determined

@@ -3,9 +3,10 @@ use mathlib.Core.Path.{_≡_, refl, sym, ap, _∙_}
 use mathlib.Core.List.{List, [], _∷_, _++_, append-assoc, append-nil}
 use Prim.Native.Nat.{ℕ, suc, _+_, _-_, _≤_, _<_}
 use native.Mathlib.Omega.{arith}
-use lib.ListN.{length, take, drop, set, getD, length-append, length-drop, drop-of-length-le}
-use lib.Seq.{take-at, drop-at, set-at, drop-cons, drop-drop, take-all, drop-append-add}
+use lib.ListN.{length, take, drop, set, getD, length-append, length-drop}
+use lib.Seq.{take-at, drop-at, set-at, drop-cons, drop-drop, drop-append-add}
 use Rattle.wire.specs.Room.{over}
+use Rattle.wire.proofs.Parts.{part-whole, part-end}
 
 pub over-nil : (room : List ℕ) → over [] room ≡ room
 unfolding over
@@ -30,17 +31,6 @@ over-more s room b n is inside =
     let fits : length s < length room = omega arith in
     let one : length (s ++ (b ∷ [])) ≡ suc (length s) = simp length-append (omega arith) in
     rw (drop-cons room (length s) 0 fits, set-at s (getD room (length s) 0) (drop (suc (length s)) room) b n is, one, append-assoc)
-
--- a list is its own part from a place on, whatever way the part's end is counted
-pub part-whole : (l : List ℕ) (n : ℕ) → take (length l - n) (drop n l) ≡ drop n l
-part-whole l n =
-    let all : length (drop n l) ≤ length l - n = simp length-drop (omega arith) in
-    take-all (length l - n) (drop n l) all
-
-pub part-end : (l : List ℕ) (n : ℕ) → drop (length l - n) (drop n l) ≡ []
-part-end l n =
-    let all : length (drop n l) ≤ length l - n = simp length-drop (omega arith) in
-    drop-of-length-le (drop n l) all
 
 over-over : (s t room : List ℕ) → s ++ over t (drop (length s) room) ≡ over (s ++ t) room
 unfolding over

@@ -1,6 +1,6 @@
 -- 01, "Frame": how a number of two bytes stands in a list of bytes.
-use Prim.Native.Nat.{ℕ, zero, suc, _+_, _*_, _/_, _%_}
-use mathlib.Core.List.{List, [], _∷_, _++_}
+use Prim.Native.Nat.{ℕ, _+_, _*_, _/_, _%_}
+use mathlib.Core.List.{List, [], _∷_}
 use lib.ListN.{getD}
 
 abbrev pub highByte : ℕ → ℕ
