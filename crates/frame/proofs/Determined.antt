@@ -38,4 +38,4 @@ pub close-frame-determined : OneAnswerLeft 1 close-frame-kinds.ps close-frame-ki
 close-frame-determined κs a x y s t p q = (ap (λ (l : Laid). l .count) (p ∙ sym q), ap (λ (l : Laid). l .room) (p ∙ sym q))
 
 pub write-frame-determined : OneAnswerLeft 2 write-frame-kinds.ps write-frame-kinds.r write-frame.Post (λ κs s. now (s .1 .1 .1 .1 .0))
-write-frame-determined κs a x y s t p q = (ap (λ (w : Writing). w .answer) (p ∙ sym q), ap (λ (w : Writing). w .room) (p ∙ sym q))
+write-frame-determined κs a x y s t p q = (ap (λ (w : Writing). w .answer) (p .0 ∙ sym (q .0)), ap (λ (w : Writing). w .room) (p .0 ∙ sym (q .0)))

@@ -21,6 +21,11 @@ numberOf (Frame n) = 0
 numberOf DataTooLong = 3
 numberOf RoomTooSmall = 14
 
+-- "The first number in order whose condition holds is given": 14 for "writer's room below 265", 3 for "data over the limit", 0 for "done"
+unfoldable pub writerNumber : Bool → List ℕ → List ℕ → ℕ
+writerNumber checking payload room =
+    cond (ltb (length room) leastRoom) 14 (cond (ltb (mostData checking) (length payload)) 3 0)
+
 -- what the writer answers, and the room as it leaves it
 pub record Writing : Type 0 where
   pub answer : Written
