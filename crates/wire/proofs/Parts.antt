@@ -20,3 +20,7 @@ pub part-end : (l : List ℕ) (n : ℕ) → drop (length l - n) (drop n l) ≡ [
 part-end l n =
     let all : length (drop n l) ≤ length l - n = simp length-drop (omega arith) in
     drop-of-length-le (drop n l) all
+
+-- the same of a list whose length is known
+pub front-length-of : (n m : ℕ) (l : List ℕ) → length l ≡ m → n ≤ m → n ≡ length (take n l)
+front-length-of n m l is fits = front-length n l (rw is fits)
