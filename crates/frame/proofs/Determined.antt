@@ -2,7 +2,8 @@
 use mathlib.Core.Path.{sym, ap, _∙_}
 use denote.Ref.{now}
 use Rattle.wire.proofs.OneAnswer.{OneAnswer, OneAnswerLeft}
-use Rattle.frame.specs.Writer.{Laid, Writing}
+use Rattle.wire.specs.Room.{Laid}
+use Rattle.frame.specs.Writer.{Writing}
 use Rattle.frame.proofs.Header.length.Reads as length
 use Rattle.frame.proofs.Header.length.Kinds as length-kinds
 use Rattle.frame.proofs.check_length.Reads as check-length

@@ -10,35 +10,15 @@ use borrow.Author.Tests.{lt-ltb, le-ltb, lt-leb, le-leb}
 use lib.Dec.{leb}
 use lib.ListN.{length, take, drop, length-drop}
 use lib.Seq.{length-take-le}
-use Rattle.wire.specs.Room.{over}
+use Rattle.wire.specs.Room.{over, Laid, lays, laid}
 use Rattle.wire.proofs.Parts.{part-whole}
-use Rattle.wire.proofs.Over.{drop-over}
+use Rattle.wire.proofs.Over.{drop-over, and-true, left-false, right-false, laid-not, laid-whole}
 use Rattle.frame.specs.declared.Header.{Header}
 use Rattle.frame.specs.declared.Written.the-variants.{Frame, DataTooLong, RoomTooSmall}
 use Rattle.frame.specs.Frame.{headerBytes, checkLength, checkBytes, lengthByte, enclosed, framed, frameOf, mostData}
 use Rattle.frame.specs.Acknowledgement.{acknowledgementLength, verdict, acknowledgement}
-use Rattle.frame.specs.Writer.{leastRoom, numberOf, writerNumber, answers, writing, Laid, lays, laid, frameLaid, acknowledgementLaid, closedLaid}
+use Rattle.frame.specs.Writer.{leastRoom, numberOf, writerNumber, answers, writing, frameLaid, acknowledgementLaid, closedLaid}
 use Rattle.frame.proofs.Laying.{length-prefix, length-enclosed, enclosed-laid}
-
-and-true : (a b : Bool) → a ≡ true → b ≡ true → (a && b) ≡ true
-and-true a b p q = rw (p, q)
-
-left-false : (a b : Bool) → a ≡ false → (a && b) ≡ false
-left-false a b p = rw p
-
-right-false : (a b : Bool) → b ≡ false → (a && b) ≡ false
-right-false true b p = p
-right-false false b p = refl
-
--- laid whole, or not at all
-laid-not : (whole : Bool) (frame room : List ℕ) → whole ≡ false → lays 0 room ≡ laid whole frame room
-unfolding laid
-laid-not whole frame room is = rw is
-
-laid-whole : (whole : Bool) (laid-now frame room room′ : List ℕ) (r : ℕ) → whole ≡ true → laid-now ≡ frame
-    → r ≡ length laid-now → room′ ≡ over laid-now room → lays r room′ ≡ laid whole frame room
-unfolding laid
-laid-whole whole laid-now frame room room′ r is same is-r is-room = rw (is, is-r, is-room, same)
 
 pub length-frameOf : (checking : Bool) (header : List ℕ) (command : ℕ) (payload : List ℕ)
     → length (frameOf checking header command payload) ≡ length header + 1 + (1 + length payload + checkLength checking)

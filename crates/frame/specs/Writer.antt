@@ -5,7 +5,7 @@ use mathlib.Core.Bool.{Bool, cond, _&&_}
 use mathlib.Core.List.{List}
 use lib.Dec.{leb, ltb}
 use lib.ListN.{length, take, drop}
-use Rattle.wire.specs.Room.{over}
+use Rattle.wire.specs.Room.{over, Laid, laid}
 use Rattle.frame.specs.declared.Written.{Written}
 use Rattle.frame.specs.declared.Written.the-variants.{Frame, DataTooLong, RoomTooSmall}
 use Rattle.frame.specs.Frame.{checkLength, framed, frameOf, mostData}
@@ -43,15 +43,6 @@ writing checking header command payload room =
     (answers (Frame (length frame)) (over frame room)))
 
 -- The inner writers lay a frame whole over the front of the room, or, where it may not or cannot stand there, leave the room and answer 0.
-pub record Laid : Type 0 where
-  pub count : ℕ
-  pub room : List ℕ
-
-abbrev pub lays : ℕ → List ℕ → Laid
-lays count room = record { count = count; room = room }
-
-unfoldable pub laid : Bool → List ℕ → List ℕ → Laid
-laid whole frame room = cond whole (lays (length frame) (over frame room)) (lays 0 room)
 
 -- the frame for a command and data within the limit, if the room holds it
 unfoldable pub frameLaid : Bool → List ℕ → ℕ → List ℕ → List ℕ → Laid

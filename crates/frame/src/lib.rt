@@ -3,10 +3,10 @@ ghost use mathlib.Core.Path.{_≡_};
 ghost use mathlib.Core.List.{[], _∷_, _++_};
 ghost use Prim.Native.Nat.{_+_, _≤_};
 ghost use lib.ListN.{length, take};
-ghost use Rattle.wire.specs.Room.{over};
+ghost use Rattle.wire.specs.Room.{over, lays};
 ghost use Rattle.frame.specs.Frame.{headerBytes, checkLength, checkBytes, enclosed, mostData};
 ghost use Rattle.frame.specs.Acknowledgement.{verdict};
-ghost use Rattle.frame.specs.Writer.{numberOf, writerNumber, answers, writing, lays, frameLaid, acknowledgementLaid, closedLaid};
+ghost use Rattle.frame.specs.Writer.{numberOf, writerNumber, answers, writing, frameLaid, acknowledgementLaid, closedLaid};
 
 // The header set up for the line.
 pub struct Header {

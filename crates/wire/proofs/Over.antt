@@ -1,11 +1,12 @@
 -- Laws of `over`: how runs of bytes laid over the front of a room compose.
 use mathlib.Core.Path.{_≡_, refl, sym, ap, _∙_}
+use mathlib.Core.Bool.{Bool, true, false, _&&_}
 use mathlib.Core.List.{List, [], _∷_, _++_, append-assoc, append-nil}
 use Prim.Native.Nat.{ℕ, suc, _+_, _-_, _≤_, _<_}
 use native.Mathlib.Omega.{arith}
 use lib.ListN.{length, take, drop, set, getD, length-append, length-drop}
 use lib.Seq.{take-at, drop-at, set-at, drop-cons, drop-drop, drop-append-add}
-use Rattle.wire.specs.Room.{over}
+use Rattle.wire.specs.Room.{over, lays, laid}
 use Rattle.wire.proofs.Parts.{part-whole, part-end}
 
 pub over-nil : (room : List ℕ) → over [] room ≡ room
@@ -51,3 +52,24 @@ unfolding over
 over-longer s t room =
     let n : length (s ++ t) ≡ length s + length t = length-append s t in
     rw (n, drop-append-add s (drop (length s) room) (length t), drop-drop)
+
+-- the tests that decide whether a run may be laid
+pub and-true : (a b : Bool) → a ≡ true → b ≡ true → (a && b) ≡ true
+and-true a b p q = rw (p, q)
+
+pub left-false : (a b : Bool) → a ≡ false → (a && b) ≡ false
+left-false a b p = rw p
+
+pub right-false : (a b : Bool) → b ≡ false → (a && b) ≡ false
+right-false true b p = p
+right-false false b p = refl
+
+-- laid whole, or not at all
+pub laid-not : (may : Bool) (bytes room : List ℕ) → may ≡ false → lays 0 room ≡ laid may bytes room
+unfolding laid
+laid-not may bytes room is = rw is
+
+pub laid-whole : (may : Bool) (now bytes room left : List ℕ) (count : ℕ) → may ≡ true → now ≡ bytes
+    → count ≡ length now → left ≡ over now room → lays count left ≡ laid may bytes room
+unfolding laid
+laid-whole may now bytes room left count is same is-count is-left = rw (is, is-count, is-left, same)

@@ -1,8 +1,21 @@
 -- 01, "Commands": "bytes past the reported count stay."
+use Prim.Native.Nat.{ℕ}
+use mathlib.Core.Bool.{Bool, cond}
 use mathlib.Core.List.{List, _++_}
 use lib.ListN.{length, drop}
-use Prim.Native.Nat.{ℕ}
 
 -- the room with these bytes over its front, and what lies past them as it stood
 unfoldable pub over : List ℕ → List ℕ → List ℕ
 over bytes room = bytes ++ drop (length bytes) room
+
+-- what an inner writer answers, the count of bytes laid, and the room as it leaves it
+pub record Laid : Type 0 where
+  pub count : ℕ
+  pub room : List ℕ
+
+abbrev pub lays : ℕ → List ℕ → Laid
+lays count room = record { count = count; room = room }
+
+-- a run that may stand there is laid whole; otherwise the room stays and the count is 0
+unfoldable pub laid : Bool → List ℕ → List ℕ → Laid
+laid may bytes room = cond may (lays (length bytes) (over bytes room)) (lays 0 room)
