@@ -1,5 +1,6 @@
 pub mod PastEnd
 pub mod Parts
 pub mod Over
+pub mod LaidAt
 pub mod OneAnswer
 pub mod Determined

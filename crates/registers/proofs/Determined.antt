@@ -1,0 +1,35 @@
+-- One answer fits each public function.
+use mathlib.Core.Path.{sym, ap, _∙_}
+use denote.Ref.{now}
+use Rattle.wire.specs.Room.{Laid}
+use Rattle.wire.proofs.OneAnswer.{OneAnswer, OneAnswerLeft}
+use Rattle.registers.proofs.is_unwritable.Reads as is-unwritable
+use Rattle.registers.proofs.is_unwritable.Kinds as is-unwritable-kinds
+use Rattle.registers.proofs.is_wrong_value.Reads as is-wrong-value
+use Rattle.registers.proofs.is_wrong_value.Kinds as is-wrong-value-kinds
+use Rattle.registers.proofs.Registers.start.Reads as start
+use Rattle.registers.proofs.Registers.start.Kinds as start-kinds
+use Rattle.registers.proofs.Registers.at.Reads as at
+use Rattle.registers.proofs.Registers.at.Kinds as at-kinds
+use Rattle.registers.proofs.Registers.write.Reads as write
+use Rattle.registers.proofs.Registers.write.Kinds as write-kinds
+use Rattle.registers.proofs.Registers.read.Reads as read
+use Rattle.registers.proofs.Registers.read.Kinds as read-kinds
+
+pub is-unwritable-determined : OneAnswer 1 is-unwritable-kinds.ps is-unwritable-kinds.r is-unwritable.Post
+is-unwritable-determined κs a x y s t p q = cc
+
+pub is-wrong-value-determined : OneAnswer 1 is-wrong-value-kinds.ps is-wrong-value-kinds.r is-wrong-value.Post
+is-wrong-value-determined κs a x y s t p q = cc
+
+pub start-determined : OneAnswer 0 start-kinds.ps start-kinds.r start.Post
+start-determined κs a x y s t p q = p ∙ sym q
+
+pub at-determined : OneAnswer 0 at-kinds.ps at-kinds.r at.Post
+at-determined κs a x y s t p q = p ∙ sym q
+
+pub write-determined : OneAnswer 1 write-kinds.ps write-kinds.r write.Post
+write-determined κs a x y s t p q = p ∙ sym q
+
+pub read-determined : OneAnswerLeft 1 read-kinds.ps read-kinds.r read.Post (λ κs s. now (s .1 .1 .1 .0))
+read-determined κs a x y s t p q = (ap (λ (l : Laid). l .count) (p ∙ sym q), ap (λ (l : Laid). l .room) (p ∙ sym q))

@@ -1,0 +1,71 @@
+-- Laws of runs of registers, as loops go through them.
+use mathlib.Core.Path.{_≡_, sym, _∙_}
+use mathlib.Core.Bool.{Bool, true, false, cond, _&&_, _||_, not}
+use mathlib.Core.List.{List}
+use Prim.Native.Nat.{ℕ, suc, _+_, _-_, _≤_, _<_}
+use native.Mathlib.Nat.{add-zero, sub-zero}
+use native.Mathlib.Omega.{arith}
+use lib.Dec.{leb, ltb}
+use lib.ListN.{length, getD, set, replicate}
+use Rattle.wire.specs.ByteOrder.{word}
+use Rattle.registers.specs.declared.Registers.{Registers}
+use Rattle.registers.specs.Table.{holding, startRegisters, registerAt, writable}
+use Rattle.registers.specs.Run.{covers, allWritable, halfPage, unwritableRun, given, wrongValue}
+
+-- what is left of a run decides
+pub writable-start : (address n : ℕ) → allWritable address n ≡ allWritable (address + 0) (n - 0)
+writable-start address n = rw (add-zero, sub-zero)
+
+left-is : (n i : ℕ) → i < n → n - i ≡ suc (n - (i + 1))
+left-is n i h = omega arith
+
+pub writable-on : (address n i : ℕ) (w : Bool) → i < n → w ≡ writable (address + i) → w ≡ true
+    → allWritable address n ≡ allWritable (address + i) (n - i) → allWritable address n ≡ allWritable (address + (i + 1)) (n - (i + 1))
+unfolding allWritable
+writable-on address n i w h is can inv =
+    let next : suc (address + i) ≡ address + (i + 1) = omega arith in
+    inv ∙ rw (left-is n i h, sym is ∙ can, next)
+
+pub writable-stops : (address n i : ℕ) (w : Bool) → i < n → w ≡ writable (address + i) → w ≡ false
+    → allWritable address n ≡ allWritable (address + i) (n - i) → false ≡ allWritable address n
+unfolding allWritable
+writable-stops address n i w h is cannot inv = sym (inv ∙ rw (left-is n i h, sym is ∙ cannot))
+
+pub writable-all : (address n i : ℕ) → n ≤ i → i ≤ n → allWritable address n ≡ allWritable (address + i) (n - i) → true ≡ allWritable address n
+unfolding allWritable
+writable-all address n i h h′ inv =
+    let none : n - i ≡ 0 = omega arith in
+    sym (inv ∙ rw none)
+
+pub run-unwritable : (address a n : ℕ) (w high low : Bool) → a ≡ address → w ≡ allWritable a n → high ≡ covers a n 3 → low ≡ covers a n 4
+    → (not w || (high && not low || not high && low)) ≡ unwritableRun address n
+unfolding unwritableRun halfPage
+run-unwritable address a n w high low is p q r = rw (p, q, r, is)
+
+pub given-behind : (register address : ℕ) (bytes : List ℕ) (b : ℕ) → b ≡ getD bytes (register - address) 0 → b ≡ given address bytes register
+unfolding given
+given-behind register address bytes b is = is
+
+-- a run that begins past the register gives it nothing; its first byte stands in
+pub given-before : (register address : ℕ) (bytes : List ℕ) (b : ℕ) → register < address → b ≡ getD bytes 0 0 → b ≡ given address bytes register
+unfolding given
+given-before register address bytes b past is =
+    let none : register - address ≡ 0 = omega arith in
+    rw none is
+
+pub run-wrong : (address a : ℕ) (bytes : List ℕ) (pages light high low page : ℕ) (has-light has-page : Bool) → a ≡ address
+    → light ≡ given a bytes 1 → high ≡ given a bytes 3 → low ≡ given a bytes 4 → page ≡ word high low
+    → has-light ≡ covers a (length bytes) 1 → has-page ≡ covers a (length bytes) 3
+    → (has-light && ltb 0x3F light || has-page && leb pages page) ≡ wrongValue address bytes pages
+unfolding wrongValue
+run-wrong address a bytes pages light high low page has-light has-page is p q r s t u = rw (p, s, q, r, t, u, is)
+
+pub started : (h1 h2 v w : ℕ) (checking acknowledging : Bool) → v ≡ cond checking 0x10 0x00 → w ≡ cond acknowledging 0x08 0x00
+    → _≡_ {A = Registers} (holding (set (set (set (set (set (set (set (replicate 256 0) 0x00 0x10) 0x01 0x3F) 0x0B 0xFF) 0x12 v) 0x13 h1) 0x1A h2) 0x1C w))
+    (startRegisters h1 h2 checking acknowledging)
+unfolding startRegisters
+started h1 h2 v w checking acknowledging p q = rw (p, q)
+
+pub read-at : (registers : Registers) (address a r : ℕ) → a ≡ address → r ≡ getD (registers .bytes) a 0 → r ≡ registerAt registers address
+unfolding registerAt
+read-at registers address a r is e = rw (← is) e

@@ -1,0 +1,54 @@
+-- What a write leaves: its run reads back what was written, and no other register changes.
+use mathlib.Core.Path.{_≡_, refl, sym, ap, _∙_}
+use mathlib.Core.Logic.{_⊎_, ⊎-elim}
+use mathlib.Core.List.{List, [], _∷_}
+use Prim.Native.Nat.{ℕ, suc, _+_, _-_, _≤_, _<_}
+use native.Mathlib.Omega.{arith}
+use borrow.Author.Tests.{le-leb}
+use lib.ListN.{length, getD}
+use Rattle.wire.specs.Room.{laidAt}
+use Rattle.wire.proofs.LaidAt.{laid-inside, laid-before, laid-behind}
+use Rattle.registers.specs.declared.Registers.{Registers}
+use Rattle.registers.specs.Table.{registerCount, registerAt, registerRun}
+use Rattle.registers.specs.Run.{written}
+
+module _ (registers : Registers) (whole : length (registers .bytes) ≡ 256) (address : ℕ) (bytes : List ℕ) (fits : address + length bytes ≤ 256) where
+  abbrev after : Registers
+  after = written registers address bytes
+
+  laid-bytes : after .bytes ≡ laidAt address bytes (registers .bytes)
+  unfolding written registerCount
+  laid-bytes = rw (le-leb (address + length bytes) 256 fits)
+
+  -- inside the run stands what was written
+  pub written-at : (i : ℕ) → i < length bytes → registerAt after (address + i) ≡ getD bytes i 0
+  unfolding registerAt
+  written-at i inside = rw laid-bytes (laid-inside (registers .bytes) bytes address (omega arith) i inside)
+
+  -- "No .. register changes but those the command .. names"
+  pub others-stay : (register : ℕ) → (register < address) ⊎ (address + length bytes ≤ register) → registerAt after register ≡ registerAt registers register
+  unfolding registerAt
+  others-stay register outside =
+      rw laid-bytes
+      (⊎-elim (laid-before (registers .bytes) bytes address (omega arith) register) (laid-behind (registers .bytes) bytes address (omega arith) register) outside)
+
+-- a run is its registers one by one
+run-by-each : (registers : Registers) (address : ℕ) (bytes : List ℕ) → ((i : ℕ) → i < length bytes → registerAt registers (address + i) ≡ getD bytes i 0)
+    → registerRun registers address (length bytes) ≡ bytes
+unfolding registerRun
+run-by-each registers address [] each = refl
+run-by-each registers address (b ∷ bytes) each =
+    let here : address + 0 ≡ address = omega arith in
+    rw (
+      ap (registerAt registers) (sym here) ∙ each 0 (omega arith),
+      run-by-each registers (suc address) bytes (λ i h. ap (registerAt registers) (next i) ∙ each (suc i) (omega arith)),
+    )
+  where
+    next : (i : ℕ) → suc address + i ≡ address + suc i
+    next i = omega arith
+
+-- what was written is read back
+pub written-reads-back : (registers : Registers) → length (registers .bytes) ≡ 256 → (address : ℕ) (bytes : List ℕ) → address + length bytes ≤ 256
+    → registerRun (written registers address bytes) address (length bytes) ≡ bytes
+written-reads-back registers whole address bytes fits =
+    run-by-each (written registers address bytes) address bytes (written-at registers whole address bytes fits)

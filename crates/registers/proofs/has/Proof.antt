@@ -1,0 +1,17 @@
+-- `registers::has` meets its contract.
+use borrow.Author.Needs.{needs}
+use mathlib.Core.Path.{refl}
+use Rattle.registers.specs.Run.{covers}
+use Rattle.registers.proofs.has.Statement.{statement}
+use Rattle.registers.proofs.has.Tie as tie
+
+returns : tie.Need-returns
+unfolding covers
+returns c = refl
+
+pub has-spec : {M : Type 1} → statement M
+has-spec =
+    tie.close
+    (tie.spec
+    (λ c. search needs)
+    returns)

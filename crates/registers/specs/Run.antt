@@ -1,0 +1,42 @@
+-- 01, "Numbers given back": what is wrong with a run of registers that is to be written, and what writing it leaves.
+use Prim.Native.Nat.{ℕ, zero, suc, _+_, _-_}
+use mathlib.Core.Bool.{Bool, true, cond, _&&_, _||_, not}
+use mathlib.Core.List.{List}
+use lib.Dec.{leb, ltb}
+use lib.ListN.{length, getD}
+use Rattle.wire.specs.ByteOrder.{word}
+use Rattle.wire.specs.Room.{laidAt}
+use Rattle.registers.specs.declared.Registers.{Registers}
+use Rattle.registers.specs.Table.{registerCount, holding, writable}
+
+-- the run of n registers from an address on has this one
+unfoldable pub covers : ℕ → ℕ → ℕ → Bool
+covers address n register = leb address register && ltb register (address + n)
+
+unfoldable pub allWritable : ℕ → ℕ → Bool
+allWritable address zero = true
+allWritable address (suc n) = writable address && allWritable (suc address) n
+
+-- "half the page"
+unfoldable pub halfPage : ℕ → ℕ → Bool
+halfPage address n = covers address n 0x03 && not (covers address n 0x04) || not (covers address n 0x03) && covers address n 0x04
+
+-- 5: "a write touches an unwritable register or half the page"
+unfoldable pub unwritableRun : ℕ → ℕ → Bool
+unwritableRun address n = not (allWritable address n) || halfPage address n
+
+-- the byte that a run of these bytes gives to a register
+unfoldable pub given : ℕ → List ℕ → ℕ → ℕ
+given address bytes register = getD bytes (register - address) 0
+
+-- 6: "backlight above 3F, or page not below P"
+unfoldable pub wrongValue : ℕ → List ℕ → ℕ → Bool
+wrongValue address bytes pages =
+    let n = length bytes in
+    covers address n 0x01 && ltb 0x3F (given address bytes 0x01)
+    || covers address n 0x03 && leb pages (word (given address bytes 0x03) (given address bytes 0x04))
+
+-- the registers with these bytes from an address on; a run that passes the end leaves them
+unfoldable pub written : Registers → ℕ → List ℕ → Registers
+written registers address bytes =
+    cond (leb (address + length bytes) registerCount) (holding (laidAt address bytes (registers .bytes))) registers

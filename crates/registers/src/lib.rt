@@ -1,0 +1,173 @@
+// The 256 register bytes of 01, "Registers", addressed by byte.
+ghost use mathlib.Core.Path.{_≡_};
+ghost use mathlib.Core.Bool.{cond, _&&_};
+ghost use Prim.Native.Nat.{_+_, _^_, _≤_, _<_};
+ghost use lib.Dec.{leb};
+ghost use lib.ListN.{length};
+ghost use Rattle.wire.specs.Room.{over, laidAt, lays, laid};
+ghost use Rattle.registers.specs.Table.{registerCount, startRegisters, registerAt, registerRun, writable};
+ghost use Rattle.registers.specs.Run.{covers, allWritable, unwritableRun, given, wrongValue, written};
+
+// An address of a register. It cannot stand where a word's address is meant, nor the other way round.
+pub struct RegisterAddress(pub u8);
+
+pub struct Registers {
+    pub bytes: [u8; 256],
+}
+
+fn is_writable(address: usize) -> bool
+    ensures { λ r. ⌜ r ≡ writable address ⌝ }
+{
+    (address == 0x01)
+        | (address == 0x02)
+        | (address == 0x03)
+        | (address == 0x04)
+        | (address == 0x05)
+        | (address == 0x0B)
+}
+
+fn has(address: usize, n: usize, register: usize) -> bool
+    requires { ⌜ address + n < 2 ^ 64 ⌝ }
+    ensures { λ r. ⌜ r ≡ covers address n register ⌝ }
+{
+    (address <= register) & (register < address + n)
+}
+
+fn all_writable(address: usize, n: usize) -> bool
+    requires { ⌜ address + n < 2 ^ 64 ⌝ }
+    ensures { λ r. ⌜ r ≡ allWritable address n ⌝ }
+{
+    let mut i = 0;
+    while i < n {
+        if is_writable(address + i) {
+            i += 1;
+        } else {
+            return false;
+        }
+    }
+    true
+}
+
+// These bytes from the address on would touch a register that is not writable, or half the page.
+pub fn is_unwritable(address: RegisterAddress, bytes: &[u8]) -> bool
+    ensures { λ r. ⌜ r ≡ unwritableRun (address .0) (length (now (bytes .entry))) ⌝ }
+{
+    let a = wire::count(address.0);
+    let n = bytes.len();
+    let high = has(a, n, 0x03);
+    let low = has(a, n, 0x04);
+    !all_writable(a, n) | ((high & !low) | (!high & low))
+}
+
+// The byte that a run of these bytes gives to a register.
+fn given_to(register: usize, address: usize, bytes: &[u8]) -> u8
+    ensures { λ r. ⌜ r ≡ given address (now (bytes .entry)) register ⌝ }
+{
+    if address <= register {
+        wire::byte_at(bytes, register - address)
+    } else {
+        wire::byte_at(bytes, 0)
+    }
+}
+
+// These bytes from the address on would set the backlight above 3F, or a page that is not below P.
+pub fn is_wrong_value(address: RegisterAddress, bytes: &[u8], pages: u16) -> bool
+    ensures { λ r. ⌜ r ≡ wrongValue (address .0) (now (bytes .entry)) pages ⌝ }
+{
+    let a = wire::count(address.0);
+    let n = bytes.len();
+    let light = given_to(0x01, a, bytes);
+    let page = wire::word(given_to(0x03, a, bytes), given_to(0x04, a, bytes));
+    (has(a, n, 0x01) & (0x3F < light)) | (has(a, n, 0x03) & (pages <= page))
+}
+
+// A bit that a register shows where its choice is on.
+fn shown(on: bool, bit: u8) -> u8
+    ensures { λ r. ⌜ r ≡ cond on bit 0 ⌝ }
+{
+    if on { bit } else { 0 }
+}
+
+// The array with these bytes from a place on.
+fn with_run(old: [u8; 256], at: usize, bytes: &[u8]) -> [u8; 256]
+    requires { ⌜ at + length (now bytes) ≤ 256 ⌝ }
+    ensures { λ r. ⌜ r ≡ laidAt at (now (bytes .entry)) old ⌝ }
+{
+    let mut next = old;
+    let mut i = 0;
+    while i < bytes.len() {
+        next[at + i] = bytes[i];
+        i += 1;
+    }
+    next
+}
+
+impl Registers {
+    // The registers of a panel that has just been started.
+    pub fn start(h1: u8, h2: u8, checking: bool, acknowledging: bool) -> Registers
+        ensures { λ r. ⌜ r ≡ startRegisters h1 h2 checking acknowledging ⌝ }
+    {
+        let mut bytes = [0u8; 256];
+        bytes[0x00] = 0x10;
+        bytes[0x01] = 0x3F;
+        bytes[0x0B] = 0xFF;
+        bytes[0x12] = shown(checking, 0x10);
+        bytes[0x13] = h1;
+        bytes[0x1A] = h2;
+        bytes[0x1C] = shown(acknowledging, 0x08);
+        Registers { bytes: bytes }
+    }
+
+    // What a register reads.
+    pub fn at(self, address: RegisterAddress) -> u8
+        ensures { λ r. ⌜ r ≡ registerAt self (address .0) ⌝ }
+    {
+        let bytes = self.bytes;
+        bytes[wire::count(address.0)]
+    }
+
+    // With these bytes from the address on; a run that passes the end leaves all as it stood.
+    pub fn write(self, address: RegisterAddress, bytes: &[u8]) -> Registers
+        ensures { λ r. ⌜ r ≡ written self (address .0) (now (bytes .entry)) ⌝ }
+    {
+        let a = wire::count(address.0);
+        let n = bytes.len();
+        if a + n <= 256 {
+            let old = self.bytes;
+            Registers {
+                bytes: with_run(old, a, bytes),
+            }
+        } else {
+            self
+        }
+    }
+
+    // Lays the run of n registers over the room's front.
+    fn read_run(self, a: usize, n: usize, room: &mut [u8])
+        requires { ⌜ (a + n ≤ 256) × (n ≤ length (now room)) ⌝ }
+        ensures { λ _. ⌜ now (room .exit) ≡ over (registerRun self a n) (now (room .entry)) ⌝ }
+    {
+        let mut i = 0;
+        while i < n {
+            room[i] = self.at(RegisterAddress((a + i) as u8));
+            i += 1;
+        }
+    }
+
+    // Lays what n registers read, from the address on, over the room's front; answers n. A run that passes the end, or that the room
+    // does not hold, leaves the room and answers 0.
+    pub fn read(self, address: RegisterAddress, n: u8, room: &mut [u8]) -> usize
+        ensures { λ r. ⌜ lays r (now (room .exit)) ≡ laid (leb (address .0 + n) registerCount && leb n (length (now (room .entry)))) (registerRun self (address .0) n) (now (room .entry)) ⌝ }
+    {
+        let a = wire::count(address.0);
+        let m = wire::count(n);
+        if 256 < a + m {
+            return 0;
+        }
+        if room.len() < m {
+            return 0;
+        }
+        self.read_run(a, m, room);
+        m
+    }
+}
