@@ -4,7 +4,7 @@ use mathlib.Core.List.{List, _++_, append-assoc}
 use Prim.Native.Nat.{ℕ, suc, _+_, _-_, _≤_, _<_}
 use native.Mathlib.Omega.{arith}
 use lib.ListN.{length, getD, set, take, drop, List·getD-append, length-append, length-drop}
-use lib.Seq.{length-take-le, getD-append-add, getD-take, getD-drop, paste, paste-suc, take-all}
+use lib.Seq.{length-take-le, drop-at, take-append-seam, getD-append-add, getD-take, getD-drop, paste, paste-suc, take-all}
 use Rattle.wire.specs.Room.{laidAt}
 
 module _ (old run : List ℕ) (at : ℕ) (fits : at + length run ≤ length old) where
@@ -43,6 +43,13 @@ module _ (old run : List ℕ) (at : ℕ) (fits : at + length run ≤ length old)
   length-laidAt =
       length-append (take at old) (run ++ drop (at + length run) old)
       ∙ simp (length-append, length-drop) (omega (arith, front))
+
+  -- the run itself, read back
+  pub laid-run : take (length run) (drop at (laidAt at run old)) ≡ run
+  unfolding laidAt
+  laid-run =
+      ap (take (length run)) (drop-at (take at old) (run ++ drop (at + length run) old) at front)
+      ∙ take-append-seam run (drop (at + length run) old)
 
 -- a loop that lays it element by element has laid `paste old at run i` after i turns
 pub laid-more : (old run next : List ℕ) (at i n : ℕ) → next ≡ paste old at run i → length old ≡ n → at + length run ≤ n → i < length run

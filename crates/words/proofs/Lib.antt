@@ -1,0 +1,4 @@
+pub mod Carried
+pub mod Loops
+pub mod Written
+pub mod Determined
