@@ -6,8 +6,9 @@ use Prim.Native.Nat.{ℕ, suc, _+_, _≤_, _<_}
 use native.Mathlib.Omega.{arith}
 use borrow.Author.Tests.{ltb-false, le-ltb, eqb-true, eq-eqb}
 use lib.Dec.{eqb, ltb}
-use lib.ListN.{length, take, drop, length-append, length-drop, take-append-drop}
-use lib.Seq.{take-append-seam, length-take-le}
+use lib.ListN.{length, getD, take, drop, length-append, length-drop, take-append-drop}
+use lib.Seq.{take-append-seam, getD-append-seam, length-take-le}
+use Rattle.wire.specs.Bytes.{Bytes}
 use Rattle.frame.specs.Frame.{leastLength, rightCheck, GoodFrame}
 use Rattle.reading.specs.Place.{Rules, Seen, pass, wait, bad, accepted, cutShort, judged, afterHeader, behind, look, isWait, goneBy}
 use Rattle.reading.proofs.Stable.{never}
@@ -106,3 +107,17 @@ pub accepted-begun : (rules : Rules) (closed : Bool) (xs body : List ℕ) → lo
     → Begun (rules .checking) (rules .header) xs body
 unfolding look
 accepted-begun rules closed xs body is = behind-accepted (rules .checking) closed (rules .header) xs body is
+
+-- what is accepted is a good frame: L is a byte
+pub accepted-good : (rules : Rules) (closed : Bool) (xs body : List ℕ) → Bytes xs → look rules closed xs ≡ accepted body
+    → GoodFrame (rules .checking) (rules .header) (rules .header ++ (length body ∷ body))
+    × (rest : List ℕ) × (xs ≡ (rules .header ++ (length body ∷ body)) ++ rest)
+accepted-good rules closed xs body are is =
+    let header = rules .header in
+    let begun = accepted-begun rules closed xs body is in
+    let l : getD xs (length header) 0 ≡ length body =
+    ap (λ (s : List ℕ). getD s (length header) 0) (begun .parts) ∙ getD-append-seam header (length body) (body ++ begun .rest) 0 in (
+      record { body = body; whole = refl; least = begun .least; most = omega (arith, are (length header)); right = begun .right },
+      begun .rest,
+      begun .parts ∙ sym (append-assoc header (length body ∷ body) (begun .rest)),
+    )

@@ -5,3 +5,4 @@ pub mod Course
 pub mod Appending
 pub mod Placed
 pub mod ReadBack
+pub mod Demand3
