@@ -6,3 +6,6 @@ pub mod Appending
 pub mod Placed
 pub mod ReadBack
 pub mod Demand3
+pub mod Lines
+pub mod Moves
+pub mod Run

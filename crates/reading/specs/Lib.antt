@@ -3,3 +3,4 @@ pub mod Stretch
 pub mod Line
 pub mod Moves
 pub mod Demand3
+pub mod Run

@@ -1,0 +1,255 @@
+-- Laws of the moves: each keeps the reading of the line, and what is kept is settled.
+use mathlib.Core.Path.{_≡_, refl, sym, ap, ap₂, _∙_}
+use mathlib.Core.Bool.{Bool, true, false, cond}
+use mathlib.Core.List.{List, [], _∷_, _++_, append-nil}
+use Prim.Native.Nat.{ℕ, zero, suc, _≤_, _<_}
+use native.Mathlib.Omega.{arith}
+use lib.ListN.{length, drop}
+use Rattle.reading.specs.Place.{Rules, Seen, pass, wait, bad, accepted, Report, cutShort, look, reportOf, goneBy, isWait}
+use Rattle.reading.specs.Stretch.{reports, heldFrom, heldOf}
+use Rattle.reading.specs.Line.{Input, byte, mark, lineFrom, lineReports}
+use Rattle.reading.specs.Moves.{Kept, fresh, isPass, passes, stillClosed, settled, isReport, waiting, withByte, withMark, handed, afterReport}
+use Rattle.reading.specs.Run.{withInput, closing, readOn, openFrom, heldOn}
+use Rattle.reading.proofs.Stable.{never, true-is-not-false}
+use Rattle.reading.proofs.Waiting.{look-nil, closed-goes-on}
+use Rattle.reading.proofs.Course.{reports-nil, held-nil, reports-stays, held-stays, reports-goes, held-goes}
+use Rattle.reading.proofs.Lines.{line-goes, open-goes}
+
+-- What is known of a state that a reader reaches: where no report waits, the stretch is open and its first place waits.
+pub record Settled (rules : Rules) (kept : Kept) : Type 0 where
+  pub is-open : waiting rules kept ≡ false → kept .closed ≡ false
+  pub first-waits : waiting rules kept ≡ false → isWait (look rules false (kept .bytes)) ≡ true
+
+-- nothing stands where there is no byte: no report waits there
+pub quiet-nil : (rules : Rules) (closed : Bool) → waiting rules (record { closed = closed; bytes = [] }) ≡ false
+unfolding waiting isReport
+quiet-nil rules closed = ap isReport (look-nil rules closed) ∙ go closed
+  where
+    go : (closed : Bool) → isReport (cutShort closed) ≡ false
+    go false = unfold cutShort in refl
+    go true = unfold cutShort in refl
+
+waits-nil : (rules : Rules) → isWait (look rules false []) ≡ true
+unfolding isWait cutShort
+waits-nil rules = ap isWait (look-nil rules false)
+
+pub fresh-settled : (rules : Rules) → Settled rules fresh
+fresh-settled rules = record { is-open = λ quiet. refl; first-waits = λ quiet. waits-nil rules }
+
+is-pass : (seen : Seen) → isPass seen ≡ true → seen ≡ pass
+unfolding isPass
+is-pass pass is = refl
+is-pass wait is = true-is-not-false (sym is)
+is-pass (bad body) is = true-is-not-false (sym is)
+is-pass (accepted body) is = true-is-not-false (sym is)
+
+neither : (seen : Seen) → isPass seen ≡ false → isReport seen ≡ false → isWait seen ≡ true
+unfolding isPass isReport isWait
+neither pass p r = true-is-not-false p
+neither wait p r = refl
+neither (bad body) p r = true-is-not-false r
+neither (accepted body) p r = true-is-not-false r
+
+report-decided : (seen : Seen) → isReport seen ≡ true → isWait seen ≡ false
+unfolding isReport isWait
+report-decided pass is = refl
+report-decided wait is = true-is-not-false (sym is)
+report-decided (bad body) is = refl
+report-decided (accepted body) is = refl
+
+no-report : (rules : Rules) (seen : Seen) → isReport seen ≡ false → reportOf rules seen ≡ []
+unfolding isReport reportOf
+no-report rules pass is = refl
+no-report rules wait is = refl
+no-report rules (bad body) is = true-is-not-false is
+no-report rules (accepted body) is = true-is-not-false is
+
+no-report-only : (rules : Rules) (seen : Seen) → reportOf rules seen ≡ [] → isReport seen ≡ false
+unfolding isReport reportOf
+no-report-only rules pass none = refl
+no-report-only rules wait none = refl
+no-report-only rules (bad body) none = never cc
+no-report-only rules (accepted body) none = never cc
+
+module _ (rules : Rules) (closed : Bool) where
+  abbrev left : List ℕ → List ℕ
+  left xs = drop (passes rules closed xs) xs
+
+  -- what is passed over gives no report and is not held
+  reports-left : (xs : List ℕ) → reports rules closed xs ≡ reports rules closed (left xs)
+  unfolding passes
+  reports-left [] = refl
+  reports-left (x ∷ xs) = go (isPass (look rules closed (x ∷ xs))) refl (reports-left xs)
+    where
+      go : (b : Bool) → isPass (look rules closed (x ∷ xs)) ≡ b → reports rules closed xs ≡ reports rules closed (left xs)
+          → reports rules closed (x ∷ xs) ≡ reports rules closed (drop (cond b (suc (passes rules closed xs)) 0) (x ∷ xs))
+      go true is rest = unfold reportOf goneBy isWait in reports-goes rules closed (x ∷ xs) pass (is-pass (look rules closed (x ∷ xs)) is) refl ∙ rest
+      go false is rest = refl
+
+  held-left : (xs : List ℕ) → heldFrom rules closed 0 xs ≡ heldFrom rules closed 0 (left xs)
+  unfolding passes
+  held-left [] = refl
+  held-left (x ∷ xs) = go (isPass (look rules closed (x ∷ xs))) refl (held-left xs)
+    where
+      go : (b : Bool) → isPass (look rules closed (x ∷ xs)) ≡ b → heldFrom rules closed 0 xs ≡ heldFrom rules closed 0 (left xs)
+          → heldFrom rules closed 0 (x ∷ xs) ≡ heldFrom rules closed 0 (drop (cond b (suc (passes rules closed xs)) 0) (x ∷ xs))
+      go true is rest = unfold goneBy isWait in held-goes rules closed (x ∷ xs) pass (is-pass (look rules closed (x ∷ xs)) is) refl ∙ rest
+      go false is rest = refl
+
+  -- the place where passing over ends is no place to pass over
+  left-stops : (xs : List ℕ) → 0 < length (left xs) → isPass (look rules closed (left xs)) ≡ false
+  unfolding passes
+  left-stops [] some = absurd (omega arith)
+  left-stops (x ∷ xs) some = go (isPass (look rules closed (x ∷ xs))) refl (left-stops xs) some
+    where
+      go : (b : Bool) → isPass (look rules closed (x ∷ xs)) ≡ b → (0 < length (left xs) → isPass (look rules closed (left xs)) ≡ false)
+          → 0 < length (drop (cond b (suc (passes rules closed xs)) 0) (x ∷ xs))
+          → isPass (look rules closed (drop (cond b (suc (passes rules closed xs)) 0) (x ∷ xs))) ≡ false
+      go true is rest some = rest some
+      go false is rest some = is
+
+  -- a closed stretch that is gone through is as no stretch at all
+  over-reads : (c : Bool) (ys : List ℕ) (line : List Input) → lineFrom rules ys (closing (stillClosed c ys) line) ≡ lineFrom rules ys (closing c line)
+  unfolding stillClosed closing lineFrom
+  over-reads false ys line = refl
+  over-reads true [] line = rw (reports-nil rules true)
+  over-reads true (y ∷ ys) line = refl
+
+  over-holds : (c : Bool) (ys : List ℕ) (line : List Input) → openFrom ys (closing (stillClosed c ys) line) ≡ openFrom ys (closing c line)
+  unfolding stillClosed closing openFrom
+  over-holds false ys line = refl
+  over-holds true [] line = refl
+  over-holds true (y ∷ ys) line = refl
+
+  -- the reading of a line goes on from a settled state as from the stretch it was made of
+  pub settled-reads : (xs : List ℕ) (line : List Input) → readOn rules (settled rules closed xs) line ≡ lineFrom rules xs (closing closed line)
+  unfolding readOn settled
+  settled-reads xs line = over-reads closed (left xs) line ∙ sym (line-goes rules closed [] xs (left xs) line (reports-left xs) (held-left xs))
+
+  pub settled-holds : (xs : List ℕ) (line : List Input) → heldOn rules (settled rules closed xs) line ≡ heldOf rules (openFrom xs (closing closed line))
+  unfolding heldOn settled
+  settled-holds xs line = ap (heldOf rules) (over-holds closed (left xs) line) ∙ sym (open-goes rules closed xs (left xs) line (held-left xs))
+
+pub settled-settled : (rules : Rules) (closed : Bool) (xs : List ℕ) → Settled rules (settled rules closed xs)
+unfolding settled stillClosed waiting
+settled-settled rules closed xs = go closed (drop (passes rules closed xs) xs) (left-stops rules closed xs)
+  where
+    go : (c : Bool) (ys : List ℕ) → (0 < length ys → isPass (look rules c ys) ≡ false) → Settled rules (record { closed = stillClosed c ys; bytes = ys })
+    go false [] stops = fresh-settled rules
+    go true [] stops = fresh-settled rules
+    go false (y ∷ ys) stops =
+        record { is-open = λ quiet. refl; first-waits = λ quiet. neither (look rules false (y ∷ ys)) (stops (omega arith)) quiet }
+    go true (y ∷ ys) stops =
+        let not-quiet : waiting rules (record { closed = true; bytes = y ∷ ys }) ≡ false → ⊥ =
+        λ quiet. true-is-not-false (sym (neither (look rules true (y ∷ ys)) (stops (omega arith)) quiet) ∙ closed-goes-on rules (y ∷ ys)) in
+        record { is-open = λ quiet. absurd (not-quiet quiet); first-waits = λ quiet. absurd (not-quiet quiet) }
+
+-- an input that is taken
+pub input-settled : (rules : Rules) (kept : Kept) (input : Input) → Settled rules (withInput rules kept input)
+unfolding withInput withByte withMark
+input-settled rules kept (byte b) = settled-settled rules false (kept .bytes ++ (b ∷ []))
+input-settled rules kept mark = settled-settled rules true (kept .bytes)
+
+module _ (rules : Rules) (kept : Kept) (line : List Input) (is-open : kept .closed ≡ false) where
+  pub input-reads : (input : Input) → readOn rules kept (input ∷ line) ≡ readOn rules (withInput rules kept input) line
+  unfolding withInput withByte withMark readOn closing lineFrom
+  input-reads (byte b) = rw is-open (sym (settled-reads rules false (kept .bytes ++ (b ∷ [])) line))
+  input-reads mark = rw is-open (sym (settled-reads rules true (kept .bytes) line))
+
+  pub input-holds : (input : Input) → heldOn rules kept (input ∷ line) ≡ heldOn rules (withInput rules kept input) line
+  unfolding withInput withByte withMark heldOn closing openFrom
+  input-holds (byte b) = rw is-open (sym (settled-holds rules false (kept .bytes ++ (b ∷ [])) line))
+  input-holds mark = rw is-open (sym (settled-holds rules true (kept .bytes) line))
+
+nil-left : (these later : List Report) → these ++ later ≡ [] → these ≡ []
+nil-left [] later none = refl
+nil-left (report ∷ these) later none = never cc
+
+-- a report that is asked for
+module _ (rules : Rules) (kept : Kept) where
+  abbrev seen : Seen
+  seen = look rules (kept .closed) (kept .bytes)
+
+  abbrev onward : List ℕ
+  onward = drop (suc (goneBy rules seen)) (kept .bytes)
+
+  pub report-settled : Settled rules kept → Settled rules (afterReport rules kept)
+  unfolding afterReport
+  report-settled now = go (isReport seen)
+    where
+      go : (b : Bool) → Settled rules (cond b (settled rules (kept .closed) onward) kept)
+      go true = settled-settled rules (kept .closed) onward
+      go false = now
+
+  pub report-reads : (line : List Input) → readOn rules kept line ≡ handed rules kept ++ readOn rules (afterReport rules kept) line
+  unfolding handed afterReport
+  report-reads line = go (isReport seen) refl
+    where
+      go : (b : Bool) → isReport seen ≡ b → readOn rules kept line ≡ reportOf rules seen ++ readOn rules (cond b (settled rules (kept .closed) onward) kept) line
+      go true is =
+          let decided = report-decided seen is in
+          unfold readOn in line-goes rules (kept .closed) (reportOf rules seen) (kept .bytes) onward line
+          (reports-goes rules (kept .closed) (kept .bytes) seen refl decided) (held-goes rules (kept .closed) (kept .bytes) seen refl decided)
+          ∙ ap (λ (l : List Report). reportOf rules seen ++ l) (sym (settled-reads rules (kept .closed) onward line))
+      go false is = rw (no-report rules seen is)
+
+  pub report-holds : (line : List Input) → heldOn rules kept line ≡ heldOn rules (afterReport rules kept) line
+  unfolding afterReport
+  report-holds line = go (isReport seen) refl
+    where
+      go : (b : Bool) → isReport seen ≡ b → heldOn rules kept line ≡ heldOn rules (cond b (settled rules (kept .closed) onward) kept) line
+      go true is =
+          unfold heldOn in open-goes rules (kept .closed) (kept .bytes) onward line (held-goes rules (kept .closed) (kept .bytes) seen refl (report-decided seen is))
+          ∙ sym (settled-holds rules (kept .closed) onward line)
+      go false is = refl
+
+  -- "Nothing" is the answer exactly where no report waits, and it changes nothing
+  pub nothing-handed : waiting rules kept ≡ false → handed rules kept ≡ []
+  unfolding waiting handed
+  nothing-handed quiet = no-report rules seen quiet
+
+  pub handed-nothing : handed rules kept ≡ [] → waiting rules kept ≡ false
+  unfolding waiting handed
+  handed-nothing none = no-report-only rules seen none
+
+  -- "While one of them is left, a report waits"
+  pub no-reports-quiet : reports rules (kept .closed) (kept .bytes) ≡ [] → waiting rules kept ≡ false
+  unfolding waiting
+  no-reports-quiet none = go (isReport seen) refl
+    where
+      go : (b : Bool) → isReport seen ≡ b → b ≡ false
+      go true is =
+          true-is-not-false (
+          sym is
+          ∙ no-report-only rules seen (
+          nil-left (reportOf rules seen) (reports rules (kept .closed) onward)
+          (sym (reports-goes rules (kept .closed) (kept .bytes) seen refl (report-decided seen is)) ∙ none)
+          )
+          )
+      go false is = refl
+
+  pub nothing-changes : waiting rules kept ≡ false → afterReport rules kept ≡ kept
+  unfolding waiting afterReport
+  nothing-changes quiet = rw quiet
+
+-- while no report waits there is none left to hand over, and what is kept is held
+module _ (rules : Rules) (kept : Kept) (now : Settled rules kept) (quiet : waiting rules kept ≡ false) where
+  pub quiet-reads : (line : List Input) → readOn rules kept line ≡ lineFrom rules (kept .bytes) line
+  unfolding readOn closing
+  quiet-reads line = rw (now .is-open quiet)
+
+  pub quiet-no-report : readOn rules kept [] ≡ []
+  unfolding lineFrom
+  quiet-no-report = quiet-reads [] ∙ reports-stays rules false (kept .bytes) (now .first-waits quiet)
+
+  pub quiet-holds : heldOn rules kept [] ≡ kept .bytes
+  unfolding heldOn closing openFrom heldOf
+  quiet-holds = rw (now .is-open quiet) (held-stays rules false (kept .bytes) (now .first-waits quiet))
+
+-- "nothing is held or waiting": such a state is that of a new reader
+pub empty-is-fresh : (rules : Rules) (kept : Kept) → Settled rules kept → kept .bytes ≡ [] → kept ≡ fresh
+unfolding waiting
+empty-is-fresh rules kept now empty =
+    let quiet : isReport (look rules (kept .closed) (kept .bytes)) ≡ false = rw empty (quiet-nil rules (kept .closed)) in
+    let is-open = now .is-open quiet in
+    λ i. record { closed = is-open i; bytes = empty i }
