@@ -5,7 +5,11 @@ pub mod Course
 pub mod Appending
 pub mod Placed
 pub mod ReadBack
-pub mod Demand3
+pub mod Damage
 pub mod Lines
 pub mod Moves
 pub mod Run
+pub mod AfterMark
+pub mod Bounded
+pub mod Demand3
+pub mod Examples

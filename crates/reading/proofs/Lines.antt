@@ -1,13 +1,13 @@
 -- Laws of the reading of a line: of its open stretch only the bytes held matter.
 use mathlib.Core.Path.{_≡_, refl, sym, ap, ap₂, _∙_}
 use mathlib.Core.Bool.{Bool, true, false}
-use mathlib.Core.List.{List, [], _∷_, _++_, append-assoc, append-nil}
+use mathlib.Core.List.{List, [], _∷_, _++_, map, append-assoc, append-nil}
 use Prim.Native.Nat.{ℕ, suc}
 use lib.ListN.{drop}
 use Rattle.reading.specs.Place.{Rules, Seen, Report, look, reportOf, goneBy, isWait}
 use Rattle.reading.specs.Stretch.{reports, heldFrom, heldOf}
 use Rattle.reading.specs.Line.{Input, byte, mark, lineFrom, lineReports}
-use Rattle.reading.specs.Run.{closing, openFrom}
+use Rattle.reading.specs.Run.{closing, openFrom, lineHeld}
 use Rattle.reading.proofs.Course.{reports-nil, held-nil, reports-stays, held-stays, reports-goes, held-goes, Course, over, stays, goes, course}
 use Rattle.reading.proofs.Appending.{reports-append, reports-end, held-append}
 
@@ -61,3 +61,31 @@ module _ (rules : Rules) where
   unfolding openFrom closing heldOf
   open-goes true xs ys line left = refl
   open-goes false xs ys line left = open-held xs line ∙ rw left (sym (open-held ys line))
+
+-- a line of bytes alone is one open stretch; with a mark behind them, one closed stretch
+line-bytes : (rules : Rules) (stretch xs : List ℕ) (line : List Input) → lineFrom rules stretch (map byte xs ++ line) ≡ lineFrom rules (stretch ++ xs) line
+unfolding lineFrom
+line-bytes rules stretch [] line = rw (append-nil stretch)
+line-bytes rules stretch (x ∷ xs) line = line-bytes rules (stretch ++ (x ∷ [])) xs line ∙ rw (append-assoc stretch (x ∷ []) xs)
+
+pub open-line : (rules : Rules) (xs : List ℕ) → lineReports rules (map byte xs) ≡ reports rules false xs
+unfolding lineReports lineFrom
+open-line rules xs = ap (lineFrom rules []) (sym (append-nil (map byte xs))) ∙ line-bytes rules [] xs []
+
+pub closed-line : (rules : Rules) (xs : List ℕ) → lineReports rules (map byte xs ++ (mark ∷ [])) ≡ reports rules true xs
+unfolding lineReports lineFrom
+closed-line rules xs =
+    line-bytes rules [] xs (mark ∷ [])
+    ∙ ap (λ (l : List Report). reports rules true xs ++ l) (reports-nil rules false)
+    ∙ append-nil (reports rules true xs)
+
+-- the stretch that is open behind a mark begins there
+open-behind : (stretch : List ℕ) (line more : List Input) → openFrom stretch (line ++ (mark ∷ more)) ≡ openFrom [] more
+unfolding openFrom
+open-behind stretch [] more = refl
+open-behind stretch (byte b ∷ line) more = open-behind (stretch ++ (b ∷ [])) line more
+open-behind stretch (mark ∷ line) more = open-behind [] line more
+
+pub held-behind-mark : (rules : Rules) (line : List Input) → lineHeld rules (line ++ (mark ∷ [])) ≡ []
+unfolding lineHeld openFrom heldOf
+held-behind-mark rules line = ap (heldOf rules) (open-behind [] line []) ∙ held-nil rules false

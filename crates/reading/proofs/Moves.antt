@@ -2,9 +2,9 @@
 use mathlib.Core.Path.{_≡_, refl, sym, ap, ap₂, _∙_}
 use mathlib.Core.Bool.{Bool, true, false, cond}
 use mathlib.Core.List.{List, [], _∷_, _++_, append-nil}
-use Prim.Native.Nat.{ℕ, zero, suc, _≤_, _<_}
+use Prim.Native.Nat.{ℕ, zero, suc, _-_, _≤_, _<_}
 use native.Mathlib.Omega.{arith}
-use lib.ListN.{length, drop}
+use lib.ListN.{length, drop, length-drop}
 use Rattle.reading.specs.Place.{Rules, Seen, pass, wait, bad, accepted, Report, cutShort, look, reportOf, goneBy, isWait}
 use Rattle.reading.specs.Stretch.{reports, heldFrom, heldOf}
 use Rattle.reading.specs.Line.{Input, byte, mark, lineFrom, lineReports}
@@ -130,6 +130,22 @@ module _ (rules : Rules) (closed : Bool) where
   unfolding heldOn settled
   settled-holds xs line = ap (heldOf rules) (over-holds closed (left xs) line) ∙ sym (open-goes rules closed xs (left xs) line (held-left xs))
 
+  -- and so do its own reports
+  over-reports : (c : Bool) (ys : List ℕ) → reports rules (stillClosed c ys) ys ≡ reports rules c ys
+  unfolding stillClosed
+  over-reports false ys = refl
+  over-reports true [] = reports-nil rules false ∙ sym (reports-nil rules true)
+  over-reports true (y ∷ ys) = refl
+
+  pub settled-reports : (xs : List ℕ) → reports rules (settled rules closed xs .closed) (settled rules closed xs .bytes) ≡ reports rules closed xs
+  unfolding settled
+  settled-reports xs = over-reports closed (left xs) ∙ sym (reports-left xs)
+
+  -- settling only takes bytes away
+  pub settled-shorter : (xs : List ℕ) → length (settled rules closed xs .bytes) ≤ length xs
+  unfolding settled
+  settled-shorter xs = omega (arith, length-drop (passes rules closed xs) xs)
+
 pub settled-settled : (rules : Rules) (closed : Bool) (xs : List ℕ) → Settled rules (settled rules closed xs)
 unfolding settled stillClosed waiting
 settled-settled rules closed xs = go closed (drop (passes rules closed xs) xs) (left-stops rules closed xs)
@@ -164,6 +180,10 @@ module _ (rules : Rules) (kept : Kept) (line : List Input) (is-open : kept .clos
 nil-left : (these later : List Report) → these ++ later ≡ [] → these ≡ []
 nil-left [] later none = refl
 nil-left (report ∷ these) later none = never cc
+
+some-kept : (rules : Rules) (closed : Bool) (xs : List ℕ) → isReport (look rules closed xs) ≡ true → 0 < length xs
+some-kept rules closed [] waits = true-is-not-false (sym waits ∙ unfold waiting in quiet-nil rules closed)
+some-kept rules closed (x ∷ xs) waits = omega arith
 
 -- a report that is asked for
 module _ (rules : Rules) (kept : Kept) where
@@ -211,6 +231,18 @@ module _ (rules : Rules) (kept : Kept) where
   pub handed-nothing : handed rules kept ≡ [] → waiting rules kept ≡ false
   unfolding waiting handed
   handed-nothing none = no-report-only rules seen none
+
+  pub report-settles : waiting rules kept ≡ true → afterReport rules kept ≡ settled rules (kept .closed) onward
+  unfolding waiting afterReport
+  report-settles waits = rw waits
+
+  -- a report that is handed over takes bytes away
+  pub report-shorter : waiting rules kept ≡ true → length (afterReport rules kept .bytes) < length (kept .bytes)
+  unfolding waiting afterReport
+  report-shorter waits =
+      let some : 0 < length (kept .bytes) = some-kept rules (kept .closed) (kept .bytes) waits in
+      let less : length onward < length (kept .bytes) = simp length-drop (omega arith) in
+      rw waits (omega (arith, settled-shorter rules (kept .closed) onward))
 
   -- "While one of them is left, a report waits"
   pub no-reports-quiet : reports rules (kept .closed) (kept .bytes) ≡ [] → waiting rules kept ≡ false

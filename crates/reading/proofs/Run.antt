@@ -20,10 +20,10 @@ waiting-reports rules kept = go (kept .closed)
     go true = unfold lineFrom closing in ap (λ (l : List Report). reports rules true (kept .bytes) ++ l) (reports-nil rules false) ∙ append-nil (reports rules true (kept .bytes))
 
 -- all that holds between a state and the one that events have led to
-record Led (rules : Rules) (kept : Kept) (ran : Ran) : Type 0 where
-  now : Settled rules (ran .kept)
-  reads : (more : List Input) → readOn rules kept (ran .given ++ more) ≡ ran .handedOver ++ readOn rules (ran .kept) more
-  holds : (more : List Input) → heldOn rules kept (ran .given ++ more) ≡ heldOn rules (ran .kept) more
+pub record Led (rules : Rules) (kept : Kept) (ran : Ran) : Type 0 where
+  pub now : Settled rules (ran .kept)
+  pub reads : (more : List Input) → readOn rules kept (ran .given ++ more) ≡ ran .handedOver ++ readOn rules (ran .kept) more
+  pub holds : (more : List Input) → heldOn rules kept (ran .given ++ more) ≡ heldOn rules (ran .kept) more
 
 led-taken : (rules : Rules) (kept : Kept) (input : Input) (ran : Ran) → kept .closed ≡ false → Led rules (withInput rules kept input) ran
     → Led rules kept (giving input ran)
@@ -45,7 +45,7 @@ led-handed rules kept ran later =
       holds = λ more. report-holds rules kept (ran .given ++ more) ∙ later .holds more;
     }
 
-led : (rules : Rules) (kept : Kept) (events : List Event) → Settled rules kept → Led rules kept (run rules kept events)
+pub led : (rules : Rules) (kept : Kept) (events : List Event) → Settled rules kept → Led rules kept (run rules kept events)
 unfolding run
 led rules kept [] now = record { now = now; reads = λ more. refl; holds = λ more. refl }
 led rules kept (offer input ∷ events) now =

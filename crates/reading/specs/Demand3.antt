@@ -1,10 +1,12 @@
 -- Demand 3: the words in which it is stated, over the reading of 01.
 use Prim.Native.Nat.{ℕ, suc, _<_}
 use mathlib.Core.Path.{_≡_}
+use mathlib.Core.Bool.{true, false}
 use mathlib.Core.List.{List, [], _∷_, _++_}
 use lib.ListN.{length, getD, drop}
 use Rattle.frame.specs.Frame.{contentOf, GoodFrame}
 use Rattle.reading.specs.Place.{Rules, Report, badCheck, acceptedFrame}
+use Rattle.reading.specs.Moves.{Kept, waiting}
 
 -- a good frame, under the header and the choice that are set up
 abbrev pub Good : Rules → List ℕ → Type 0
@@ -44,3 +46,11 @@ unfoldable pub reportOfFrame : Rules → List ℕ → Report
 reportOfFrame rules frame =
     let body = drop (suc (length (rules .header))) frame in
     acceptedFrame (getD body 0 0) (drop 1 (contentOf (rules .checking) body))
+
+-- "nothing is held or waiting"
+abbrev pub NothingHeldOrWaiting : Rules → Kept → Type 0
+NothingHeldOrWaiting rules kept = (kept .bytes ≡ []) × (waiting rules kept ≡ false)
+
+-- "Checking is on", with two header bytes
+abbrev pub checked : ℕ → ℕ → Rules
+checked h1 h2 = record { header = h1 ∷ h2 ∷ []; checking = true }

@@ -1,5 +1,5 @@
 -- 01, "Reading the line": inputs and asks in any order, from what a reader keeps.
-use Prim.Native.Nat.{ℕ}
+use Prim.Native.Nat.{ℕ, zero, suc}
 use mathlib.Core.Bool.{Bool, true, false, cond}
 use mathlib.Core.List.{List, [], _∷_, _++_}
 use Rattle.reading.specs.Place.{Rules, Report}
@@ -61,3 +61,15 @@ heldOn rules kept line = heldOf rules (openFrom (kept .bytes) (closing (kept .cl
 
 unfoldable pub lineHeld : Rules → List Input → List ℕ
 lineHeld rules line = heldOf rules (openFrom [] line)
+
+-- reports asked for, n times
+unfoldable pub asks : ℕ → List Event
+asks zero = []
+asks (suc n) = ask ∷ asks n
+
+-- the bytes among the inputs offered
+unfoldable pub offered : List Event → List ℕ
+offered [] = []
+offered (offer (byte b) ∷ events) = b ∷ offered events
+offered (offer mark ∷ events) = offered events
+offered (ask ∷ events) = offered events
