@@ -1,7 +1,7 @@
 -- The course of a reading, from place to place: laws of `reports` and of what is held, by which nobody else opens them.
 use mathlib.Core.Path.{_≡_, refl, sym, ap, _∙_}
 use mathlib.Core.Bool.{Bool, true, false, cond}
-use mathlib.Core.List.{List, [], _∷_, _++_}
+use mathlib.Core.List.{List, [], _∷_, _++_, append-assoc}
 use Prim.Native.Nat.{ℕ, zero, suc, _+_, _≤_, _<_}
 use native.Mathlib.Omega.{arith}
 use lib.ListN.{length, drop, length-append}
@@ -10,6 +10,11 @@ use Rattle.reading.specs.Stretch.{reportsFrom, reports, heldFrom, heldOf
 use Rattle.reading.proofs.Stable.{true-is-not-false}
 use Rattle.reading.proofs.Waiting.{look-nil}
 use Rattle.reading.proofs.Accepting.{Begun, accepted-begun}
+
+-- reading xs gives these reports and goes on at ys: what is reported, and what is held in the end
+pub record GoesOn (rules : Rules) (closed : Bool) (xs : List ℕ) (these : List Report) (ys : List ℕ) : Type 0 where
+  pub reported : reports rules closed xs ≡ these ++ reports rules closed ys
+  pub left : heldFrom rules closed 0 xs ≡ heldFrom rules closed 0 ys
 
 module _ (rules : Rules) (closed : Bool) where
   -- bytes that belong to an accepted frame are gone past
@@ -53,18 +58,35 @@ module _ (rules : Rules) (closed : Bool) where
       go false e = true-is-not-false (sym (ap isWait e) ∙ decided)
       go true e = e
 
-  -- "report .., go to .."
-  pub reports-goes : (xs : List ℕ) (seen : Seen) → look rules closed xs ≡ seen → isWait seen ≡ false
+  reports-goes : (xs : List ℕ) (seen : Seen) → look rules closed xs ≡ seen → isWait seen ≡ false
       → reports rules closed xs ≡ reportOf rules seen ++ reports rules closed (drop (suc (goneBy rules seen)) xs)
   unfolding reports reportsFrom reportOf goneBy
   reports-goes [] seen is decided = rw (seen-nil seen is decided)
-  reports-goes (x ∷ xs) seen is decided = rw (is, decided) (ap (λ (l : List Report). reportOf rules seen ++ l) (reportsFrom-drop (goneBy rules seen) xs))
+  reports-goes (x ∷ xs) seen is decided =
+      rw (is, decided) (ap (λ (l : List Report). reportOf rules seen ++ l) (reportsFrom-drop (goneBy rules seen) xs))
 
-  pub held-goes : (xs : List ℕ) (seen : Seen) → look rules closed xs ≡ seen → isWait seen ≡ false
+  held-goes : (xs : List ℕ) (seen : Seen) → look rules closed xs ≡ seen → isWait seen ≡ false
       → heldFrom rules closed 0 xs ≡ heldFrom rules closed 0 (drop (suc (goneBy rules seen)) xs)
   unfolding heldFrom goneBy
   held-goes [] seen is decided = refl
   held-goes (x ∷ xs) seen is decided = rw (is, decided) (heldFrom-drop (goneBy rules seen) xs)
+
+  -- "report .., go to .."
+  pub place-goes-on : (xs : List ℕ) (seen : Seen) → look rules closed xs ≡ seen → isWait seen ≡ false
+      → GoesOn rules closed xs (reportOf rules seen) (drop (suc (goneBy rules seen)) xs)
+  place-goes-on xs seen is decided = record { reported = reports-goes xs seen is decided; left = held-goes xs seen is decided }
+
+  pub stays-here : (xs : List ℕ) → GoesOn rules closed xs [] xs
+  stays-here xs = record { reported = refl; left = refl }
+
+  -- from place to place, and so from the first to the last
+  pub goes-further : {xs ys zs : List ℕ} {these later : List Report} → GoesOn rules closed xs these ys → GoesOn rules closed ys later zs
+      → GoesOn rules closed xs (these ++ later) zs
+  goes-further {zs = zs} {these = these} {later = later} first second =
+      record {
+        reported = first .reported ∙ ap (λ (l : List Report). these ++ l) (second .reported) ∙ sym (append-assoc these later (reports rules closed zs));
+        left = first .left ∙ second .left;
+      }
 
 -- every stretch has a course: reading goes on until it waits or there are no more bytes
 pub data Course (rules : Rules) (closed : Bool) : List ℕ → Type 0 where

@@ -2,65 +2,49 @@
 use mathlib.Core.Path.{_≡_, refl, sym, ap, ap₂, _∙_}
 use mathlib.Core.Bool.{Bool, true, false}
 use mathlib.Core.List.{List, [], _∷_, _++_, map, append-assoc, append-nil}
-use Prim.Native.Nat.{ℕ, suc}
-use lib.ListN.{drop}
-use Rattle.reading.specs.Place.{Rules, Seen, Report, look, reportOf, goneBy, isWait}
-use Rattle.reading.specs.Stretch.{reports, heldFrom, heldOf}
+use Prim.Native.Nat.{ℕ}
+use Rattle.reading.specs.Place.{Rules, Report}
+use Rattle.reading.specs.Stretch.{reports, heldOf}
 use Rattle.reading.specs.Line.{Input, byte, mark, lineFrom, lineReports}
 use Rattle.reading.specs.Run.{closing, openFrom, lineHeld}
-use Rattle.reading.proofs.Course.{reports-nil, held-nil, reports-stays, held-stays, reports-goes, held-goes, Course, over, stays, goes, course}
-use Rattle.reading.proofs.Appending.{reports-append, reports-end, held-append}
+use Rattle.reading.proofs.Course.{GoesOn, reports-nil, held-nil}
+use Rattle.reading.proofs.Appending.{goes-on-append, goes-on-held}
 
 module _ (rules : Rules) where
-  along : (xs : List ℕ) → Course rules false xs → reports rules false (heldFrom rules false 0 xs) ≡ []
-  along [] over = rw (held-nil rules false) (reports-nil rules false)
-  along xs (stays waits) = rw (held-stays rules false xs waits) (reports-stays rules false xs waits)
-  along xs (goes seen is decided rest) = rw (held-goes rules false xs seen is decided) (along (drop (suc (goneBy rules seen)) xs) rest)
-
-  -- what is held gives no report yet
-  pub held-no-report : (xs : List ℕ) → reports rules false (heldOf rules xs) ≡ []
-  unfolding heldOf
-  held-no-report xs = along xs (course rules false xs)
-
-  pub held-again : (xs : List ℕ) → heldOf rules (heldOf rules xs) ≡ heldOf rules xs
-  held-again xs = sym (ap (heldOf rules) (sym (append-nil xs)) ∙ held-append rules xs [] ∙ rw (append-nil (heldOf rules xs)))
-
-  -- reading goes on from what is held alone
-  pub line-held : (xs : List ℕ) (line : List Input) → lineFrom rules xs line ≡ reports rules false xs ++ lineFrom rules (heldOf rules xs) line
+  open-line-goes-on : (these : List Report) (xs ys : List ℕ) (line : List Input) → GoesOn rules false xs these ys
+      → lineFrom rules xs line ≡ these ++ lineFrom rules ys line
   unfolding lineFrom
-  line-held xs [] = sym (rw (held-no-report xs, append-nil (reports rules false xs)))
-  line-held xs (byte b ∷ line) =
-      let more = b ∷ [] in
-      line-held (xs ++ more) line
-      ∙ rw (reports-append rules false xs more, held-append rules xs more, append-assoc (reports rules false xs) (reports rules false (heldOf rules xs ++ more)) (lineFrom rules (heldOf rules (heldOf rules xs ++ more)) line))
-      (ap (λ (l : List Report). reports rules false xs ++ l) (sym (line-held (heldOf rules xs ++ more) line)))
-  line-held xs (mark ∷ line) =
-      rw (reports-end rules true xs) (append-assoc (reports rules false xs) (reports rules true (heldOf rules xs)) (lineFrom rules [] line))
+  open-line-goes-on these xs ys [] on = on .reported
+  open-line-goes-on these xs ys (byte b ∷ line) on =
+      open-line-goes-on these (xs ++ (b ∷ [])) (ys ++ (b ∷ [])) line (goes-on-append rules false xs these ys (b ∷ []) on)
+  open-line-goes-on these xs ys (mark ∷ line) on =
+      let closed : GoesOn rules true xs these ys = rw (append-nil xs, append-nil ys) at (goes-on-append rules true xs these ys [] on) in
+      rw (closed .reported) (append-assoc these (reports rules true ys) (lineFrom rules [] line))
 
-  pub open-held : (xs : List ℕ) (line : List Input) → heldOf rules (openFrom xs line) ≡ heldOf rules (openFrom (heldOf rules xs) line)
-  unfolding openFrom
-  open-held xs [] = sym (held-again xs)
-  open-held xs (byte b ∷ line) =
-      let more = b ∷ [] in
-      open-held (xs ++ more) line ∙ rw (held-append rules xs more) (sym (open-held (heldOf rules xs ++ more) line))
-  open-held xs (mark ∷ line) = refl
+  open-held-goes-on : (these : List Report) (xs ys : List ℕ) (line : List Input) → GoesOn rules false xs these ys
+      → heldOf rules (openFrom xs line) ≡ heldOf rules (openFrom ys line)
+  unfolding openFrom heldOf
+  open-held-goes-on these xs ys [] on = on .left
+  open-held-goes-on these xs ys (byte b ∷ line) on =
+      open-held-goes-on these (xs ++ (b ∷ [])) (ys ++ (b ∷ [])) line (goes-on-append rules false xs these ys (b ∷ []) on)
+  open-held-goes-on these xs ys (mark ∷ line) on = refl
 
-  -- two stretches of which the first gives some reports and then reads as the second, read so with any line behind them
-  pub line-goes : (closed : Bool) (these : List Report) (xs ys : List ℕ) (line : List Input) → reports rules closed xs ≡ these ++ reports rules closed ys
-      → heldFrom rules closed 0 xs ≡ heldFrom rules closed 0 ys
+  -- a stretch that gives some reports and goes on as another does so with any line behind them, a mark first where it is closed
+  pub line-goes-on : (closed : Bool) (these : List Report) (xs ys : List ℕ) (line : List Input) → GoesOn rules closed xs these ys
       → lineFrom rules xs (closing closed line) ≡ these ++ lineFrom rules ys (closing closed line)
-  unfolding lineFrom closing heldOf
-  line-goes true these xs ys line reported left = rw reported (append-assoc these (reports rules true ys) (lineFrom rules [] line))
-  line-goes false these xs ys line reported left =
-      line-held xs line
-      ∙ rw (reported, left, append-assoc these (reports rules false ys) (lineFrom rules (heldFrom rules false 0 ys) line))
-      (ap (λ (l : List Report). these ++ l) (sym (line-held ys line)))
+  unfolding lineFrom closing
+  line-goes-on true these xs ys line on = rw (on .reported) (append-assoc these (reports rules true ys) (lineFrom rules [] line))
+  line-goes-on false these xs ys line on = open-line-goes-on these xs ys line on
 
-  pub open-goes : (closed : Bool) (xs ys : List ℕ) (line : List Input) → heldFrom rules closed 0 xs ≡ heldFrom rules closed 0 ys
+  pub held-goes-on : (closed : Bool) (these : List Report) (xs ys : List ℕ) (line : List Input) → GoesOn rules closed xs these ys
       → heldOf rules (openFrom xs (closing closed line)) ≡ heldOf rules (openFrom ys (closing closed line))
-  unfolding openFrom closing heldOf
-  open-goes true xs ys line left = refl
-  open-goes false xs ys line left = open-held xs line ∙ rw left (sym (open-held ys line))
+  unfolding openFrom closing
+  held-goes-on true these xs ys line on = refl
+  held-goes-on false these xs ys line on = open-held-goes-on these xs ys line on
+
+  -- of an open stretch only the bytes held matter for what follows
+  pub line-held : (xs : List ℕ) (line : List Input) → lineFrom rules xs line ≡ reports rules false xs ++ lineFrom rules (heldOf rules xs) line
+  line-held xs line = open-line-goes-on (reports rules false xs) xs (heldOf rules xs) line (goes-on-held rules xs)
 
 -- a line of bytes alone is one open stretch; with a mark behind them, one closed stretch
 line-bytes : (rules : Rules) (stretch xs : List ℕ) (line : List Input) → lineFrom rules stretch (map byte xs ++ line) ≡ lineFrom rules (stretch ++ xs) line

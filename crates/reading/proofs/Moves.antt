@@ -1,7 +1,7 @@
 -- Laws of the moves: each keeps the reading of the line, and what is kept is settled.
 use mathlib.Core.Path.{_≡_, refl, sym, ap, ap₂, _∙_}
 use mathlib.Core.Bool.{Bool, true, false, cond}
-use mathlib.Core.List.{List, [], _∷_, _++_, append-nil}
+use mathlib.Core.List.{List, [], _∷_, _++_, append-assoc}
 use Prim.Native.Nat.{ℕ, zero, suc, _-_, _≤_, _<_}
 use native.Mathlib.Omega.{arith}
 use lib.ListN.{length, drop, length-drop}
@@ -12,13 +12,31 @@ use Rattle.reading.specs.Moves.{Kept, fresh, isPass, passes, stillClosed
 use Rattle.reading.specs.Run.{withInput, closing, readOn, openFrom, heldOn}
 use Rattle.reading.proofs.Stable.{never, true-is-not-false}
 use Rattle.reading.proofs.Waiting.{look-nil, closed-goes-on}
-use Rattle.reading.proofs.Course.{reports-nil, held-nil, reports-stays, held-stays, reports-goes, held-goes}
-use Rattle.reading.proofs.Lines.{line-goes, open-goes}
+use Rattle.reading.proofs.Course.{GoesOn, reports-nil, reports-stays, held-stays, place-goes-on, stays-here, goes-further}
+use Rattle.reading.proofs.Lines.{line-goes-on, held-goes-on}
 
 -- What is known of a state that a reader reaches: where no report waits, the stretch is open and its first place waits.
 pub record Settled (rules : Rules) (kept : Kept) : Type 0 where
   pub is-open : waiting rules kept ≡ false → kept .closed ≡ false
   pub first-waits : waiting rules kept ≡ false → isWait (look rules false (kept .bytes)) ≡ true
+
+-- From one state inputs and reports lead to another: any line behind them is read on from there alone.
+pub record Onward (rules : Rules) (kept : Kept) (given : List Input) (these : List Report) (next : Kept) : Type 0 where
+  pub reads : (more : List Input) → readOn rules kept (given ++ more) ≡ these ++ readOn rules next more
+  pub holds : (more : List Input) → heldOn rules kept (given ++ more) ≡ heldOn rules next more
+
+pub stays-kept : (rules : Rules) (kept : Kept) → Onward rules kept [] [] kept
+stays-kept rules kept = record { reads = λ more. refl; holds = λ more. refl }
+
+pub onward-then : {rules : Rules} {kept next last : Kept} {given later : List Input} {these those : List Report} → Onward rules kept given these next
+    → Onward rules next later those last → Onward rules kept (given ++ later) (these ++ those) last
+onward-then {rules} {last = last} {given = given} {later = later} {these = these} {those = those} first second =
+    record {
+      reads = λ more.
+          rw (append-assoc given later more, append-assoc these those (readOn rules last more))
+          (first .reads (later ++ more) ∙ ap (λ (l : List Report). these ++ l) (second .reads more));
+      holds = λ more. rw (append-assoc given later more) (first .holds (later ++ more) ∙ second .holds more);
+    }
 
 -- nothing stands where there is no byte: no report waits there
 pub quiet-nil : (rules : Rules) (closed : Bool) → waiting rules (record { closed = closed; bytes = [] }) ≡ false
@@ -71,30 +89,24 @@ no-report-only rules wait none = refl
 no-report-only rules (bad body) none = never cc
 no-report-only rules (accepted body) none = never cc
 
+pass-goes-on : (rules : Rules) (closed : Bool) (x : ℕ) (xs : List ℕ) → look rules closed (x ∷ xs) ≡ pass → GoesOn rules closed (x ∷ xs) [] xs
+unfolding isWait reportOf goneBy
+pass-goes-on rules closed x xs is = place-goes-on rules closed (x ∷ xs) pass is refl
+
 module _ (rules : Rules) (closed : Bool) where
   abbrev left : List ℕ → List ℕ
   left xs = drop (passes rules closed xs) xs
 
   -- what is passed over gives no report and is not held
-  reports-left : (xs : List ℕ) → reports rules closed xs ≡ reports rules closed (left xs)
+  left-goes-on : (xs : List ℕ) → GoesOn rules closed xs [] (left xs)
   unfolding passes
-  reports-left [] = refl
-  reports-left (x ∷ xs) = go (isPass (look rules closed (x ∷ xs))) refl (reports-left xs)
+  left-goes-on [] = stays-here rules closed []
+  left-goes-on (x ∷ xs) = go (isPass (look rules closed (x ∷ xs))) refl (left-goes-on xs)
     where
-      go : (b : Bool) → isPass (look rules closed (x ∷ xs)) ≡ b → reports rules closed xs ≡ reports rules closed (left xs)
-          → reports rules closed (x ∷ xs) ≡ reports rules closed (drop (cond b (suc (passes rules closed xs)) 0) (x ∷ xs))
-      go true is rest = unfold reportOf goneBy isWait in reports-goes rules closed (x ∷ xs) pass (is-pass (look rules closed (x ∷ xs)) is) refl ∙ rest
-      go false is rest = refl
-
-  held-left : (xs : List ℕ) → heldFrom rules closed 0 xs ≡ heldFrom rules closed 0 (left xs)
-  unfolding passes
-  held-left [] = refl
-  held-left (x ∷ xs) = go (isPass (look rules closed (x ∷ xs))) refl (held-left xs)
-    where
-      go : (b : Bool) → isPass (look rules closed (x ∷ xs)) ≡ b → heldFrom rules closed 0 xs ≡ heldFrom rules closed 0 (left xs)
-          → heldFrom rules closed 0 (x ∷ xs) ≡ heldFrom rules closed 0 (drop (cond b (suc (passes rules closed xs)) 0) (x ∷ xs))
-      go true is rest = unfold goneBy isWait in held-goes rules closed (x ∷ xs) pass (is-pass (look rules closed (x ∷ xs)) is) refl ∙ rest
-      go false is rest = refl
+      go : (b : Bool) → isPass (look rules closed (x ∷ xs)) ≡ b → GoesOn rules closed xs [] (left xs)
+          → GoesOn rules closed (x ∷ xs) [] (drop (cond b (suc (passes rules closed xs)) 0) (x ∷ xs))
+      go true is rest = goes-further rules closed (pass-goes-on rules closed x xs (is-pass (look rules closed (x ∷ xs)) is)) rest
+      go false is rest = stays-here rules closed (x ∷ xs)
 
   -- the place where passing over ends is no place to pass over
   left-stops : (xs : List ℕ) → 0 < length (left xs) → isPass (look rules closed (left xs)) ≡ false
@@ -124,11 +136,11 @@ module _ (rules : Rules) (closed : Bool) where
   -- the reading of a line goes on from a settled state as from the stretch it was made of
   pub settled-reads : (xs : List ℕ) (line : List Input) → readOn rules (settled rules closed xs) line ≡ lineFrom rules xs (closing closed line)
   unfolding readOn settled
-  settled-reads xs line = over-reads closed (left xs) line ∙ sym (line-goes rules closed [] xs (left xs) line (reports-left xs) (held-left xs))
+  settled-reads xs line = over-reads closed (left xs) line ∙ sym (line-goes-on rules closed [] xs (left xs) line (left-goes-on xs))
 
   pub settled-holds : (xs : List ℕ) (line : List Input) → heldOn rules (settled rules closed xs) line ≡ heldOf rules (openFrom xs (closing closed line))
   unfolding heldOn settled
-  settled-holds xs line = ap (heldOf rules) (over-holds closed (left xs) line) ∙ sym (open-goes rules closed xs (left xs) line (held-left xs))
+  settled-holds xs line = ap (heldOf rules) (over-holds closed (left xs) line) ∙ sym (held-goes-on rules closed [] xs (left xs) line (left-goes-on xs))
 
   -- and so do its own reports
   over-reports : (c : Bool) (ys : List ℕ) → reports rules (stillClosed c ys) ys ≡ reports rules c ys
@@ -139,7 +151,7 @@ module _ (rules : Rules) (closed : Bool) where
 
   pub settled-reports : (xs : List ℕ) → reports rules (settled rules closed xs .closed) (settled rules closed xs .bytes) ≡ reports rules closed xs
   unfolding settled
-  settled-reports xs = over-reports closed (left xs) ∙ sym (reports-left xs)
+  settled-reports xs = over-reports closed (left xs) ∙ sym (left-goes-on xs .reported)
 
   -- settling only takes bytes away
   pub settled-shorter : (xs : List ℕ) → length (settled rules closed xs .bytes) ≤ length xs
@@ -166,16 +178,20 @@ unfolding withInput withByte withMark
 input-settled rules kept (byte b) = settled-settled rules false (kept .bytes ++ (b ∷ []))
 input-settled rules kept mark = settled-settled rules true (kept .bytes)
 
-module _ (rules : Rules) (kept : Kept) (line : List Input) (is-open : kept .closed ≡ false) where
-  pub input-reads : (input : Input) → readOn rules kept (input ∷ line) ≡ readOn rules (withInput rules kept input) line
-  unfolding withInput withByte withMark readOn closing lineFrom
-  input-reads (byte b) = rw is-open (sym (settled-reads rules false (kept .bytes ++ (b ∷ [])) line))
-  input-reads mark = rw is-open (sym (settled-reads rules true (kept .bytes) line))
-
-  pub input-holds : (input : Input) → heldOn rules kept (input ∷ line) ≡ heldOn rules (withInput rules kept input) line
-  unfolding withInput withByte withMark heldOn closing openFrom
-  input-holds (byte b) = rw is-open (sym (settled-holds rules false (kept .bytes ++ (b ∷ [])) line))
-  input-holds mark = rw is-open (sym (settled-holds rules true (kept .bytes) line))
+pub input-onward : (rules : Rules) (kept : Kept) (input : Input) → kept .closed ≡ false
+    → Onward rules kept (input ∷ []) [] (withInput rules kept input)
+unfolding withInput withByte withMark readOn heldOn closing lineFrom openFrom
+input-onward rules kept (byte b) is-open =
+    let xs = kept .bytes ++ (b ∷ []) in
+    record {
+      reads = λ more. rw is-open (sym (settled-reads rules false xs more));
+      holds = λ more. rw is-open (sym (settled-holds rules false xs more));
+    }
+input-onward rules kept mark is-open =
+    record {
+      reads = λ more. rw is-open (sym (settled-reads rules true (kept .bytes) more));
+      holds = λ more. rw is-open (sym (settled-holds rules true (kept .bytes) more));
+    }
 
 nil-left : (these later : List Report) → these ++ later ≡ [] → these ≡ []
 nil-left [] later none = refl
@@ -193,35 +209,35 @@ module _ (rules : Rules) (kept : Kept) where
   abbrev onward : List ℕ
   onward = drop (suc (goneBy rules seen)) (kept .bytes)
 
+  abbrev next : Bool → Kept
+  next waits = cond waits (settled rules (kept .closed) onward) kept
+
   pub report-settled : Settled rules kept → Settled rules (afterReport rules kept)
   unfolding afterReport
   report-settled now = go (isReport seen)
     where
-      go : (b : Bool) → Settled rules (cond b (settled rules (kept .closed) onward) kept)
+      go : (b : Bool) → Settled rules (next b)
       go true = settled-settled rules (kept .closed) onward
       go false = now
 
-  pub report-reads : (line : List Input) → readOn rules kept line ≡ handed rules kept ++ readOn rules (afterReport rules kept) line
-  unfolding handed afterReport
-  report-reads line = go (isReport seen) refl
-    where
-      go : (b : Bool) → isReport seen ≡ b → readOn rules kept line ≡ reportOf rules seen ++ readOn rules (cond b (settled rules (kept .closed) onward) kept) line
-      go true is =
-          let decided = report-decided seen is in
-          unfold readOn in line-goes rules (kept .closed) (reportOf rules seen) (kept .bytes) onward line
-          (reports-goes rules (kept .closed) (kept .bytes) seen refl decided) (held-goes rules (kept .closed) (kept .bytes) seen refl decided)
-          ∙ ap (λ (l : List Report). reportOf rules seen ++ l) (sym (settled-reads rules (kept .closed) onward line))
-      go false is = rw (no-report rules seen is)
+  report-goes-on : isReport seen ≡ true → GoesOn rules (kept .closed) (kept .bytes) (reportOf rules seen) onward
+  report-goes-on is = place-goes-on rules (kept .closed) (kept .bytes) seen refl (report-decided seen is)
 
-  pub report-holds : (line : List Input) → heldOn rules kept line ≡ heldOn rules (afterReport rules kept) line
-  unfolding afterReport
-  report-holds line = go (isReport seen) refl
+  pub report-onward : Onward rules kept [] (handed rules kept) (afterReport rules kept)
+  unfolding handed afterReport readOn heldOn
+  report-onward = go (isReport seen) refl
     where
-      go : (b : Bool) → isReport seen ≡ b → heldOn rules kept line ≡ heldOn rules (cond b (settled rules (kept .closed) onward) kept) line
+      go : (b : Bool) → isReport seen ≡ b → Onward rules kept [] (reportOf rules seen) (next b)
       go true is =
-          unfold heldOn in open-goes rules (kept .closed) (kept .bytes) onward line (held-goes rules (kept .closed) (kept .bytes) seen refl (report-decided seen is))
-          ∙ sym (settled-holds rules (kept .closed) onward line)
-      go false is = refl
+          record {
+            reads = λ more.
+                line-goes-on rules (kept .closed) (reportOf rules seen) (kept .bytes) onward more (report-goes-on is)
+                ∙ ap (λ (l : List Report). reportOf rules seen ++ l) (sym (settled-reads rules (kept .closed) onward more));
+            holds = λ more.
+                held-goes-on rules (kept .closed) (reportOf rules seen) (kept .bytes) onward more (report-goes-on is)
+                ∙ sym (settled-holds rules (kept .closed) onward more);
+          }
+      go false is = rw (no-report rules seen is) (stays-kept rules kept)
 
   -- "Nothing" is the answer exactly where no report waits, and it changes nothing
   pub nothing-handed : waiting rules kept ≡ false → handed rules kept ≡ []
@@ -255,7 +271,7 @@ module _ (rules : Rules) (kept : Kept) where
           sym is
           ∙ no-report-only rules seen (
           nil-left (reportOf rules seen) (reports rules (kept .closed) onward)
-          (sym (reports-goes rules (kept .closed) (kept .bytes) seen refl (report-decided seen is)) ∙ none)
+          (sym (report-goes-on is .reported) ∙ none)
           )
           )
       go false is = refl

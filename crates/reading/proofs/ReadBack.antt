@@ -9,9 +9,9 @@ use lib.Seq.{drop-at}
 use Rattle.frame.specs.Frame.{checkBytes, lengthByte, enclosed, framed, frameOf, mostData, contentOf, GoodFrame}
 use Rattle.frame.proofs.GoodFrames.{frameOf-good, content-of-body}
 use Rattle.reading.specs.Place.{Rules, Seen, accepted, Report, acceptedFrame, look, reportOf, goneBy, isWait}
-use Rattle.reading.specs.Stretch.{reports, heldFrom, heldOf}
+use Rattle.reading.specs.Stretch.{reports, heldOf}
 use Rattle.reading.proofs.Accepting.{good-accepted}
-use Rattle.reading.proofs.Course.{reports-nil, held-nil, reports-goes, held-goes}
+use Rattle.reading.proofs.Course.{GoesOn, reports-nil, held-nil, place-goes-on}
 
 module _ (rules : Rules) (closed : Bool) (frame ys : List ℕ) (good : GoodFrame (rules .checking) (rules .header) frame) where
   -- "go to p+3+L": right behind the frame
@@ -23,17 +23,10 @@ module _ (rules : Rules) (closed : Bool) (frame ys : List ℕ) (good : GoodFrame
       drop-at frame ys (suc (length (rules .header) + length body)) long
 
   -- a good frame is reported, and reading goes on right behind it
-  pub reports-good : reports rules closed (frame ++ ys) ≡ reportOf rules (accepted (good .body)) ++ reports rules closed ys
+  pub good-goes-on : GoesOn rules closed (frame ++ ys) (reportOf rules (accepted (good .body))) ys
   unfolding isWait
-  reports-good =
-      reports-goes rules closed (frame ++ ys) (accepted (good .body)) (good-accepted rules closed frame ys good) refl
-      ∙ ap (λ (l : List ℕ). reportOf rules (accepted (good .body)) ++ reports rules closed l) gone-past
-
-  pub held-good : heldFrom rules closed 0 (frame ++ ys) ≡ heldFrom rules closed 0 ys
-  unfolding isWait
-  held-good =
-      held-goes rules closed (frame ++ ys) (accepted (good .body)) (good-accepted rules closed frame ys good) refl
-      ∙ ap (heldFrom rules closed 0) gone-past
+  good-goes-on =
+      rw gone-past at (place-goes-on rules closed (frame ++ ys) (accepted (good .body)) (good-accepted rules closed frame ys good) refl)
 
 -- the L bytes of a good frame are those behind its length byte
 pub body-of : (checking : Bool) (header frame : List ℕ) (good : GoodFrame checking header frame) → good .body ≡ drop (suc (length header)) frame
@@ -73,22 +66,20 @@ module _ (checking : Bool) (header : List ℕ) (command : ℕ) (payload : List �
   frame-report = rw (content-of-body checking (command ∷ payload))
 
   -- reading goes on right behind it
-  pub frame-first : (closed : Bool) (ys : List ℕ) → reports rules closed (frame ++ ys) ≡ acceptedFrame command payload ∷ reports rules closed ys
-  frame-first closed ys =
+  pub frame-goes-on : (closed : Bool) (ys : List ℕ) → GoesOn rules closed (frame ++ ys) (acceptedFrame command payload ∷ []) ys
+  frame-goes-on closed ys =
       let good = frameOf-good checking header command payload within in
-      reports-good rules closed frame ys good
-      ∙ ap (λ (r : List Report). r ++ reports rules closed ys) (ap (λ (b : List ℕ). reportOf rules (accepted b)) (body-is good) ∙ frame-report)
-
-  pub held-behind-frame : (ys : List ℕ) → heldOf rules (frame ++ ys) ≡ heldOf rules ys
-  unfolding heldOf
-  held-behind-frame ys = held-good rules false frame ys (frameOf-good checking header command payload within)
+      let report : reportOf rules (accepted (good .body)) ≡ acceptedFrame command payload ∷ [] =
+      ap (λ (b : List ℕ). reportOf rules (accepted b)) (body-is good) ∙ frame-report in
+      rw report at (good-goes-on rules closed frame ys good)
 
   -- demand 2: "What our frame writer writes, our reader reads back as the same command and data", with the line open or closed
   pub read-back : (closed : Bool) → reports rules closed frame ≡ acceptedFrame command payload ∷ []
   read-back closed =
-      ap (reports rules closed) (sym (append-nil frame)) ∙ frame-first closed []
+      ap (reports rules closed) (sym (append-nil frame))
+      ∙ frame-goes-on closed [] .reported
       ∙ ap (λ (r : List Report). acceptedFrame command payload ∷ r) (reports-nil rules closed)
 
   pub read-back-holds-nothing : heldOf rules frame ≡ []
   unfolding heldOf
-  read-back-holds-nothing = ap (heldOf rules) (sym (append-nil frame)) ∙ held-behind-frame [] ∙ held-nil rules false
+  read-back-holds-nothing = ap (heldOf rules) (sym (append-nil frame)) ∙ frame-goes-on false [] .left ∙ held-nil rules false

@@ -9,7 +9,7 @@ use Rattle.reading.specs.Line.{Input, byte, mark, lineFrom, lineReports}
 use Rattle.reading.specs.Moves.{Kept, fresh, waiting, handed, afterReport}
 use Rattle.reading.specs.Run.{Event, offer, ask, Ran, giving, handing, followed, withInput, run, closing, readOn, openFrom, heldOn, lineHeld}
 use Rattle.reading.proofs.Course.{reports-nil}
-use Rattle.reading.proofs.Moves.{Settled, fresh-settled, input-settled, input-reads, input-holds, report-settled, report-reads, report-holds, handed-nothing, no-reports-quiet, quiet-no-report, quiet-holds}
+use Rattle.reading.proofs.Moves.{Settled, Onward, stays-kept, onward-then, fresh-settled, input-settled, input-onward, report-settled, report-onward, handed-nothing, no-reports-quiet, quiet-no-report, quiet-holds}
 
 waiting-reports : (rules : Rules) (kept : Kept) → readOn rules kept [] ≡ reports rules (kept .closed) (kept .bytes)
 unfolding readOn
@@ -22,32 +22,11 @@ waiting-reports rules kept = go (kept .closed)
 -- all that holds between a state and the one that events have led to
 pub record Led (rules : Rules) (kept : Kept) (ran : Ran) : Type 0 where
   pub now : Settled rules (ran .kept)
-  pub reads : (more : List Input) → readOn rules kept (ran .given ++ more) ≡ ran .handedOver ++ readOn rules (ran .kept) more
-  pub holds : (more : List Input) → heldOn rules kept (ran .given ++ more) ≡ heldOn rules (ran .kept) more
-
-led-taken : (rules : Rules) (kept : Kept) (input : Input) (ran : Ran) → kept .closed ≡ false → Led rules (withInput rules kept input) ran
-    → Led rules kept (giving input ran)
-led-taken rules kept input ran is-open later =
-    record {
-      now = later .now;
-      reads = λ more. input-reads rules kept (ran .given ++ more) is-open input ∙ later .reads more;
-      holds = λ more. input-holds rules kept (ran .given ++ more) is-open input ∙ later .holds more;
-    }
-
-led-handed : (rules : Rules) (kept : Kept) (ran : Ran) → Led rules (afterReport rules kept) ran → Led rules kept (handing (handed rules kept) ran)
-led-handed rules kept ran later =
-    record {
-      now = later .now;
-      reads = λ more.
-          report-reads rules kept (ran .given ++ more)
-          ∙ ap (λ (l : List Report). handed rules kept ++ l) (later .reads more)
-          ∙ sym (append-assoc (handed rules kept) (ran .handedOver) (readOn rules (ran .kept) more));
-      holds = λ more. report-holds rules kept (ran .given ++ more) ∙ later .holds more;
-    }
+  pub onward : Onward rules kept (ran .given) (ran .handedOver) (ran .kept)
 
 pub led : (rules : Rules) (kept : Kept) (events : List Event) → Settled rules kept → Led rules kept (run rules kept events)
 unfolding run
-led rules kept [] now = record { now = now; reads = λ more. refl; holds = λ more. refl }
+led rules kept [] now = record { now = now; onward = stays-kept rules kept }
 led rules kept (offer input ∷ events) now =
     go (waiting rules kept) refl (led rules kept events now) (led rules (withInput rules kept input) events (input-settled rules kept input))
   where
@@ -55,9 +34,11 @@ led rules kept (offer input ∷ events) now =
         → Led rules (withInput rules kept input) (run rules (withInput rules kept input) events)
         → Led rules kept (cond b (run rules kept events) (giving input (run rules (withInput rules kept input) events)))
     go true waits refused taken = refused
-    go false quiet refused taken = led-taken rules kept input (run rules (withInput rules kept input) events) (now .is-open quiet) taken
+    go false quiet refused taken =
+        record { now = taken .now; onward = onward-then (input-onward rules kept input (now .is-open quiet)) (taken .onward) }
 led rules kept (ask ∷ events) now =
-    led-handed rules kept (run rules (afterReport rules kept) events) (led rules (afterReport rules kept) events (report-settled rules kept now))
+    let later = led rules (afterReport rules kept) events (report-settled rules kept now) in
+    record { now = later .now; onward = onward-then (report-onward rules kept) (later .onward) }
 
 handing-followed : (these : List Report) (first second : Ran) → handing these (followed first second) ≡ followed (handing these first) second
 handing-followed these first second =
@@ -99,11 +80,11 @@ module _ (rules : Rules) (events : List Event) where
   -- for any further inputs, reading goes on from what is kept alone
   pub reads-on : (more : List Input) → lineReports rules (ran .given ++ more) ≡ ran .handedOver ++ readOn rules (ran .kept) more
   unfolding lineReports readOn closing
-  reads-on more = all-led .reads more
+  reads-on more = all-led .onward .reads more
 
   pub holds-on : (more : List Input) → lineHeld rules (ran .given ++ more) ≡ heldOn rules (ran .kept) more
   unfolding lineHeld heldOn closing
-  holds-on more = all-led .holds more
+  holds-on more = all-led .onward .holds more
 
   -- "The reports asked for, in order, are those of the reading of all that was given": those handed over, and then those still to be handed over
   pub handed-first : lineReports rules (ran .given) ≡ ran .handedOver ++ reports rules (ran .kept .closed) (ran .kept .bytes)
