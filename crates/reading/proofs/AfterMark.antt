@@ -11,9 +11,11 @@ use Rattle.reading.specs.Line.{Input, byte, mark, lineReports}
 use Rattle.reading.specs.Moves.{Kept, fresh, passes, stillClosed, settled, isReport, waiting, withMark, handed, afterReport}
 use Rattle.reading.specs.Run.{Event, offer, ask, Ran, followed, run, lineHeld, asks}
 use Rattle.reading.proofs.Stable.{true-is-not-false}
+use Rattle.reading.proofs.Course.{reports-nil}
 use Rattle.reading.proofs.Lines.{held-behind-mark}
 use Rattle.reading.proofs.Moves.{Settled, quiet-nil, settled-settled, nothing-changes, no-reports-quiet, settled-reports, settled-shorter, report-settles, report-shorter}
 use Rattle.reading.proofs.Run.{run-append, kept-is-held}
+use Rattle.reading.proofs.Asking.{asks-end}
 
 -- whatever was given before, and however inputs and asks were mixed: the last input given is a mark, and its reports have been handed over
 pub after-mark : (rules : Rules) (events : List Event) (earlier : List Input) → run rules fresh events .given ≡ earlier ++ (mark ∷ [])
@@ -27,6 +29,11 @@ pub goes-on-as-new : (rules : Rules) (events later : List Event) → run rules f
     → run rules fresh (events ++ later) ≡ followed (run rules fresh events) (run rules fresh later)
 goes-on-as-new rules events later is =
     run-append rules fresh events later ∙ ap (λ (k : Kept). followed (run rules fresh events) (run rules k later)) is
+
+pub after-mark-as-new : (rules : Rules) (events : List Event) (earlier : List Input) (later : List Event)
+    → run rules fresh events .given ≡ earlier ++ (mark ∷ []) → waiting rules (run rules fresh events .kept) ≡ false
+    → run rules fresh (events ++ later) ≡ followed (run rules fresh events) (run rules fresh later)
+after-mark-as-new rules events earlier later given quiet = goes-on-as-new rules events later (after-mark rules events earlier given quiet)
 
 -- The same for every state, reached or not. What the settling of a closed stretch leaves is closed still, or as new.
 abbrev FromClosed : Rules → Kept → Type 0
@@ -78,29 +85,9 @@ mark-no-report rules kept none =
     let xs = kept .bytes in
     from-closed-quiet rules xs (no-reports-quiet rules (settled rules true xs) (settled-reports rules true xs ∙ none))
 
-still-quiet : (rules : Rules) (n : ℕ) (kept : Kept) → waiting rules kept ≡ false → run rules kept (asks n) .kept ≡ kept
-unfolding run asks
-still-quiet rules zero kept quiet = refl
-still-quiet rules (suc n) kept quiet =
-    let same = nothing-changes rules kept quiet in
-    ap (λ (k : Kept). run rules k (asks n) .kept) same ∙ still-quiet rules n kept quiet
-
--- asking comes to an end: each report takes bytes away
-pub asks-end : (rules : Rules) (n : ℕ) (kept : Kept) → length (kept .bytes) ≤ n → waiting rules (run rules kept (asks n) .kept) ≡ false
-unfolding run asks
-asks-end rules zero kept within = go (waiting rules kept) refl
-  where
-    go : (b : Bool) → waiting rules kept ≡ b → b ≡ false
-    go true waits = let less : length (afterReport rules kept .bytes) < length (kept .bytes) = report-shorter rules kept waits in absurd (omega arith)
-    go false quiet = refl
-asks-end rules (suc n) kept within = go (waiting rules kept) refl (asks-end rules n (afterReport rules kept))
-  where
-    next : Kept
-    next = run rules (afterReport rules kept) (asks n) .kept
-
-    go : (b : Bool) → waiting rules kept ≡ b → (length (afterReport rules kept .bytes) ≤ n → waiting rules next ≡ false) → waiting rules next ≡ false
-    go true waits rest = let less : length (afterReport rules kept .bytes) < length (kept .bytes) = report-shorter rules kept waits in rest (omega arith)
-    go false quiet rest = ap (waiting rules) (still-quiet rules (suc n) kept quiet) ∙ quiet
+-- a second mark in a row does nothing
+pub mark-on-fresh : (rules : Rules) → withMark rules fresh ≡ fresh
+mark-on-fresh rules = mark-no-report rules fresh (reports-nil rules true)
 
 -- as many asks as bytes were kept are enough
 pub mark-asked : (rules : Rules) (kept : Kept) → run rules (withMark rules kept) (asks (length (kept .bytes))) .kept ≡ fresh

@@ -5,29 +5,14 @@ use mathlib.Core.List.{List, [], _∷_, _++_}
 use Prim.Native.Nat.{ℕ, zero, suc, _+_, _-_, _≤_, _<_}
 use native.Mathlib.Omega.{arith}
 use lib.ListN.{length, getD, drop, length-append, length-drop}
-use lib.Seq.{getD-drop}
 use Rattle.wire.specs.Bytes.{Bytes}
 use Rattle.reading.specs.Place.{Rules, look, goneBy, isWait}
 use Rattle.reading.specs.Line.{Input, byte, mark}
 use Rattle.reading.specs.Moves.{Kept, fresh, passes, settled, isReport, waiting, withByte, withMark, afterReport}
 use Rattle.reading.specs.Run.{Event, offer, ask, Ran, giving, withInput, run, offered}
+use Rattle.reading.proofs.ByteLists.{bytes-nil, bytes-cons, bytes-append, bytes-drop}
 use Rattle.reading.proofs.Waiting.{waits-short}
 use Rattle.reading.proofs.Moves.{Settled, fresh-settled, settled-settled, settled-shorter, input-settled, report-settled, report-settles, report-shorter, nothing-changes}
-
-bytes-nil : Bytes []
-bytes-nil i = omega arith
-
-bytes-append : (xs ys : List ℕ) → Bytes xs → Bytes ys → (i : ℕ) → getD (xs ++ ys) i 0 < 256
-bytes-append [] ys left right i = right i
-bytes-append (x ∷ xs) ys left right zero = left 0
-bytes-append (x ∷ xs) ys left right (suc i) = bytes-append xs ys (λ j. left (suc j)) right i
-
-bytes-one : (b : ℕ) → b < 256 → (i : ℕ) → getD (b ∷ []) i 0 < 256
-bytes-one b is zero = is
-bytes-one b is (suc i) = omega arith
-
-bytes-drop : (n : ℕ) (xs : List ℕ) → Bytes xs → Bytes (drop n xs)
-bytes-drop n xs are i = rw (getD-drop n xs i 0) (are (n + i))
 
 -- while no report waits: one byte less than the longest frame has
 pub quiet-bound : (rules : Rules) (kept : Kept) → Settled rules kept → Bytes (kept .bytes) → waiting rules kept ≡ false
@@ -52,7 +37,7 @@ small-byte : (rules : Rules) (kept : Kept) (b : ℕ) → Small rules kept → wa
 unfolding withInput withByte
 small-byte rules kept b small quiet is =
     let bound = quiet-bound rules kept (small .now) (small .are) quiet in
-    small-settled rules false (kept .bytes ++ (b ∷ [])) (bytes-append (kept .bytes) (b ∷ []) (small .are) (bytes-one b is)) (simp length-append (omega arith))
+    small-settled rules false (kept .bytes ++ (b ∷ [])) (bytes-append (kept .bytes) (b ∷ []) (small .are) (bytes-cons b [] is bytes-nil)) (simp length-append (omega arith))
 
 small-mark : (rules : Rules) (kept : Kept) → Small rules kept → Small rules (withInput rules kept mark)
 unfolding withInput withMark

@@ -1,8 +1,8 @@
 -- Demand 3 over one stretch: damage that begins no good frame costs none of those behind it.
 use mathlib.Core.Path.{_≡_, refl, sym, ap, ap₂, _∙_}
-use mathlib.Core.Bool.{Bool, true, false}
+use mathlib.Core.Bool.{Bool, true, false, not, _&&_}
 use mathlib.Core.List.{List, [], _∷_, _++_, map, append-assoc, append-nil}
-use Prim.Native.Nat.{ℕ, suc, _+_, _≤_, _<_}
+use Prim.Native.Nat.{ℕ, zero, suc, _+_, _≤_, _<_}
 use native.Mathlib.Nat.{le-refl}
 use native.Mathlib.Omega.{arith}
 use lib.ListN.{length, getD, take, drop, length-append}
@@ -63,6 +63,31 @@ cut-waits rules tail cut = go (isWait (look rules false tail)) refl
         let long : length tail + length (cut .rest) ≡ length (rules .header) + suc (length body) = simp length-append at (ap length whole) in
         let inside : length tail ≡ length (rules .header) + suc (length body + length (begun .rest)) = ap length (begun .parts) ∙ simp length-append in
         absurd (omega (arith, cut .missing))
+
+-- the premise as a test that computes: no place of the damage is accepted
+unfoldable pub isAccepted : Seen → Bool
+isAccepted pass = false
+isAccepted wait = false
+isAccepted (bad body) = false
+isAccepted (accepted body) = true
+
+unfoldable pub noneAccepted : Rules → List ℕ → List ℕ → Bool
+noneAccepted rules [] come = true
+noneAccepted rules (x ∷ damage) come = not (isAccepted (look rules true (x ∷ (damage ++ come)))) && noneAccepted rules damage come
+
+both : (a b : Bool) → (not a && b) ≡ true → (a ≡ false) × (b ≡ true)
+both true b t = true-is-not-false (sym t)
+both false b t = (refl, t)
+
+pub tested-begins-none : (rules : Rules) (damage come : List ℕ) → noneAccepted rules damage come ≡ true → BeginsNone rules damage come
+unfolding noneAccepted isAccepted
+tested-begins-none rules [] come tested p inside frame rest is good = absurd (omega arith)
+tested-begins-none rules (x ∷ damage) come tested zero inside frame rest is good =
+    let here = both (isAccepted (look rules true (x ∷ (damage ++ come)))) (noneAccepted rules damage come) tested .0 in
+    true-is-not-false (sym (ap isAccepted (ap (look rules true) is ∙ good-accepted rules true frame rest good)) ∙ here)
+tested-begins-none rules (x ∷ damage) come tested (suc p) inside frame rest is good =
+    let later = both (isAccepted (look rules true (x ∷ (damage ++ come)))) (noneAccepted rules damage come) tested .1 in
+    tested-begins-none rules damage come later p (omega arith) frame rest is good
 
 -- where so many bytes have come, no place before them waits
 abbrev Decided : Rules → Bool → List ℕ → Type 0

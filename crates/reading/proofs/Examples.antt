@@ -1,18 +1,21 @@
 -- 01, "Proved examples" e, and small cases of the reading, by computation.
 use mathlib.Core.Path.{_≡_, refl}
-use mathlib.Core.Bool.{true, false}
+use mathlib.Core.Bool.{Bool, true, false}
 use mathlib.Core.List.{List, [], _∷_, _++_, map}
-use Prim.Native.Nat.{ℕ, _≤_, _<_}
+use Prim.Native.Nat.{ℕ, zero, suc, _≤_, _<_}
 use native.Mathlib.Omega.{arith}
 use borrow.Author.Tests.{lt-ltb}
-use lib.ListN.{length}
+use lib.Dec.{lit≤}
+use lib.ListN.{length, replicate}
 use Rattle.check_value.specs.CheckValue.{polynomial, bitStep, bitSteps, byteStep, checkFrom, checkValue}
 use Rattle.frame.specs.Frame.{checkLength, leastLength, contentOf, rightCheck}
 use Rattle.reading.specs.Place.{Rules, Seen, pass, wait, Report, badCheck, acceptedFrame, cutShort, judged, afterHeader, behind, look, reportOf, goneBy, isWait}
 use Rattle.reading.specs.Stretch.{Placed, placedAt, readFrom, reading, reportsFrom, reports, heldFrom, heldOf}
 use Rattle.reading.specs.Line.{Input, byte, mark, lineFrom, lineReports}
-use Rattle.reading.specs.Demand3.{checked}
+use Rattle.reading.specs.Demand3.{Good, GoodFrames, none, next, joined, Cut, acceptedOf, reportOfFrame, checked}
+use Rattle.reading.proofs.ByteLists.{allBytes, tested-bytes}
 use Rattle.reading.proofs.Course.{reports-stays}
+use Rattle.reading.proofs.Damage.{isAccepted, noneAccepted, tested-begins-none, open-accepts}
 
 -- 004's frame
 abbrev frame : List ℕ
@@ -57,3 +60,23 @@ unfolding look behind afterHeader leastLength checkLength cutShort isWait
 no-fewer come few =
     let short : length come < 0xFF = omega arith in
     reports-stays (checked 0xFF 0xFF) false (0xFF ∷ 0xFF ∷ 0xFF ∷ come) (rw (lt-ltb (length come) 0xFF short))
+
+frame-good : Good (checked 0x5A 0xA5) frame
+unfolding leastLength checkLength rightCheck checkValue checkFrom byteStep bitSteps bitStep polynomial
+frame-good = record { body = 0x81 ∷ 0x00 ∷ 0x01 ∷ 0xE0 ∷ 0x28 ∷ []; whole = refl; least = omega arith; most = omega arith; right = refl }
+
+copies-good : (n : ℕ) → GoodFrames (checked 0x5A 0xA5) (replicate n frame)
+copies-good zero = none
+copies-good (suc n) = next frame-good (copies-good n)
+
+nothing-cut : Cut (checked 0x5A 0xA5) []
+nothing-cut = record { frame = frame; good = frame-good; rest = frame; parts = refl; missing = omega arith }
+
+-- demand 3 at work: its premise holds of 5A A5 40 and 33 of these frames, 264 bytes, so all 33 are accepted on a line still open
+pub noise-costs-none : acceptedOf (reports (checked 0x5A 0xA5) false ((0x5A ∷ 0xA5 ∷ 0x40 ∷ []) ++ (joined (replicate 33 frame) ++ [])))
+    ≡ map (reportOfFrame (checked 0x5A 0xA5)) (replicate 33 frame)
+unfolding joined noneAccepted isAccepted allBytes look behind afterHeader judged cutShort leastLength checkLength rightCheck checkValue checkFrom byteStep bitSteps bitStep polynomial
+noise-costs-none =
+    open-accepts (checked 0x5A 0xA5) (0x5A ∷ 0xA5 ∷ 0x40 ∷ []) (replicate 33 frame) [] (copies-good 33) nothing-cut
+    (tested-bytes ((0x5A ∷ 0xA5 ∷ 0x40 ∷ []) ++ (joined (replicate 33 frame) ++ [])) refl) (lit≤ tt)
+    (tested-begins-none (checked 0x5A 0xA5) (0x5A ∷ 0xA5 ∷ 0x40 ∷ []) (joined (replicate 33 frame) ++ []) refl)

@@ -1,4 +1,5 @@
 pub mod Stable
+pub mod ByteLists
 pub mod Waiting
 pub mod Accepting
 pub mod Course
@@ -9,6 +10,7 @@ pub mod Damage
 pub mod Lines
 pub mod Moves
 pub mod Run
+pub mod Asking
 pub mod AfterMark
 pub mod Bounded
 pub mod Demand3

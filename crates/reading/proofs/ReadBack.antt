@@ -1,7 +1,7 @@
 -- 01, "Frame": "Its frame alone, under that header and choice, reads back as one accepted report."
 use mathlib.Core.Path.{_≡_, refl, sym, ap, ap₂, _∙_}
 use mathlib.Core.Bool.{Bool, true, false}
-use mathlib.Core.List.{List, [], _∷_, _++_, append-assoc, append-nil}
+use mathlib.Core.List.{List, [], _∷_, _++_, map, append-assoc, append-nil}
 use Prim.Native.Nat.{ℕ, suc, _+_, _≤_}
 use native.Mathlib.Omega.{arith}
 use lib.ListN.{length, getD, drop, length-append}
@@ -10,8 +10,11 @@ use Rattle.frame.specs.Frame.{checkBytes, lengthByte, enclosed, framed, frameOf
 use Rattle.frame.proofs.GoodFrames.{frameOf-good, content-of-body}
 use Rattle.reading.specs.Place.{Rules, Seen, accepted, Report, acceptedFrame, look, reportOf, goneBy, isWait}
 use Rattle.reading.specs.Stretch.{reports, heldOf}
+use Rattle.reading.specs.Line.{Input, byte, mark, lineReports}
+use Rattle.reading.specs.Demand3.{reportOfFrame}
 use Rattle.reading.proofs.Accepting.{good-accepted}
 use Rattle.reading.proofs.Course.{GoesOn, reports-nil, held-nil, place-goes-on}
+use Rattle.reading.proofs.Lines.{open-line, closed-line}
 
 module _ (rules : Rules) (closed : Bool) (frame ys : List ℕ) (good : GoodFrame (rules .checking) (rules .header) frame) where
   -- "go to p+3+L": right behind the frame
@@ -38,48 +41,68 @@ body-of checking header frame good =
     ∙ drop-at (header ++ (length body ∷ [])) body (suc (length header)) prefix
     )
 
-module _ (checking : Bool) (header : List ℕ) (command : ℕ) (payload : List ℕ) (within : length payload ≤ mostData checking) where
-  abbrev rules : Rules
-  rules = record { header = header; checking = checking }
+-- the rules of a header and a checking choice
+abbrev pub rulesOf : List ℕ → Bool → Rules
+rulesOf header checking = record { header = header; checking = checking }
 
-  abbrev frame : List ℕ
-  frame = frameOf checking header command payload
+-- the L bytes of the frame for a command and its data
+abbrev pub bodyFor : Bool → ℕ → List ℕ → List ℕ
+bodyFor checking command payload = (command ∷ payload) ++ checkBytes checking (command ∷ payload)
 
-  abbrev body : List ℕ
-  body = (command ∷ payload) ++ checkBytes checking (command ∷ payload)
-
-  body-is : (good : GoodFrame checking header frame) → good .body ≡ body
+module _ (checking : Bool) (header : List ℕ) (command : ℕ) (payload : List ℕ) where
+  body-behind : drop (suc (length header)) (frameOf checking header command payload) ≡ bodyFor checking command payload
   unfolding frameOf framed enclosed
-  body-is good =
+  body-behind =
       let l = lengthByte checking (command ∷ payload) in
       let prefix : length (header ++ (l ∷ [])) ≡ suc (length header) = simp length-append (omega arith) in
-      body-of checking header frame good ∙ drop-at (header ++ (l ∷ [])) body (suc (length header)) prefix
+      drop-at (header ++ (l ∷ [])) (bodyFor checking command payload) (suc (length header)) prefix
 
-  -- at the frame's first byte, whatever follows
-  pub frame-accepted : (closed : Bool) (ys : List ℕ) → look rules closed (frame ++ ys) ≡ accepted body
-  frame-accepted closed ys =
-      let good = frameOf-good checking header command payload within in
-      good-accepted rules closed frame ys good ∙ ap accepted (body-is good)
-
-  frame-report : reportOf rules (accepted body) ≡ acceptedFrame command payload ∷ []
+  frame-report : reportOf (rulesOf header checking) (accepted (bodyFor checking command payload)) ≡ acceptedFrame command payload ∷ []
   unfolding reportOf
   frame-report = rw (content-of-body checking (command ∷ payload))
 
-  -- reading goes on right behind it
-  pub frame-goes-on : (closed : Bool) (ys : List ℕ) → GoesOn rules closed (frame ++ ys) (acceptedFrame command payload ∷ []) ys
-  frame-goes-on closed ys =
-      let good = frameOf-good checking header command payload within in
-      let report : reportOf rules (accepted (good .body)) ≡ acceptedFrame command payload ∷ [] =
-      ap (λ (b : List ℕ). reportOf rules (accepted b)) (body-is good) ∙ frame-report in
-      rw report at (good-goes-on rules closed frame ys good)
+  -- the report of a frame, read off its bytes, is of its command and data
+  pub reportOfFrame-frameOf : reportOfFrame (rulesOf header checking) (frameOf checking header command payload) ≡ acceptedFrame command payload
+  unfolding reportOfFrame
+  reportOfFrame-frameOf = rw (body-behind, content-of-body checking (command ∷ payload))
 
-  -- demand 2: "What our frame writer writes, our reader reads back as the same command and data", with the line open or closed
-  pub read-back : (closed : Bool) → reports rules closed frame ≡ acceptedFrame command payload ∷ []
-  read-back closed =
-      ap (reports rules closed) (sym (append-nil frame))
-      ∙ frame-goes-on closed [] .reported
-      ∙ ap (λ (r : List Report). acceptedFrame command payload ∷ r) (reports-nil rules closed)
+  module _ (within : length payload ≤ mostData checking) where
+    body-is : frameOf-good checking header command payload within .body ≡ bodyFor checking command payload
+    body-is = body-of checking header (frameOf checking header command payload) (frameOf-good checking header command payload within) ∙ body-behind
 
-  pub read-back-holds-nothing : heldOf rules frame ≡ []
-  unfolding heldOf
-  read-back-holds-nothing = ap (heldOf rules) (sym (append-nil frame)) ∙ frame-goes-on false [] .left ∙ held-nil rules false
+    -- at the frame's first byte, whatever follows
+    pub frame-accepted : (closed : Bool) (ys : List ℕ)
+        → look (rulesOf header checking) closed (frameOf checking header command payload ++ ys) ≡ accepted (bodyFor checking command payload)
+    frame-accepted closed ys =
+        good-accepted (rulesOf header checking) closed (frameOf checking header command payload) ys (frameOf-good checking header command payload within)
+        ∙ ap accepted body-is
+
+    -- it is reported, and reading goes on right behind it
+    pub frame-goes-on : (closed : Bool) (ys : List ℕ)
+        → GoesOn (rulesOf header checking) closed (frameOf checking header command payload ++ ys) (acceptedFrame command payload ∷ []) ys
+    frame-goes-on closed ys =
+        let good = frameOf-good checking header command payload within in
+        let report = ap (λ (b : List ℕ). reportOf (rulesOf header checking) (accepted b)) body-is ∙ frame-report in
+        rw report at (good-goes-on (rulesOf header checking) closed (frameOf checking header command payload) ys good)
+
+    -- demand 2: "What our frame writer writes, our reader reads back as the same command and data", with the stretch open or closed
+    pub read-back : (closed : Bool) → reports (rulesOf header checking) closed (frameOf checking header command payload) ≡ acceptedFrame command payload ∷ []
+    read-back closed =
+        ap (reports (rulesOf header checking) closed) (sym (append-nil (frameOf checking header command payload)))
+        ∙ frame-goes-on closed [] .reported
+        ∙ ap (λ (r : List Report). acceptedFrame command payload ∷ r) (reports-nil (rulesOf header checking) closed)
+
+    pub read-back-holds-nothing : heldOf (rulesOf header checking) (frameOf checking header command payload) ≡ []
+    unfolding heldOf
+    read-back-holds-nothing =
+        ap (heldOf (rulesOf header checking)) (sym (append-nil (frameOf checking header command payload)))
+        ∙ frame-goes-on false [] .left
+        ∙ held-nil (rulesOf header checking) false
+
+    -- "alone": on a line of its bytes and nothing else, and with a mark behind
+    pub read-back-line : lineReports (rulesOf header checking) (map byte (frameOf checking header command payload)) ≡ acceptedFrame command payload ∷ []
+    read-back-line = open-line (rulesOf header checking) (frameOf checking header command payload) ∙ read-back false
+
+    pub read-back-mark : lineReports (rulesOf header checking) (map byte (frameOf checking header command payload) ++ (mark ∷ []))
+        ≡ acceptedFrame command payload ∷ []
+    read-back-mark = closed-line (rulesOf header checking) (frameOf checking header command payload) ∙ read-back true
