@@ -2,15 +2,15 @@
 use mathlib.Core.Path.{_≡_, refl, sym, ap, _∙_}
 use mathlib.Core.Bool.{Bool, true, false, cond}
 use mathlib.Core.List.{List, [], _∷_, _++_, append-assoc}
-use Prim.Native.Nat.{ℕ, suc, _+_, _≤_, _<_}
+use Prim.Native.Nat.{ℕ, _≤_}
 use native.Mathlib.Omega.{arith}
 use borrow.Author.Tests.{ltb-false, le-ltb, eqb-true, eq-eqb}
 use lib.Dec.{eqb, ltb}
-use lib.ListN.{length, getD, take, drop, length-append, length-drop, take-append-drop}
+use lib.ListN.{length, getD, take, drop, length-append, take-append-drop}
 use lib.Seq.{take-append-seam, getD-append-seam, length-take-le}
 use Rattle.wire.specs.Bytes.{Bytes}
 use Rattle.frame.specs.Frame.{leastLength, rightCheck, GoodFrame}
-use Rattle.reading.specs.Place.{Rules, Seen, pass, wait, bad, accepted, cutShort, judged, afterHeader, behind, look, isWait, goneBy}
+use Rattle.reading.specs.Place.{Rules, pass, bad, accepted, cutShort, judged, afterHeader, behind, look}
 use Rattle.reading.proofs.Stable.{never}
 
 judged-right : (checking : Bool) (body : List ℕ) → rightCheck checking body ≡ true → judged checking body ≡ accepted body

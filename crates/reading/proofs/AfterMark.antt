@@ -1,19 +1,18 @@
 -- Demand 3: "After a quiet mark and its reports, with checking on or off, reading goes on as from a new panel, and no premise is needed."
 use mathlib.Core.Path.{_≡_, refl, sym, ap, _∙_}
-use mathlib.Core.Bool.{Bool, true, false, cond}
+use mathlib.Core.Bool.{Bool, true, false}
 use mathlib.Core.List.{List, [], _∷_, _++_}
-use Prim.Native.Nat.{ℕ, zero, suc, _≤_, _<_}
-use native.Mathlib.Omega.{arith}
-use lib.ListN.{length, drop, length-drop}
-use Rattle.reading.specs.Place.{Rules, Seen, Report, look, goneBy}
+use Prim.Native.Nat.{ℕ, zero, suc, _≤_}
+use lib.ListN.{length, drop}
+use Rattle.reading.specs.Place.{Rules, look, goneBy}
 use Rattle.reading.specs.Stretch.{reports}
-use Rattle.reading.specs.Line.{Input, byte, mark, lineReports}
-use Rattle.reading.specs.Moves.{Kept, fresh, passes, stillClosed, settled, isReport, waiting, withMark, handed, afterReport}
-use Rattle.reading.specs.Run.{Event, offer, ask, Ran, followed, run, lineHeld, asks}
+use Rattle.reading.specs.Line.{Input, mark}
+use Rattle.reading.specs.Moves.{Kept, fresh, passes, stillClosed, settled, waiting, withMark, afterReport}
+use Rattle.reading.specs.Run.{Event, followed, run, lineHeld, asks}
 use Rattle.reading.proofs.Stable.{true-is-not-false}
 use Rattle.reading.proofs.Course.{reports-nil}
 use Rattle.reading.proofs.Lines.{held-behind-mark}
-use Rattle.reading.proofs.Moves.{Settled, quiet-nil, settled-settled, nothing-changes, no-reports-quiet, settled-reports, settled-shorter, report-settles, report-shorter}
+use Rattle.reading.proofs.Moves.{quiet-nil, settled-settled, nothing-changes, no-reports-quiet, settled-reports, settled-shorter, report-settles}
 use Rattle.reading.proofs.Run.{run-append, kept-is-held}
 use Rattle.reading.proofs.Asking.{asks-end}
 

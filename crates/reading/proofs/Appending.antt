@@ -1,9 +1,9 @@
 -- Reading on: what was read stands, and reading goes on from the bytes held.
-use mathlib.Core.Path.{_≡_, refl, sym, ap, ap₂, _∙_}
+use mathlib.Core.Path.{_≡_, sym, ap, _∙_}
 use mathlib.Core.Bool.{Bool, true, false}
-use mathlib.Core.List.{List, [], _∷_, _++_, append-assoc, append-nil}
-use Prim.Native.Nat.{ℕ, suc, _≤_}
-use lib.ListN.{length, drop}
+use mathlib.Core.List.{List, [], _++_, append-assoc, append-nil}
+use Prim.Native.Nat.{ℕ, suc}
+use lib.ListN.{drop}
 use lib.Seq.{drop-append-le}
 use Rattle.reading.specs.Place.{Rules, Seen, Report, look, reportOf, goneBy, isWait}
 use Rattle.reading.specs.Stretch.{reports, heldFrom, heldOf}

@@ -1,6 +1,6 @@
 -- 01, "Reading the line": "reports are then asked for one at a time until the answer is 'nothing'": it comes, and so every line can be given.
-use mathlib.Core.Path.{_≡_, refl, sym, ap, _∙_}
-use mathlib.Core.Bool.{Bool, true, false, cond}
+use mathlib.Core.Path.{_≡_, refl, ap, _∙_}
+use mathlib.Core.Bool.{Bool, true, false}
 use mathlib.Core.List.{List, [], _∷_, _++_}
 use Prim.Native.Nat.{ℕ, zero, suc, _≤_, _<_}
 use native.Mathlib.Nat.{le-refl}
@@ -8,9 +8,9 @@ use native.Mathlib.Omega.{arith}
 use lib.ListN.{length}
 use Rattle.reading.specs.Place.{Rules}
 use Rattle.reading.specs.Line.{Input}
-use Rattle.reading.specs.Moves.{Kept, fresh, waiting, handed, afterReport}
-use Rattle.reading.specs.Run.{Event, offer, ask, Ran, giving, followed, withInput, run, asks}
-use Rattle.reading.proofs.Moves.{quiet-nil, nothing-changes, report-shorter}
+use Rattle.reading.specs.Moves.{Kept, waiting, afterReport}
+use Rattle.reading.specs.Run.{Event, offer, Ran, giving, followed, withInput, run, asks}
+use Rattle.reading.proofs.Moves.{nothing-changes, report-shorter}
 use Rattle.reading.proofs.Run.{run-append}
 
 still-quiet : (rules : Rules) (n : ℕ) (kept : Kept) → waiting rules kept ≡ false → run rules kept (asks n) .kept ≡ kept

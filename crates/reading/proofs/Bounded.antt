@@ -1,18 +1,18 @@
 -- 01, "Frame": "a frame has 3 + L bytes, at most 258": so at most 257 are held while nothing waits, and never more than 258 are kept.
-use mathlib.Core.Path.{_≡_, refl, sym, ap, _∙_}
+use mathlib.Core.Path.{_≡_, refl}
 use mathlib.Core.Bool.{Bool, true, false, cond}
 use mathlib.Core.List.{List, [], _∷_, _++_}
-use Prim.Native.Nat.{ℕ, zero, suc, _+_, _-_, _≤_, _<_}
+use Prim.Native.Nat.{ℕ, suc, _+_, _≤_, _<_}
 use native.Mathlib.Omega.{arith}
-use lib.ListN.{length, getD, drop, length-append, length-drop}
+use lib.ListN.{length, drop, length-append, length-drop}
 use Rattle.wire.specs.Bytes.{Bytes}
-use Rattle.reading.specs.Place.{Rules, look, goneBy, isWait}
-use Rattle.reading.specs.Line.{Input, byte, mark}
-use Rattle.reading.specs.Moves.{Kept, fresh, passes, settled, isReport, waiting, withByte, withMark, afterReport}
-use Rattle.reading.specs.Run.{Event, offer, ask, Ran, giving, withInput, run, offered}
+use Rattle.reading.specs.Place.{Rules, look, goneBy}
+use Rattle.reading.specs.Line.{byte, mark}
+use Rattle.reading.specs.Moves.{Kept, fresh, passes, settled, waiting, withByte, withMark, afterReport}
+use Rattle.reading.specs.Run.{Event, offer, ask, giving, withInput, run, offered}
 use Rattle.reading.proofs.ByteLists.{bytes-nil, bytes-cons, bytes-append, bytes-drop}
 use Rattle.reading.proofs.Waiting.{waits-short}
-use Rattle.reading.proofs.Moves.{Settled, fresh-settled, settled-settled, settled-shorter, input-settled, report-settled, report-settles, report-shorter, nothing-changes}
+use Rattle.reading.proofs.Moves.{Settled, fresh-settled, settled-settled, settled-shorter, report-settles, nothing-changes}
 
 -- while no report waits: one byte less than the longest frame has
 pub quiet-bound : (rules : Rules) (kept : Kept) → Settled rules kept → Bytes (kept .bytes) → waiting rules kept ≡ false

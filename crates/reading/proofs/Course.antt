@@ -1,15 +1,15 @@
 -- The course of a reading, from place to place: laws of `reports` and of what is held, by which nobody else opens them.
 use mathlib.Core.Path.{_≡_, refl, sym, ap, _∙_}
-use mathlib.Core.Bool.{Bool, true, false, cond}
+use mathlib.Core.Bool.{Bool, true, false}
 use mathlib.Core.List.{List, [], _∷_, _++_, append-assoc}
-use Prim.Native.Nat.{ℕ, zero, suc, _+_, _≤_, _<_}
+use Prim.Native.Nat.{ℕ, zero, suc, _+_, _≤_}
 use native.Mathlib.Omega.{arith}
 use lib.ListN.{length, drop, length-append}
 use Rattle.reading.specs.Place.{Rules, Seen, pass, wait, bad, accepted, Report, cutShort, look, reportOf, goneBy, isWait}
-use Rattle.reading.specs.Stretch.{reportsFrom, reports, heldFrom, heldOf}
+use Rattle.reading.specs.Stretch.{reportsFrom, reports, heldFrom}
 use Rattle.reading.proofs.Stable.{true-is-not-false}
 use Rattle.reading.proofs.Waiting.{look-nil}
-use Rattle.reading.proofs.Accepting.{Begun, accepted-begun}
+use Rattle.reading.proofs.Accepting.{accepted-begun}
 
 -- reading xs gives these reports and goes on at ys: what is reported, and what is held in the end
 pub record GoesOn (rules : Rules) (closed : Bool) (xs : List ℕ) (these : List Report) (ys : List ℕ) : Type 0 where

@@ -1,19 +1,17 @@
 -- Demand 3 over one stretch: damage that begins no good frame costs none of those behind it.
-use mathlib.Core.Path.{_≡_, refl, sym, ap, ap₂, _∙_}
+use mathlib.Core.Path.{_≡_, refl, sym, ap, _∙_}
 use mathlib.Core.Bool.{Bool, true, false, not, _&&_}
 use mathlib.Core.List.{List, [], _∷_, _++_, map, append-assoc, append-nil}
 use Prim.Native.Nat.{ℕ, zero, suc, _+_, _≤_, _<_}
-use native.Mathlib.Nat.{le-refl}
 use native.Mathlib.Omega.{arith}
-use lib.ListN.{length, getD, take, drop, length-append}
+use lib.ListN.{length, getD, length-append}
 use Rattle.wire.specs.Bytes.{Bytes}
-use Rattle.frame.specs.Frame.{frameOf, mostData, GoodFrame}
 use Rattle.reading.specs.Place.{Rules, Seen, pass, wait, bad, accepted, Report, badCheck, acceptedFrame, look, reportOf, goneBy, isWait}
-use Rattle.reading.specs.Stretch.{reports, heldFrom, heldOf}
+use Rattle.reading.specs.Stretch.{reports, heldOf}
 use Rattle.reading.specs.Demand3.{Good, GoodFrames, none, next, joined, Cut, BeginsNone, acceptedOf, reportOfFrame}
-use Rattle.reading.proofs.Stable.{stable, never, true-is-not-false}
+use Rattle.reading.proofs.Stable.{stable, true-is-not-false}
 use Rattle.reading.proofs.Waiting.{closed-goes-on, long-goes-on}
-use Rattle.reading.proofs.Accepting.{good-accepted, Begun, accepted-begun, accepted-good}
+use Rattle.reading.proofs.Accepting.{good-accepted, accepted-begun, accepted-good}
 use Rattle.reading.proofs.Course.{GoesOn, reports-nil, reports-stays, held-stays, place-goes-on, stays-here, goes-further}
 use Rattle.reading.proofs.ReadBack.{body-of, good-goes-on}
 

@@ -2,14 +2,13 @@
 -- place in the damage begins a run of bytes, in it or reaching past it, that is itself a good frame, then once 257 bytes have followed the damage
 -- on a line still open, or a quiet mark has come right behind a whole good frame, and all reports are asked for, the frames accepted are exactly
 -- those good frames that had come whole, in order."
-use mathlib.Core.Path.{_≡_, refl, sym, ap, _∙_}
-use mathlib.Core.Bool.{Bool, true, false}
+use mathlib.Core.Path.{_≡_, sym, ap, _∙_}
+use mathlib.Core.Bool.{false}
 use mathlib.Core.List.{List, [], _∷_, _++_, map}
 use Prim.Native.Nat.{ℕ, _+_, _≤_}
 use lib.ListN.{length}
 use Rattle.wire.specs.Bytes.{Bytes}
-use Rattle.reading.specs.Place.{Rules, Report}
-use Rattle.reading.specs.Stretch.{reports}
+use Rattle.reading.specs.Place.{Rules}
 use Rattle.reading.specs.Line.{Input, byte, mark, lineReports}
 use Rattle.reading.specs.Moves.{Kept, fresh, waiting}
 use Rattle.reading.specs.Run.{Event, Ran, run}

@@ -1,6 +1,6 @@
 -- 01, "Proved examples" e, and small cases of the reading, by computation.
 use mathlib.Core.Path.{_≡_, refl}
-use mathlib.Core.Bool.{Bool, true, false}
+use mathlib.Core.Bool.{false}
 use mathlib.Core.List.{List, [], _∷_, _++_, map}
 use Prim.Native.Nat.{ℕ, zero, suc, _≤_, _<_}
 use native.Mathlib.Omega.{arith}
@@ -9,9 +9,9 @@ use lib.Dec.{lit≤}
 use lib.ListN.{length, replicate}
 use Rattle.check_value.specs.CheckValue.{polynomial, bitStep, bitSteps, byteStep, checkFrom, checkValue}
 use Rattle.frame.specs.Frame.{checkLength, leastLength, contentOf, rightCheck}
-use Rattle.reading.specs.Place.{Rules, Seen, pass, wait, Report, badCheck, acceptedFrame, cutShort, judged, afterHeader, behind, look, reportOf, goneBy, isWait}
-use Rattle.reading.specs.Stretch.{Placed, placedAt, readFrom, reading, reportsFrom, reports, heldFrom, heldOf}
-use Rattle.reading.specs.Line.{Input, byte, mark, lineFrom, lineReports}
+use Rattle.reading.specs.Place.{Report, badCheck, acceptedFrame, cutShort, judged, afterHeader, behind, look, reportOf, goneBy, isWait}
+use Rattle.reading.specs.Stretch.{placedAt, readFrom, reading, reportsFrom, reports, heldFrom, heldOf}
+use Rattle.reading.specs.Line.{byte, mark, lineFrom, lineReports}
 use Rattle.reading.specs.Demand3.{Good, GoodFrames, none, next, joined, Cut, acceptedOf, reportOfFrame, checked}
 use Rattle.reading.proofs.ByteLists.{allBytes, tested-bytes}
 use Rattle.reading.proofs.Course.{reports-stays}

@@ -1,13 +1,13 @@
 -- Laws of the moves: each keeps the reading of the line, and what is kept is settled.
-use mathlib.Core.Path.{_≡_, refl, sym, ap, ap₂, _∙_}
+use mathlib.Core.Path.{_≡_, refl, sym, ap, _∙_}
 use mathlib.Core.Bool.{Bool, true, false, cond}
 use mathlib.Core.List.{List, [], _∷_, _++_, append-assoc}
-use Prim.Native.Nat.{ℕ, zero, suc, _-_, _≤_, _<_}
+use Prim.Native.Nat.{ℕ, suc, _≤_, _<_}
 use native.Mathlib.Omega.{arith}
 use lib.ListN.{length, drop, length-drop}
 use Rattle.reading.specs.Place.{Rules, Seen, pass, wait, bad, accepted, Report, cutShort, look, reportOf, goneBy, isWait}
-use Rattle.reading.specs.Stretch.{reports, heldFrom, heldOf}
-use Rattle.reading.specs.Line.{Input, byte, mark, lineFrom, lineReports}
+use Rattle.reading.specs.Stretch.{reports, heldOf}
+use Rattle.reading.specs.Line.{Input, byte, mark, lineFrom}
 use Rattle.reading.specs.Moves.{Kept, fresh, isPass, passes, stillClosed, settled, isReport, waiting, withByte, withMark, handed, afterReport}
 use Rattle.reading.specs.Run.{withInput, closing, readOn, openFrom, heldOn}
 use Rattle.reading.proofs.Stable.{never, true-is-not-false}

@@ -1,16 +1,16 @@
 -- 01, "Frame": "Its frame alone, under that header and choice, reads back as one accepted report."
-use mathlib.Core.Path.{_≡_, refl, sym, ap, ap₂, _∙_}
+use mathlib.Core.Path.{_≡_, refl, sym, ap, _∙_}
 use mathlib.Core.Bool.{Bool, true, false}
 use mathlib.Core.List.{List, [], _∷_, _++_, map, append-assoc, append-nil}
 use Prim.Native.Nat.{ℕ, suc, _+_, _≤_}
 use native.Mathlib.Omega.{arith}
-use lib.ListN.{length, getD, drop, length-append}
+use lib.ListN.{length, drop, length-append}
 use lib.Seq.{drop-at}
-use Rattle.frame.specs.Frame.{checkBytes, lengthByte, enclosed, framed, frameOf, mostData, contentOf, GoodFrame}
+use Rattle.frame.specs.Frame.{checkBytes, lengthByte, enclosed, framed, frameOf, mostData, GoodFrame}
 use Rattle.frame.proofs.GoodFrames.{frameOf-good, content-of-body}
-use Rattle.reading.specs.Place.{Rules, Seen, accepted, Report, acceptedFrame, look, reportOf, goneBy, isWait}
+use Rattle.reading.specs.Place.{Rules, accepted, Report, acceptedFrame, look, reportOf, goneBy, isWait}
 use Rattle.reading.specs.Stretch.{reports, heldOf}
-use Rattle.reading.specs.Line.{Input, byte, mark, lineReports}
+use Rattle.reading.specs.Line.{byte, mark, lineReports}
 use Rattle.reading.specs.Demand3.{reportOfFrame}
 use Rattle.reading.proofs.Accepting.{good-accepted}
 use Rattle.reading.proofs.Course.{GoesOn, reports-nil, held-nil, place-goes-on}

@@ -1,13 +1,12 @@
 -- 01, "Reading the line": "The reports asked for, in order, are those of the reading of all that was given", however inputs and asks are mixed.
-use mathlib.Core.Path.{_≡_, refl, sym, ap, ap₂, _∙_}
+use mathlib.Core.Path.{_≡_, refl, sym, ap, _∙_}
 use mathlib.Core.Bool.{Bool, true, false, cond}
 use mathlib.Core.List.{List, [], _∷_, _++_, append-assoc, append-nil, append-cancel-left}
-use Prim.Native.Nat.{ℕ}
 use Rattle.reading.specs.Place.{Rules, Report}
-use Rattle.reading.specs.Stretch.{reports, heldOf}
-use Rattle.reading.specs.Line.{Input, byte, mark, lineFrom, lineReports}
+use Rattle.reading.specs.Stretch.{reports}
+use Rattle.reading.specs.Line.{Input, lineFrom, lineReports}
 use Rattle.reading.specs.Moves.{Kept, fresh, waiting, handed, afterReport}
-use Rattle.reading.specs.Run.{Event, offer, ask, Ran, giving, handing, followed, withInput, run, closing, readOn, openFrom, heldOn, lineHeld}
+use Rattle.reading.specs.Run.{Event, offer, ask, Ran, giving, handing, followed, withInput, run, closing, readOn, heldOn, lineHeld}
 use Rattle.reading.proofs.Course.{reports-nil}
 use Rattle.reading.proofs.Moves.{Settled, Onward, stays-kept, onward-then, fresh-settled, input-settled, input-onward, report-settled, report-onward, handed-nothing, no-reports-quiet, quiet-no-report, quiet-holds}
 

@@ -2,14 +2,14 @@
 use mathlib.Core.Path.{_≡_, refl, sym, ap, _∙_}
 use mathlib.Core.Bool.{Bool, true, false, cond}
 use mathlib.Core.List.{List, [], _∷_, _++_, append-nil}
-use Prim.Native.Nat.{ℕ, _+_, _≤_, _<_}
+use Prim.Native.Nat.{ℕ, _≤_}
 use native.Mathlib.Omega.{arith}
 use borrow.Author.Tests.{ltb-false, le-ltb}
 use lib.Dec.{eqb, ltb}
 use lib.ListN.{length, take, length-append}
 use lib.Seq.{take-append-le}
 use Rattle.frame.specs.Frame.{leastLength}
-use Rattle.reading.specs.Place.{Rules, Seen, pass, wait, bad, accepted, cutShort, judged, afterHeader, behind, look, isWait}
+use Rattle.reading.specs.Place.{Rules, pass, wait, cutShort, judged, afterHeader, behind, look, isWait}
 
 -- what a false equation of two answers proves
 pub never : {A : Type 0} → _≡_ {A = ℕ} 0 1 → A

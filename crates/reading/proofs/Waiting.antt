@@ -1,7 +1,7 @@
 -- Where reading waits: never in a closed stretch, and with few bytes only.
-use mathlib.Core.Path.{_≡_, refl, sym, ap, _∙_}
+use mathlib.Core.Path.{_≡_, refl, sym, _∙_}
 use mathlib.Core.Bool.{Bool, true, false, cond}
-use mathlib.Core.List.{List, [], _∷_, _++_}
+use mathlib.Core.List.{List, [], _∷_}
 use Prim.Native.Nat.{ℕ, suc, _+_, _≤_, _<_}
 use native.Mathlib.Omega.{arith}
 use borrow.Author.Tests.{ltb-true}
@@ -9,7 +9,7 @@ use lib.Dec.{eqb, ltb}
 use lib.ListN.{length, take}
 use Rattle.wire.specs.Bytes.{Bytes}
 use Rattle.frame.specs.Frame.{leastLength, rightCheck}
-use Rattle.reading.specs.Place.{Rules, Seen, pass, wait, bad, accepted, cutShort, judged, afterHeader, behind, look, isWait}
+use Rattle.reading.specs.Place.{Rules, pass, wait, bad, accepted, cutShort, judged, afterHeader, behind, look, isWait}
 use Rattle.reading.proofs.Stable.{true-is-not-false}
 
 -- where there is no byte
