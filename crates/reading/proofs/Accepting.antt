@@ -46,6 +46,11 @@ pub record Begun (checking : Bool) (header xs body : List ℕ) : Type 0 where
   pub least : leastLength checking ≤ length body
   pub right : rightCheck checking body ≡ true
 
+cut-short-accepts-none : {A : Type 0} (closed : Bool) (body : List ℕ) → cutShort closed ≡ accepted body → A
+unfolding cutShort
+cut-short-accepts-none false body is = never cc
+cut-short-accepts-none true body is = never cc
+
 judged-accepted : (checking : Bool) (body body′ : List ℕ) → judged checking body ≡ accepted body′ → (rightCheck checking body ≡ true) × (body ≡ body′)
 unfolding judged
 judged-accepted checking body body′ is = go (rightCheck checking body) refl is
@@ -56,21 +61,13 @@ judged-accepted checking body body′ is = go (rightCheck checking body) refl is
 
 afterHeader-accepted : (checking closed : Bool) (xs body : List ℕ) → afterHeader checking closed xs ≡ accepted body → Begun checking [] xs body
 unfolding afterHeader
-afterHeader-accepted checking closed [] body is = short closed is
-  where
-    short : (closed : Bool) → cutShort closed ≡ accepted body → Begun checking [] [] body
-    short false is = never (unfold cutShort in cc)
-    short true is = never (unfold cutShort in cc)
+afterHeader-accepted checking closed [] body is = cut-short-accepts-none closed body is
 afterHeader-accepted checking closed (l ∷ xs) body is = go (ltb l (leastLength checking)) (ltb (length xs) l) refl refl is
   where
-    short : (closed : Bool) → cutShort closed ≡ accepted body → Begun checking [] (l ∷ xs) body
-    short false is = never (unfold cutShort in cc)
-    short true is = never (unfold cutShort in cc)
-
     go : (a b : Bool) → ltb l (leastLength checking) ≡ a → ltb (length xs) l ≡ b
         → cond a pass (cond b (cutShort closed) (judged checking (take l xs))) ≡ accepted body → Begun checking [] (l ∷ xs) body
     go true b at-least whole is = never cc
-    go false true at-least whole is = short closed is
+    go false true at-least whole is = cut-short-accepts-none closed body is
     go false false at-least whole is =
         let right = judged-accepted checking (take l xs) body is in
         let same : take l xs ≡ body = right .1 in
@@ -87,11 +84,7 @@ afterHeader-accepted checking closed (l ∷ xs) body is = go (ltb l (leastLength
 behind-accepted : (checking closed : Bool) (header xs body : List ℕ) → behind checking closed header xs ≡ accepted body → Begun checking header xs body
 unfolding behind
 behind-accepted checking closed [] xs body is = afterHeader-accepted checking closed xs body is
-behind-accepted checking closed (h ∷ header) [] body is = short closed is
-  where
-    short : (closed : Bool) → cutShort closed ≡ accepted body → Begun checking (h ∷ header) [] body
-    short false is = never (unfold cutShort in cc)
-    short true is = never (unfold cutShort in cc)
+behind-accepted checking closed (h ∷ header) [] body is = cut-short-accepts-none closed body is
 behind-accepted checking closed (h ∷ header) (x ∷ xs) body is = go (eqb x h) refl (behind-accepted checking closed header xs body) is
   where
     go : (b : Bool) → eqb x h ≡ b → (behind checking closed header xs ≡ accepted body → Begun checking header xs body)

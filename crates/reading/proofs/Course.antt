@@ -111,20 +111,17 @@ module _ (rules : Rules) (closed : Bool) where
   course xs = courseFrom 0 xs
 
 -- an open place that is decided has all the bytes that are gone past
+decided-some : (rules : Rules) (xs : List ℕ) (seen : Seen) → look rules false xs ≡ seen → isWait seen ≡ false → 1 ≤ length xs
+unfolding isWait cutShort
+decided-some rules [] seen is decided = true-is-not-false (sym (ap isWait (look-nil rules false)) ∙ ap isWait is ∙ decided)
+decided-some rules (x ∷ xs) seen is decided = omega arith
+
 pub gone-inside : (rules : Rules) (xs : List ℕ) (seen : Seen) → look rules false xs ≡ seen → isWait seen ≡ false
     → suc (goneBy rules seen) ≤ length xs
 unfolding goneBy isWait
-gone-inside rules xs pass is decided = some xs is
-  where
-    some : (xs : List ℕ) → look rules false xs ≡ pass → 1 ≤ length xs
-    some [] is = true-is-not-false (unfold cutShort in sym (ap isWait (look-nil rules false)) ∙ ap isWait is)
-    some (x ∷ xs) is = omega arith
+gone-inside rules xs pass is decided = decided-some rules xs pass is decided
 gone-inside rules xs wait is decided = true-is-not-false decided
-gone-inside rules xs (bad body) is decided = some xs is
-  where
-    some : (xs : List ℕ) → look rules false xs ≡ bad body → 1 ≤ length xs
-    some [] is = true-is-not-false (unfold cutShort in sym (ap isWait (look-nil rules false)) ∙ ap isWait is)
-    some (x ∷ xs) is = omega arith
+gone-inside rules xs (bad body) is decided = decided-some rules xs (bad body) is decided
 gone-inside rules xs (accepted body) is decided =
     let begun = accepted-begun rules false xs body is in
     let long : length xs ≡ length (rules .header) + suc (length body + length (begun .rest)) =

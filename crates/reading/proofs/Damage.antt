@@ -4,7 +4,8 @@ use mathlib.Core.Bool.{Bool, true, false, not, _&&_}
 use mathlib.Core.List.{List, [], _∷_, _++_, map, append-assoc, append-nil}
 use Prim.Native.Nat.{ℕ, zero, suc, _+_, _≤_, _<_}
 use native.Mathlib.Omega.{arith}
-use lib.ListN.{length, getD, length-append}
+use lib.ListN.{length, getD, take, drop, length-append, length-drop, take-append-drop}
+use lib.Seq.{take-append-le, drop-append-le, take-append-seam}
 use Rattle.wire.specs.Bytes.{Bytes}
 use Rattle.reading.specs.Place.{Rules, Seen, pass, wait, bad, accepted, Report, badCheck, acceptedFrame, look, reportOf, goneBy, isWait}
 use Rattle.reading.specs.Stretch.{reports, heldOf}
@@ -87,18 +88,40 @@ tested-begins-none rules (x ∷ damage) come tested (suc p) inside frame rest is
     let later = both (isAccepted (look rules true (x ∷ (damage ++ come)))) (noneAccepted rules damage come) tested .1 in
     tested-begins-none rules damage come later p (omega arith) frame rest is good
 
+-- a good frame is no longer than the longest
+pub good-length : (rules : Rules) (frame : List ℕ) → Good rules frame → length frame ≤ length (rules .header) + 256
+good-length rules frame good =
+    let long : length frame ≡ length (rules .header) + suc (length (good .body)) = ap length (good .whole) ∙ simp length-append in
+    omega (arith, good .most)
+
+prefix-of : (frame rest xs more : List ℕ) → xs ++ more ≡ frame ++ rest → length frame ≤ length xs → xs ≡ frame ++ drop (length frame) xs
+prefix-of frame rest xs more is long =
+    let n = length frame in
+    let front : take n xs ≡ frame = sym (take-append-le n xs more long) ∙ ap (take n) is ∙ take-append-seam frame rest in
+    sym (take-append-drop n xs) ∙ ap (λ (l : List ℕ). l ++ drop n xs) front
+
+-- the premise is settled once so many bytes have come: what comes later begins no good frame in the damage
+pub begins-none-later : (rules : Rules) (damage come more : List ℕ) → length (rules .header) + 255 ≤ length come → BeginsNone rules damage come
+    → BeginsNone rules damage (come ++ more)
+begins-none-later rules damage come more enough begins-none p inside frame rest is good =
+    let whole = damage ++ come in
+    let here : p ≤ length whole = simp length-append (omega arith) in
+    let parted : drop p whole ++ more ≡ frame ++ rest = sym (drop-append-le p whole more here) ∙ ap (drop p) (append-assoc damage come more) ∙ is in
+    let long : length frame ≤ length (drop p whole) = simp (length-drop, length-append) (omega (arith, good-length rules frame good)) in
+    begins-none p inside frame (drop (length frame) (drop p whole)) (prefix-of frame rest (drop p whole) more parted long) good
+
 -- where so many bytes have come, no place before them waits
-abbrev Decided : Rules → Bool → List ℕ → Type 0
+abbrev pub Decided : Rules → Bool → List ℕ → Type 0
 Decided rules closed come = (xs : List ℕ) → Bytes xs → length come < length xs → isWait (look rules closed xs) ≡ false
 
-module _ (rules : Rules) (closed : Bool) (come : List ℕ) (decided : Decided rules closed come) where
-  -- reading xs goes on at ys with no frame accepted
-  abbrev NoneAccepted : List ℕ → List ℕ → Type 0
-  NoneAccepted xs ys = (these : List Report) × GoesOn rules closed xs these ys × (acceptedOf these ≡ [])
+-- reading xs goes on at ys, with these frames accepted on the way
+abbrev pub Accepts : Rules → Bool → List ℕ → List (List ℕ) → List ℕ → Type 0
+Accepts rules closed xs frames ys = (these : List Report) × GoesOn rules closed xs these ys × (acceptedOf these ≡ map (reportOfFrame rules) frames)
 
+module _ (rules : Rules) (closed : Bool) (come : List ℕ) (decided : Decided rules closed come) where
   -- a place that is decided and begins no good frame: "go to p+1", and no frame accepted
   past-one : (x : ℕ) (xs : List ℕ) (seen : Seen) → look rules closed (x ∷ xs) ≡ seen → isWait seen ≡ false
-      → ((body : List ℕ) → seen ≡ accepted body → ⊥) → NoneAccepted (x ∷ xs) xs
+      → ((body : List ℕ) → seen ≡ accepted body → ⊥) → Accepts rules closed (x ∷ xs) [] xs
   unfolding isWait reportOf goneBy acceptedOf
   past-one x xs pass is decided not = ([], place-goes-on rules closed (x ∷ xs) pass is decided, refl)
   past-one x xs wait is decided not = true-is-not-false decided
@@ -106,7 +129,7 @@ module _ (rules : Rules) (closed : Bool) (come : List ℕ) (decided : Decided ru
   past-one x xs (accepted body) is decided not = absurd (not body refl)
 
   -- reading goes through the damage place by place and arrives at the first byte behind it
-  pub past-damage : (damage : List ℕ) → Bytes (damage ++ come) → BeginsNone rules damage come → NoneAccepted (damage ++ come) come
+  pub past-damage : (damage : List ℕ) → Bytes (damage ++ come) → BeginsNone rules damage come → Accepts rules closed (damage ++ come) [] come
   unfolding acceptedOf
   past-damage [] are begins-none = ([], stays-here rules closed come, refl)
   past-damage (x ∷ damage) are begins-none =
@@ -124,7 +147,7 @@ module _ (rules : Rules) (closed : Bool) (come : List ℕ) (decided : Decided ru
 -- good frames behind the damage, all of them, in order, and then what stands behind the last
 behind-damage : (rules : Rules) (closed : Bool) (damage : List ℕ) (frames : List (List ℕ)) (tail : List ℕ) → GoodFrames rules frames
     → Decided rules closed (joined frames ++ tail) → Bytes (damage ++ (joined frames ++ tail)) → BeginsNone rules damage (joined frames ++ tail)
-    → (these : List Report) × GoesOn rules closed (damage ++ (joined frames ++ tail)) these tail × (acceptedOf these ≡ map (reportOfFrame rules) frames)
+    → Accepts rules closed (damage ++ (joined frames ++ tail)) frames tail
 behind-damage rules closed damage frames tail good decided are begins-none =
     let past = past-damage rules closed (joined frames ++ tail) decided damage are begins-none in
     let reported = map (reportOfFrame rules) frames in (
@@ -135,8 +158,7 @@ behind-damage rules closed damage frames tail good decided are begins-none =
 
 -- where nothing is reported any more
 all-accepted : (rules : Rules) (closed : Bool) (xs : List ℕ) (frames : List (List ℕ)) (tail : List ℕ) → reports rules closed tail ≡ []
-    → (these : List Report) × GoesOn rules closed xs these tail × (acceptedOf these ≡ map (reportOfFrame rules) frames)
-    → acceptedOf (reports rules closed xs) ≡ map (reportOfFrame rules) frames
+    → Accepts rules closed xs frames tail → acceptedOf (reports rules closed xs) ≡ map (reportOfFrame rules) frames
 all-accepted rules closed xs frames tail no-more found =
     ap acceptedOf (found .1 .reported ∙ ap (λ (l : List Report). found .0 ++ l) no-more ∙ append-nil (found .0)) ∙ found .2
 
@@ -145,9 +167,7 @@ all-accepted rules closed xs frames tail no-more found =
 module _ (rules : Rules) (damage : List ℕ) (frames : List (List ℕ)) (tail : List ℕ) (good : GoodFrames rules frames) (cut : Cut rules tail)
     (are : Bytes (damage ++ (joined frames ++ tail))) (enough : length (rules .header) + 255 ≤ length (joined frames ++ tail))
     (begins-none : BeginsNone rules damage (joined frames ++ tail)) where
-  behind-open : (these : List Report)
-      × GoesOn rules false (damage ++ (joined frames ++ tail)) these tail
-      × (acceptedOf these ≡ map (reportOfFrame rules) frames)
+  behind-open : Accepts rules false (damage ++ (joined frames ++ tail)) frames tail
   behind-open = behind-damage rules false damage frames tail good (λ xs b long. long-goes-on rules false xs b (omega arith)) are begins-none
 
   pub open-accepts : acceptedOf (reports rules false (damage ++ (joined frames ++ tail))) ≡ map (reportOfFrame rules) frames
