@@ -12,7 +12,8 @@ use Rattle.reading.specs.Run.{Event, followed, run, lineHeld, asks}
 use Rattle.reading.proofs.Stable.{true-is-not-false}
 use Rattle.reading.proofs.Course.{reports-nil}
 use Rattle.reading.proofs.Lines.{held-behind-mark}
-use Rattle.reading.proofs.Moves.{quiet-nil, settled-settled, nothing-changes, no-reports-quiet, settled-reports, settled-shorter, report-settles}
+use Rattle.reading.proofs.Settling.{quiet-nil, settled-settled, settled-reports, settled-shorter}
+use Rattle.reading.proofs.Moves.{nothing-changes, no-reports-quiet, report-settles}
 use Rattle.reading.proofs.Run.{run-append, kept-is-held}
 use Rattle.reading.proofs.Asking.{asks-end}
 

@@ -12,7 +12,8 @@ use Rattle.reading.specs.Moves.{Kept, fresh, passes, settled, waiting, w
 use Rattle.reading.specs.Run.{Event, offer, ask, giving, withInput, run, offered}
 use Rattle.reading.proofs.ByteLists.{bytes-nil, bytes-cons, bytes-append, bytes-drop}
 use Rattle.reading.proofs.Waiting.{waits-short}
-use Rattle.reading.proofs.Moves.{Settled, fresh-settled, settled-settled, settled-shorter, report-settles, nothing-changes}
+use Rattle.reading.proofs.Settling.{Settled, fresh-settled, settled-settled, settled-shorter}
+use Rattle.reading.proofs.Moves.{report-settles, nothing-changes}
 
 -- while no report waits: one byte less than the longest frame has
 pub quiet-bound : (rules : Rules) (kept : Kept) → Settled rules kept → Bytes (kept .bytes) → waiting rules kept ≡ false

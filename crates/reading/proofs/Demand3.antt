@@ -14,7 +14,7 @@ use Rattle.reading.specs.Moves.{Kept, fresh, waiting}
 use Rattle.reading.specs.Run.{Event, Ran, run}
 use Rattle.reading.specs.Demand3.{GoodFrames, joined, Cut, BeginsNone, acceptedOf, reportOfFrame, NothingHeldOrWaiting, checked}
 use Rattle.reading.proofs.Lines.{open-line, closed-line}
-use Rattle.reading.proofs.Moves.{empty-is-fresh}
+use Rattle.reading.proofs.Settling.{empty-is-fresh}
 use Rattle.reading.proofs.Run.{reached-settled, handed-all}
 use Rattle.reading.proofs.Damage.{open-accepts, closed-accepts}
 

@@ -8,6 +8,7 @@ pub mod Placed
 pub mod ReadBack
 pub mod Damage
 pub mod Lines
+pub mod Settling
 pub mod Moves
 pub mod Run
 pub mod Asking

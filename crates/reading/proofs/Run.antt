@@ -8,7 +8,8 @@ use Rattle.reading.specs.Line.{Input, lineFrom, lineReports}
 use Rattle.reading.specs.Moves.{Kept, fresh, waiting, handed, afterReport}
 use Rattle.reading.specs.Run.{Event, offer, ask, Ran, giving, handing, followed, withInput, run, closing, readOn, heldOn, lineHeld}
 use Rattle.reading.proofs.Course.{reports-nil}
-use Rattle.reading.proofs.Moves.{Settled, Onward, stays-kept, onward-then, fresh-settled, input-settled, input-onward, report-settled, report-onward, handed-nothing, no-reports-quiet, quiet-no-report, quiet-holds}
+use Rattle.reading.proofs.Settling.{Settled, fresh-settled, quiet-no-report, quiet-holds}
+use Rattle.reading.proofs.Moves.{Onward, stays-kept, onward-then, input-settled, input-onward, report-settled, report-onward, handed-nothing, no-reports-quiet}
 
 waiting-reports : (rules : Rules) (kept : Kept) → readOn rules kept [] ≡ reports rules (kept .closed) (kept .bytes)
 unfolding readOn
