@@ -49,6 +49,11 @@ pub below-least : heldOf (checked 0x5A 0xA5) (0x5A ∷ 0xA5 ∷ 0x02 ∷ []) ≡
 unfolding heldOf heldFrom look behind afterHeader judged cutShort isWait goneBy leastLength checkLength
 below-least = refl
 
+-- ".. at least 3 with checking on": a command alone is a frame
+pub at-least : reports (checked 0x5A 0xA5) false (0x5A ∷ 0xA5 ∷ 0x03 ∷ 0x80 ∷ 0xBE ∷ 0xE0 ∷ []) ≡ acceptedFrame 0x80 [] ∷ []
+unfolding reports reportsFrom look behind afterHeader judged cutShort isWait reportOf goneBy leastLength checkLength contentOf rightCheck checkValue checkFrom byteStep bitSteps bitStep polynomial
+at-least = refl
+
 -- "a false frame falls with several good ones inside": all of them are reported
 pub two-inside : reports (checked 0x5A 0xA5) false (0x5A ∷ 0xA5 ∷ 0x10 ∷ (frame ++ frame)) ≡ badCheck 0x5A ∷ read-version ∷ read-version ∷ []
 unfolding reports reportsFrom look behind afterHeader judged cutShort isWait reportOf goneBy leastLength checkLength contentOf rightCheck checkValue checkFrom byteStep bitSteps bitStep polynomial
