@@ -2,3 +2,5 @@ pub mod Place
 pub mod Stretch
 pub mod Line
 pub mod Moves
+pub mod Demand3
+pub mod Run
