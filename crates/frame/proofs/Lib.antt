@@ -4,3 +4,4 @@ pub mod Writers
 pub mod GoodFrames
 pub mod Examples
 pub mod Determined
+pub mod Closing

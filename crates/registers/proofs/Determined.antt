@@ -7,6 +7,8 @@ use Rattle.registers.proofs.is_unwritable.Reads as is-unwritable
 use Rattle.registers.proofs.is_unwritable.Kinds as is-unwritable-kinds
 use Rattle.registers.proofs.is_wrong_value.Reads as is-wrong-value
 use Rattle.registers.proofs.is_wrong_value.Kinds as is-wrong-value-kinds
+use Rattle.registers.proofs.is_covered.Reads as is-covered
+use Rattle.registers.proofs.is_covered.Kinds as is-covered-kinds
 use Rattle.registers.proofs.Registers.start.Reads as start
 use Rattle.registers.proofs.Registers.start.Kinds as start-kinds
 use Rattle.registers.proofs.Registers.at.Reads as at
@@ -21,6 +23,9 @@ is-unwritable-determined κs a x y s t p q = cc
 
 pub is-wrong-value-determined : OneAnswer 1 is-wrong-value-kinds.ps is-wrong-value-kinds.r is-wrong-value.Post
 is-wrong-value-determined κs a x y s t p q = cc
+
+pub is-covered-determined : OneAnswer 1 is-covered-kinds.ps is-covered-kinds.r is-covered.Post
+is-covered-determined κs a x y s t p q = cc
 
 pub start-determined : OneAnswer 0 start-kinds.ps start-kinds.r start.Post
 start-determined κs a x y s t p q = p ∙ sym q

@@ -69,3 +69,6 @@ started h1 h2 v w checking acknowledging p q = rw (p, q)
 pub read-at : (registers : Registers) (address a r : ℕ) → a ≡ address → r ≡ getD (registers .bytes) a 0 → r ≡ registerAt registers address
 unfolding registerAt
 read-at registers address a r is e = rw (← is) e
+
+pub covered : (address register a n r : ℕ) (c : Bool) → a ≡ address → r ≡ register → c ≡ covers a n r → c ≡ covers address n register
+covered address register a n r c p q is = is ∙ rw (p, q)

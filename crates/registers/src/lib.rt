@@ -59,6 +59,13 @@ pub fn is_unwritable(address: RegisterAddress, bytes: &[u8]) -> bool
     !all_writable(a, n) | ((high & !low) | (!high & low))
 }
 
+// These bytes from the address on would have this register in their run.
+pub fn is_covered(address: RegisterAddress, bytes: &[u8], register: RegisterAddress) -> bool
+    ensures { λ r. ⌜ r ≡ covers (address .0) (length (now (bytes .entry))) (register .0) ⌝ }
+{
+    has(wire::count(address.0), bytes.len(), wire::count(register.0))
+}
+
 // The byte that a run of these bytes gives to a register.
 fn given_to(register: usize, address: usize, bytes: &[u8]) -> u8
     ensures { λ r. ⌜ r ≡ given address (now (bytes .entry)) register ⌝ }

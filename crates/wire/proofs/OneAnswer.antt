@@ -15,7 +15,7 @@ OneAnswer n ps r Post =
 
 -- for one that changes what it was lent: `left` picks that out
 abbrev pub OneAnswerLeft :
-    (n : ℕ) (ps : List (PK n)) (r : RK n) → Out n ps r → (left : (κs : Lfts n) → AtExit (endedOf n ps r) κs → List ℕ) → Type 0
+    (n : ℕ) (ps : List (PK n)) (r : RK n) → Out n ps r → {B : Type 0} (left : (κs : Lfts n) → AtExit (endedOf n ps r) κs → B) → Type 0
 OneAnswerLeft n ps r Post left =
     (κs : Lfts n) (a : Dens κs ps) (x y : resT r κs .Denot) (s t : AtExit (endedOf n ps r) κs) →
     Post κs a x s → Post κs a y t → (x ≡ y) × (left κs s ≡ left κs t)

@@ -6,7 +6,7 @@ use Prim.Native.Nat.{ℕ, suc, _+_, _-_, _≤_, _<_}
 use native.Mathlib.Omega.{arith}
 use lib.ListN.{length, take, drop, set, getD, length-append, length-drop}
 use lib.Seq.{take-at, drop-at, set-at, drop-cons, drop-drop, drop-append-add}
-use Rattle.wire.specs.Room.{over, lays, laid}
+use Rattle.wire.specs.Room.{over, Laid, lays, laid}
 use Rattle.wire.proofs.Parts.{part-whole, part-end}
 
 pub over-nil : (room : List ℕ) → over [] room ≡ room
@@ -73,3 +73,11 @@ pub laid-whole : (may : Bool) (now bytes room left : List ℕ) (count : ℕ) →
     → count ≡ length now → left ≡ over now room → lays count left ≡ laid may bytes room
 unfolding laid
 laid-whole may now bytes room left count is same is-count is-left = rw (is, is-count, is-left, same)
+
+-- what was laid where it may be
+pub laid-left : (may : Bool) (bytes room left : List ℕ) (count : ℕ) → may ≡ true → lays count left ≡ laid may bytes room
+    → (count ≡ length bytes) × (left ≡ over bytes room)
+unfolding laid
+laid-left may bytes room left count is e =
+    let e′ : lays count left ≡ lays (length bytes) (over bytes room) = e ∙ rw is in
+    (ap (λ (l : Laid). l .count) e′, ap (λ (l : Laid). l .room) e′)

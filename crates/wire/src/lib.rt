@@ -1,6 +1,7 @@
 // How 01's multi-byte numbers stand in bytes, and how a run of bytes is laid over the front of a lent room.
 // The only place where a byte order is written out.
 ghost use mathlib.Core.Path.{_≡_};
+ghost use Prim.Native.Nat.{_<_};
 ghost use Rattle.wire.specs.ByteOrder.{highByte, lowByte, word, byteAt, wordAt};
 
 // A byte as a 16-bit number.
@@ -13,6 +14,7 @@ pub fn wide(b: u8) -> u16
 // A byte as a count or an index.
 pub fn count(b: u8) -> usize
     ensures { λ r. ⌜ r ≡ b ⌝ }
+    ensures { λ r. ⌜ r < 256 ⌝ }
 {
     b as usize
 }

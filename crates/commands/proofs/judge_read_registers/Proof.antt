@@ -1,0 +1,21 @@
+-- `commands::judge_read_registers` meets its contract.
+use borrow.Author.Needs.{needs}
+use Rattle.commands.proofs.Judging.{read-shape, read-past, read-long, read-good}
+use Rattle.commands.proofs.judge_read_registers.Statement.{statement}
+use Rattle.commands.proofs.judge_read_registers.Tie as tie
+
+pub judge-read-registers-spec : {M : Type 1} → statement M
+judge-read-registers-spec =
+    tie.close
+    (tie.spec
+    (λ c. search read-shape)
+    (λ c. search needs)
+    (λ c κs. search needs)
+    (λ c. search needs)
+    (λ c κs. search needs)
+    (λ c. search needs)
+    (λ c. search read-past)
+    (λ c. search needs)
+    (λ c κs. search needs)
+    (λ c. search read-long)
+    (λ c. search read-good))

@@ -1,0 +1,20 @@
+-- `commands::put_words` meets its contract.
+use borrow.Author.Needs.{needs}
+use Rattle.commands.proofs.Replies.{words-laid}
+use Rattle.commands.proofs.put_words.Statement.{statement}
+use Rattle.commands.proofs.put_words.Tie as tie
+
+pub put-words-spec : {M : Type 1} → statement M
+put-words-spec =
+    tie.close
+    (tie.spec
+    (λ c κs. search needs)
+    (λ c κs. search needs)
+    (λ c. search needs)
+    (λ c κs. search needs)
+    (λ c. search needs)
+    (λ c. search needs)
+    (λ c. search needs)
+    (λ c κs. search needs)
+    (λ c. search needs)
+    (λ c. search words-laid))

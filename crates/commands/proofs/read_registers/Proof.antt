@@ -1,0 +1,18 @@
+-- `commands::read_registers` meets its contract.
+use borrow.Author.Needs.{needs}
+use Rattle.commands.proofs.Reading.{registers-within, registers-short, registers-read, registers-unread}
+use Rattle.commands.proofs.read_registers.Statement.{statement}
+use Rattle.commands.proofs.read_registers.Tie as tie
+
+pub read-registers-spec : {M : Type 1} → statement M
+read-registers-spec =
+    tie.close
+    (tie.spec
+    (λ c κs. search needs)
+    (λ c κs. search needs)
+    (λ c κs. search needs)
+    (λ c κs. search needs)
+    (λ c κs. search (registers-within, registers-short))
+    (λ c. search needs)
+    (λ c. search registers-read)
+    (λ c. search registers-unread))

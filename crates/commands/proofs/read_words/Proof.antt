@@ -1,0 +1,18 @@
+-- `commands::read_words` meets its contract.
+use borrow.Author.Needs.{needs}
+use Rattle.commands.proofs.Reading.{words-within, words-short, words-read, words-unread}
+use Rattle.commands.proofs.read_words.Statement.{statement}
+use Rattle.commands.proofs.read_words.Tie as tie
+
+pub read-words-spec : {M : Type 1} → statement M
+read-words-spec =
+    tie.close
+    (tie.spec
+    (λ c κs. search needs)
+    (λ c κs. search needs)
+    (λ c κs. search needs)
+    (λ c κs. search needs)
+    (λ c κs. search (words-within, words-short))
+    (λ c. search needs)
+    (λ c. search words-read)
+    (λ c. search words-unread))

@@ -1,0 +1,20 @@
+-- `commands::write_words` meets its contract.
+use borrow.Author.Needs.{needs}
+use Rattle.commands.proofs.Writing.{words-long, words-done, words-refused}
+use Rattle.commands.proofs.write_words.Statement.{statement}
+use Rattle.commands.proofs.write_words.Tie as tie
+
+pub write-words-spec : {M : Type 1} → statement M
+write-words-spec =
+    tie.close
+    (tie.spec
+    (λ c κs. search needs)
+    (λ c κs. search needs)
+    (λ c κs. search needs)
+    (λ c. search words-long)
+    (λ c. search (needs, words-long))
+    (λ c. search needs)
+    (λ c κs. search needs)
+    (λ c. search needs)
+    (λ c. search words-done)
+    (λ c. search words-refused))

@@ -1,0 +1,4 @@
+pub mod Outcome
+pub mod Reply
+pub mod Effect
+pub mod Perform

@@ -1,0 +1,75 @@
+-- 01, "Numbers given back": "asking for a report 14, then 2 to 7 in turn". Each list below stands in that order; the first condition that
+-- holds gives the number.
+use Prim.Native.Nat.{ℕ, _+_, _%_}
+use mathlib.Core.Bool.{Bool, cond, not, _||_}
+use mathlib.Core.List.{List}
+use lib.Dec.{eqb, ltb}
+use lib.ListN.{length, drop}
+use Rattle.wire.specs.ByteOrder.{byteAt, wordAt}
+use Rattle.frame.specs.Frame.{checkLength}
+use Rattle.registers.specs.Table.{registerCount}
+use Rattle.registers.specs.Run.{unwritableRun, wrongValue}
+use Rattle.words.specs.Words.{wordsOf}
+use Rattle.commands.specs.declared.Outcome.{Outcome}
+use Rattle.commands.specs.declared.Outcome.the-variants.{Done, UnknownCommand, WrongData, PastEnd, Unwritable, WrongValue, ReplyTooLong}
+
+unfoldable pub numberOf : Outcome → ℕ
+numberOf Done = 0
+numberOf UnknownCommand = 2
+numberOf WrongData = 3
+numberOf PastEnd = 4
+numberOf Unwritable = 5
+numberOf WrongValue = 6
+numberOf ReplyTooLong = 7
+
+-- "reply frame's L would pass 255": the reply has its command and this much data
+unfoldable pub replyTooLong : Bool → ℕ → Bool
+replyTooLong checking payload = ltb 255 (1 + payload + checkLength checking)
+
+-- "0x80, address (1), one or more bytes: write registers."
+unfoldable pub writeRegistersOutcome : ℕ → List ℕ → Outcome
+writeRegistersOutcome pages content =
+    let address = byteAt content 0 in
+    let bytes = drop 1 content in
+    cond (ltb (length content) 2) WrongData
+    (cond (ltb registerCount (address + length bytes)) PastEnd
+    (cond (unwritableRun address (length bytes)) Unwritable
+    (cond (wrongValue address bytes pages) WrongValue
+    Done)))
+
+-- "0x81, address (1), count (1): read registers."
+unfoldable pub readRegistersOutcome : Bool → List ℕ → Outcome
+readRegistersOutcome checking content =
+    let address = byteAt content 0 in
+    let count = byteAt content 1 in
+    cond (not (eqb (length content) 2)) WrongData
+    (cond (ltb registerCount (address + count)) PastEnd
+    (cond (replyTooLong checking (2 + count)) ReplyTooLong
+    Done))
+
+-- "0x82, address (2), one or more words: write variables." `end` is how many words are lent
+unfoldable pub writeWordsOutcome : ℕ → List ℕ → Outcome
+writeWordsOutcome end content =
+    let address = wordAt content 0 in
+    cond (ltb (length content) 4 || eqb (length content % 2) 1) WrongData
+    (cond (ltb end (address + length (wordsOf (drop 2 content)))) PastEnd
+    Done)
+
+-- "0x83, address (2), count (1): read variables."
+unfoldable pub readWordsOutcome : ℕ → Bool → List ℕ → Outcome
+readWordsOutcome end checking content =
+    let address = wordAt content 0 in
+    let count = byteAt content 2 in
+    cond (not (eqb (length content) 3)) WrongData
+    (cond (ltb end (address + count)) PastEnd
+    (cond (replyTooLong checking (3 + (count + count))) ReplyTooLong
+    Done))
+
+-- "command not 80 to 83"
+unfoldable pub outcome : (pages end : ℕ) → Bool → ℕ → List ℕ → Outcome
+outcome pages end checking command content =
+    cond (eqb command 0x80) (writeRegistersOutcome pages content)
+    (cond (eqb command 0x81) (readRegistersOutcome checking content)
+    (cond (eqb command 0x82) (writeWordsOutcome end content)
+    (cond (eqb command 0x83) (readWordsOutcome end checking content)
+    UnknownCommand)))
