@@ -1,0 +1,27 @@
+-- 01, "Setup and touch table", the setup.
+use Prim.Native.Nat.{ℕ, _/_, _%_}
+use mathlib.Core.Bool.{Bool, _&&_, cond}
+use lib.Dec.{ltb, leb, eqb}
+use Rattle.touch.specs.declared.Setup.{Setup}
+
+-- "flags (bit 0 checking, bit 1 acknowledging, others 0)": how many values they may take
+abbrev pub flagValues : ℕ
+flagValues = 4
+
+abbrev pub checkingOf : Setup → Bool
+checkingOf s = eqb (s .flags % 2) 1
+
+abbrev pub acknowledgingOf : Setup → Bool
+acknowledgingOf s = eqb (s .flags / 2 % 2) 1
+
+-- "pages P 1 to 65,280, width 1 to 1,024, height 1 to 768"
+abbrev pub goodSetup : Setup → Bool
+goodSetup s =
+    ltb (s .flags) flagValues
+    && leb 1 (s .pages) && leb (s .pages) 65280
+    && leb 1 (s .width) && leb (s .width) 1024
+    && leb 1 (s .height) && leb (s .height) 768
+
+-- 01, "Numbers given back": "11 setup wrong"
+abbrev pub setupNumber : Setup → ℕ
+setupNumber s = cond (goodSetup s) 0 11
