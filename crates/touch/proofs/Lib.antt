@@ -1,1 +1,5 @@
 pub mod ByCode
+pub mod Whole
+pub mod Modes
+pub mod Stepping
+pub mod Sliding

@@ -1,0 +1,12 @@
+-- `touch::rounded_down` meets its contract.
+use Rattle.touch.proofs.Sliding.{sliding}
+use Rattle.touch.proofs.rounded_down.Statement.{statement}
+use Rattle.touch.proofs.rounded_down.Tie as tie
+
+pub rounded-down-spec : {M : Type 1} → statement M
+rounded-down-spec =
+    tie.close
+    (tie.spec
+    (λ c. search sliding)
+    (λ c. search sliding)
+    (λ c. search sliding))

@@ -1,0 +1,23 @@
+-- `touch::slide` meets its contract.
+use Rattle.touch.proofs.Sliding.{sliding}
+use Rattle.touch.proofs.slide.Statement.{statement}
+use Rattle.touch.proofs.slide.Tie as tie
+
+pub slide-spec : {M : Type 1} → statement M
+slide-spec =
+    tie.close
+    (tie.spec
+    (λ c κs. search sliding)
+    (λ c κs. search sliding)
+    (λ c κs. search sliding)
+    (λ c κs. search sliding)
+    (λ c κs. search sliding)
+    (λ c. search sliding)
+    (λ c κs. search sliding)
+    (λ c. search sliding)
+    (λ c. search sliding)
+    (λ c. search sliding)
+    (λ c κs. search sliding)
+    (λ c. search sliding)
+    (λ c. search sliding)
+    (λ c. search sliding))

@@ -1,0 +1,22 @@
+-- `touch::value_in` meets its contract.
+use Rattle.touch.proofs.Modes.{modes}
+use Rattle.touch.proofs.value_in.Statement.{statement}
+use Rattle.touch.proofs.value_in.Tie as tie
+use Rattle.wire.proofs.wide.Reads as wide-reads′
+
+pub value-in-spec : {M : Type 1} → statement M
+value-in-spec =
+    tie.close
+    (tie.spec
+    (λ c κs. search modes)
+    (λ c. (search modes, (search modes, search modes)))
+    (λ c κs. search modes)
+    (λ c κs. search modes)
+    (λ c κs. search modes)
+    (λ c. search modes)
+    (λ c. (search modes, (search modes, search modes)))
+    (λ c κs. search modes)
+    (λ c κs. search modes)
+    (λ c κs. search modes)
+    (λ c. search modes)
+    (λ c. (search modes, (search modes, search modes))))
