@@ -3,3 +3,5 @@ pub mod Whole
 pub mod Modes
 pub mod Stepping
 pub mod Sliding
+pub mod ByKind
+pub mod Walk

@@ -1,13 +1,16 @@
 -- Laws of the modes: a law for each answer of `value_in` and `place`.
 use mathlib.Core.Path.{_≡_, refl, sym, ap, _∙_}
 use Prim.Native.Nat.{ℕ, _+_, _%_, _<_}
+use lib.Dec.{leb}
 use lib.IntN.{ℤ, pos}
+use lib.Signed.{leZ}
 use borrow.Author.Needs.{needs}
 use borrow.Author.Tests.{eq-eqb, ne-eqb}
 use Rattle.wire.specs.ByteOrder.{highByte, lowByte, word}
 use Rattle.touch.specs.Store.{inMode, signed, valueIn, placed}
 use Rattle.touch.specs.Raised.{whole}
-use Rattle.touch.proofs.Whole.{whole-over, whole-signed, whole-word}
+use Rattle.touch.specs.Slider.{along}
+use Rattle.touch.proofs.Whole.{whole-over, whole-signed, whole-word, whole-le}
 
 -- what is picked at each mode
 module _ {A : Type 0} (mode : ℕ) (w h l : A) where
@@ -53,4 +56,16 @@ place-whole mode old new e = in-whole mode new _ _ e
 pub raised-is : (n w : ℕ) → n ≡ w → w < 65536 → whole ((n + 32768) % 65536 + 65536) ≡ signed w
 raised-is n w e h = ap (λ (k : ℕ). whole ((k + 32768) % 65536 + 65536)) e ∙ whole-signed w h
 
-pub ruleset modes = (needs, value-whole, value-high, value-low, place-whole, place-high, place-low, raised-is, whole-word)
+-- of a slider's axis
+module _ (mode x y : ℕ) where
+  pub across-is : mode % 16 ≡ 0 → x ≡ along mode x y
+  across-is e = rw (eq-eqb (mode % 16) 0 e)
+
+  pub down-is : (mode % 16 ≡ 0 → ⊥) → y ≡ along mode x y
+  down-is n = rw (ne-eqb (mode % 16) 0 n)
+
+-- words are compared as they are raised
+pub raised-le : (a b x y : ℕ) → whole x ≡ signed a → whole y ≡ signed b → leb x y ≡ leZ (signed a) (signed b)
+raised-le a b x y p q = rw (← p, ← q, whole-le)
+
+pub ruleset modes = (needs, value-whole, value-high, value-low, place-whole, place-high, place-low, raised-is, raised-le, whole-word, across-is, down-is)

@@ -1,8 +1,10 @@
 -- 01, "Setup and touch table" and "Contact and lift": what the record that acts stores.
 use Prim.Native.Nat.{ℕ}
+use mathlib.Core.Bool.{cond}
 use Rattle.touch.specs.declared.Kind.{Kind}
 use Rattle.touch.specs.declared.Kind.the-variants.{Key, Step, Slider, Other}
 use Rattle.touch.specs.declared.Record.{Record}
+use Rattle.touch.specs.Record.{slides}
 use Rattle.touch.specs.Store.{placed}
 use Rattle.touch.specs.Step.{stepStores}
 use Rattle.touch.specs.Slider.{sliderStores}
@@ -17,12 +19,6 @@ actedBy Other r old x y = old
 unfoldable pub actedOf : Record → (old x y : ℕ) → ℕ
 actedOf r old x y = actedBy (r .kind) r old x y
 
-abbrev pub draggedBy : Kind → Record → (old x y : ℕ) → ℕ
-draggedBy (Key code) r old x y = old
-draggedBy (Step f) r old x y = old
-draggedBy (Slider f) r old x y = sliderStores (r .mode) old (r .area) (f .begin) (f .end) x y
-draggedBy Other r old x y = old
-
 -- "Contact while down: .. a caught slider stores for the point moved to the nearest place in its area; nothing else acts."
 unfoldable pub draggedOf : Record → (old x y : ℕ) → ℕ
-draggedOf r old x y = draggedBy (r .kind) r old x y
+draggedOf r old x y = cond (slides r) (actedOf r old x y) old

@@ -73,19 +73,23 @@ goodRecord s r =
     && ltb (r .word) 0x7000
     && goodKind r (r .kind)
 
+unfoldable pub wrong : Setup → Record → Bool
+wrong s r = not (goodRecord s r)
+
 -- "13 a record is wrong; the first wrong one is named"
 abbrev pub namedWrong : Found → Verdict
 namedWrong Nothing = Good
 namedWrong (At i r) = Wrong i
 
 abbrev pub firstWrong : Setup → List Record → Verdict
-firstWrong s rs = namedWrong (firstOf (λ r. not (goodRecord s r)) 0 rs)
+firstWrong s rs = namedWrong (firstOf (wrong s) 0 rs)
 
--- "12 table longer than 128 records or not whole records"; an empty one is good
+-- "12 table longer than 128 records or not whole records": judged on the length alone
+abbrev pub notRecords : List ℕ → Bool
+notRecords table = ltb (mostRecords * recordBytes) (length table) || not (eqb (length table % recordBytes) 0)
+
 unfoldable pub judged : Setup → List ℕ → Verdict
-judged s table =
-    cond (ltb (mostRecords * recordBytes) (length table) || not (eqb (length table % recordBytes) 0)) NotRecords
-    (firstWrong s (recordsOf table))
+judged s table = cond (notRecords table) NotRecords (firstWrong s (recordsOf table))
 
 -- 01, "Numbers given back": the number of each verdict
 abbrev pub verdictNumber : Verdict → ℕ

@@ -63,9 +63,12 @@ recordOf bytes =
 abbrev pub noNext : Record → Bool
 noNext r = eqb (highByte (r .next)) 0xFF
 
+abbrev pub isSlider : Kind → Bool
+isSlider (Key code) = false
+isSlider (Step f) = false
+isSlider (Slider f) = true
+isSlider Other = false
+
 -- "A slider that acted is caught"
-abbrev pub slides : Kind → Bool
-slides (Key code) = false
-slides (Step f) = false
-slides (Slider f) = true
-slides Other = false
+abbrev pub slides : Record → Bool
+slides r = isSlider (r .kind)

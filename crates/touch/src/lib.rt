@@ -1,13 +1,19 @@
 // 01, "Setup and touch table": what a setup may say, how a touch record stands in 32 bytes, which tables are good, which record
 // a point finds, and what a key, a step or a slider stores. No panel.
 ghost use mathlib.Core.Path.{_≡_};
-ghost use Prim.Native.Nat.{_-_, _≤_, _<_};
+ghost use Prim.Native.Nat.{_-_, _/_, _≤_, _<_};
+ghost use lib.ListN.{length};
+ghost use lib.Signed.{leZ};
 ghost use Rattle.touch.specs.Setup.{goodSetup, checkingOf, acknowledgingOf};
-ghost use Rattle.touch.specs.Record.{areaAt, stepFields, sliderFields, kindOf, recordOf};
+ghost use Rattle.touch.specs.Record.{areaAt, stepFields, sliderFields, kindOf, recordOf, noNext, slides};
+ghost use Rattle.touch.specs.Table.{recordBytes, recordAt, recordsOf};
+ghost use Rattle.touch.specs.Judge.{goodArea, goodEnd, goodStep, sameArea, goodSlider, goodKind, goodRecord, firstWrong, judged};
+ghost use Rattle.touch.specs.Find.{holds, found};
 ghost use Rattle.touch.specs.Store.{signed, wordOf, valueIn, placed};
 ghost use Rattle.touch.specs.Raised.{whole};
 ghost use Rattle.touch.specs.Step.{stepped, fenced, stepStores};
-ghost use Rattle.touch.specs.Slider.{nearest, roundedDown, slidTo, sliderStores};
+ghost use Rattle.touch.specs.Slider.{along, nearest, roundedDown, slidTo, sliderStores};
+ghost use Rattle.touch.specs.Act.{actedOf, draggedOf};
 
 // How many values the flags may take: bit 0 checking, bit 1 acknowledging.
 const FLAG_VALUES: u8 = 4;
@@ -309,5 +315,216 @@ fn slide(begin: u16, end: u16, first: u16, last: u16, at: u16) -> u64
         b + rounded_down((e - b) * d, w)
     } else {
         b - rounded_down((b - e) * d, w)
+    }
+}
+
+// ---- Judging
+
+fn good_area(s: Setup, a: Area) -> bool
+    ensures { λ r. ⌜ r ≡ goodArea s a ⌝ }
+{
+    (a.xs <= a.xe) & (a.ys <= a.ye) & (a.xe < s.width) & (a.ye < s.height)
+}
+
+fn good_end(mode: u8, w: u16) -> bool
+    ensures { λ r. ⌜ r ≡ goodEnd mode w ⌝ }
+{
+    (mode == 0) | (w < 256)
+}
+
+// Whether a word is at most another, as signed numbers.
+fn at_most(a: u16, b: u16) -> bool
+    ensures { λ r. ⌜ r ≡ leZ (signed a) (signed b) ⌝ }
+{
+    raise(a) <= raise(b)
+}
+
+fn good_step(mode: u8, f: StepFields) -> bool
+    ensures { λ r. ⌜ r ≡ goodStep mode f ⌝ }
+{
+    (mode < 3)
+        & (1 <= f.step)
+        & (f.step <= 32767)
+        & good_end(mode, f.least)
+        & good_end(mode, f.greatest)
+        & at_most(f.least, f.greatest)
+        & (f.once == 1)
+}
+
+fn same_area(a: Area, b: Area) -> bool
+    ensures { λ r. ⌜ r ≡ sameArea a b ⌝ }
+{
+    (a.xs == b.xs) & (a.ys == b.ys) & (a.xe == b.xe) & (a.ye == b.ye)
+}
+
+// Of the numbers across and down, the one of a slider's axis.
+fn along(mode: u8, across: u16, down: u16) -> u16
+    ensures { λ r. ⌜ r ≡ along mode across down ⌝ }
+{
+    if mode % 16 == 0 { across } else { down }
+}
+
+// Whether a record leads to no other page.
+pub fn no_next(r: Record) -> bool
+    ensures { λ a. ⌜ a ≡ noNext r ⌝ }
+{
+    r.next / 256 == 0xFF
+}
+
+fn good_slider(r: Record, f: SliderFields) -> bool
+    ensures { λ a. ⌜ a ≡ goodSlider r f ⌝ }
+{
+    let digit = r.mode / 16;
+    let area = r.area;
+    let again = f.again;
+    let first = along(r.mode, area.xs, area.ys);
+    let last = along(r.mode, area.xe, area.ye);
+    (digit < 3)
+        & (r.mode % 16 < 2)
+        & same_area(area, again)
+        & no_next(r)
+        & (first < last)
+        & good_end(digit, f.begin)
+        & good_end(digit, f.end)
+}
+
+fn good_kind(r: Record) -> bool
+    ensures { λ a. ⌜ a ≡ goodKind r (r .kind) ⌝ }
+{
+    let kind = r.kind;
+    match kind {
+        Kind::Key(_) => r.mode < 3,
+        Kind::Step(f) => good_step(r.mode, f),
+        Kind::Slider(f) => good_slider(r, f),
+        Kind::Other => false,
+    }
+}
+
+pub fn good_record(s: Setup, r: Record) -> bool
+    ensures { λ a. ⌜ a ≡ goodRecord s r ⌝ }
+{
+    let area = r.area;
+    (r.page < s.pages)
+        & good_area(s, area)
+        & (no_next(r) | (r.next < s.pages))
+        & (r.fe == 0xFE)
+        & (r.word < 0x7000)
+        & good_kind(r)
+}
+
+// ---- Tables
+
+fn record_at(table: &[u8], i: usize) -> Record
+    requires { ⌜ i < length (now table) / recordBytes ⌝ }
+    ensures { λ r. ⌜ r ≡ recordAt (now (table .entry)) i ⌝ }
+{
+    let at = i * RECORD_BYTES;
+    record_of(&table[at..at + RECORD_BYTES])
+}
+
+fn first_wrong(s: Setup, table: &[u8]) -> Verdict
+    ensures { λ r. ⌜ r ≡ firstWrong s (recordsOf (now (table .entry))) ⌝ }
+{
+    let count = table.len() / RECORD_BYTES;
+    let mut i: usize = 0;
+    while i < count {
+        let r = record_at(table, i);
+        if r.page == 0xFFFF {
+            return Verdict::Good;
+        }
+        if good_record(s, r) {
+            i += 1;
+        } else {
+            return Verdict::Wrong(i);
+        }
+    }
+    Verdict::Good
+}
+
+// Whether a table is good under a setup, and if not, why.
+pub fn judge(s: Setup, table: &[u8]) -> Verdict
+    ensures { λ r. ⌜ r ≡ judged s (now (table .entry)) ⌝ }
+{
+    let size = table.len();
+    if (MOST_RECORDS * RECORD_BYTES < size) | (size % RECORD_BYTES != 0) {
+        return Verdict::NotRecords;
+    }
+    first_wrong(s, table)
+}
+
+fn holds_point(r: Record, page: u16, x: u16, y: u16) -> bool
+    ensures { λ a. ⌜ a ≡ holds page x y r ⌝ }
+{
+    let area = r.area;
+    (r.page == page) & ((area.xs <= x) & (x <= area.xe) & (area.ys <= y) & (y <= area.ye))
+}
+
+// The first record of a page, before the table's end, whose area holds a point.
+pub fn find(table: &[u8], page: u16, x: u16, y: u16) -> Found
+    ensures { λ r. ⌜ r ≡ found (now (table .entry)) page x y ⌝ }
+{
+    let count = table.len() / RECORD_BYTES;
+    let mut i: usize = 0;
+    while i < count {
+        let r = record_at(table, i);
+        if r.page == 0xFFFF {
+            return Found::Nothing;
+        }
+        if holds_point(r, page, x, y) {
+            return Found::At(i, r);
+        } else {
+            i += 1;
+        }
+    }
+    Found::Nothing
+}
+
+// ---- Acting
+
+fn slider_stores(r: Record, f: SliderFields, old: u16, x: u16, y: u16) -> u16
+    ensures { λ a. ⌜ a ≡ sliderStores (r .mode) old (r .area) (f .begin) (f .end) x y ⌝ }
+{
+    let area = r.area;
+    let first = along(r.mode, area.xs, area.ys);
+    let last = along(r.mode, area.xe, area.ye);
+    let at = along(r.mode, x, y);
+    let stands = slide(f.begin, f.end, first, last, at);
+    place(r.mode / 16, old, lower(stands))
+}
+
+// The word at a record's address after the record acted at a point.
+pub fn acted(r: Record, old: u16, x: u16, y: u16) -> u16
+    ensures { λ a. ⌜ a ≡ actedOf r old x y ⌝ }
+{
+    let kind = r.kind;
+    match kind {
+        Kind::Key(code) => place(r.mode, old, code),
+        Kind::Step(f) => step_stores(r.mode, old, f),
+        Kind::Slider(f) => slider_stores(r, f, old, x, y),
+        Kind::Other => old,
+    }
+}
+
+// The word after a record that was caught is dragged to a point, which may lie outside its area. Only a slider stores.
+pub fn dragged(r: Record, old: u16, x: u16, y: u16) -> u16
+    ensures { λ a. ⌜ a ≡ draggedOf r old x y ⌝ }
+{
+    if is_slider(r) {
+        acted(r, old, x, y)
+    } else {
+        old
+    }
+}
+
+// Whether a record is caught once it acted.
+pub fn is_slider(r: Record) -> bool
+    ensures { λ a. ⌜ a ≡ slides r ⌝ }
+{
+    let kind = r.kind;
+    match kind {
+        Kind::Key(_) => false,
+        Kind::Step(_) => false,
+        Kind::Slider(_) => true,
+        Kind::Other => false,
     }
 }

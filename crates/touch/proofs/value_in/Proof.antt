@@ -2,7 +2,6 @@
 use Rattle.touch.proofs.Modes.{modes}
 use Rattle.touch.proofs.value_in.Statement.{statement}
 use Rattle.touch.proofs.value_in.Tie as tie
-use Rattle.wire.proofs.wide.Reads as wide-reads′
 
 pub value-in-spec : {M : Type 1} → statement M
 value-in-spec =
