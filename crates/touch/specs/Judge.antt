@@ -16,10 +16,9 @@ use Rattle.touch.specs.declared.Verdict.{Verdict}
 use Rattle.touch.specs.declared.Verdict.the-variants.{Good, NotRecords, Wrong}
 use Rattle.touch.specs.declared.Found.{Found}
 use Rattle.touch.specs.declared.Found.the-variants.{Nothing, At}
-use Rattle.touch.specs.Record.{noNext}
+use Rattle.stores.specs.Store.{signed}
+use Rattle.touch.specs.Record.{noNext, digitMode, firstEdge, lastEdge}
 use Rattle.touch.specs.Table.{firstOf, recordsOf, recordBytes, mostRecords}
-use Rattle.touch.specs.Store.{signed}
-use Rattle.touch.specs.Slider.{digitMode, firstEdge, lastEdge}
 
 -- "the area on the screen with Xs ≤ Xe, Ys ≤ Ye"
 abbrev pub goodArea : Setup → Area → Bool

@@ -1,10 +1,6 @@
 pub mod Setup
 pub mod Record
 pub mod Table
-pub mod Store
 pub mod Judge
 pub mod Find
-pub mod Step
-pub mod Slider
 pub mod Act
-pub mod Raised

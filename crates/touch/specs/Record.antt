@@ -1,5 +1,5 @@
 -- 01, "Setup and touch table", how a record of 32 bytes reads. A field is named as 01 names it and stands beside its offset.
-use Prim.Native.Nat.{ℕ, _+_}
+use Prim.Native.Nat.{ℕ, _+_, _/_, _%_}
 use mathlib.Core.Bool.{Bool, true, false, cond, not}
 use mathlib.Core.List.{List}
 use lib.Dec.{eqb}
@@ -72,3 +72,24 @@ isSlider Other = false
 -- "A slider that acted is caught"
 abbrev pub slides : Record → Bool
 slides r = isSlider (r .kind)
+
+-- "14 direction, 00 down, else up"
+abbrev pub up : StepFields → Bool
+up f = not (eqb (f .direction) 0)
+
+-- "15 at the end, 00 stop, else go round"
+abbrev pub round : StepFields → Bool
+round f = not (eqb (f .ending) 0)
+
+-- "mode high digit 0, 1, 2 as above, low digit 0 across, 1 down"
+abbrev pub digitMode : ℕ → ℕ
+digitMode mode = mode / 16
+
+abbrev pub along {ℓ} : {A : Type ℓ} → ℕ → A → A → A
+along mode across down = cond (eqb (mode % 16) 0) across down
+
+abbrev pub firstEdge : ℕ → Area → ℕ
+firstEdge mode a = along mode (a .xs) (a .ys)
+
+abbrev pub lastEdge : ℕ → Area → ℕ
+lastEdge mode a = along mode (a .xe) (a .ye)

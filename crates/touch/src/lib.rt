@@ -1,19 +1,14 @@
 // 01, "Setup and touch table": what a setup may say, how a touch record stands in 32 bytes, which tables are good, which record
 // a point finds, and what a key, a step or a slider stores. No panel.
 ghost use mathlib.Core.Path.{_≡_};
-ghost use Prim.Native.Nat.{_-_, _/_, _≤_, _<_};
+ghost use Prim.Native.Nat.{_/_, _<_};
 ghost use lib.ListN.{length};
-ghost use lib.Signed.{leZ};
 ghost use Rattle.touch.specs.Setup.{goodSetup, checkingOf, acknowledgingOf};
-ghost use Rattle.touch.specs.Record.{areaAt, stepFields, sliderFields, kindOf, recordOf, noNext, slides};
+ghost use Rattle.touch.specs.Record.{areaAt, stepFields, sliderFields, kindOf, recordOf, noNext, slides, along};
 ghost use Rattle.touch.specs.Table.{recordBytes, recordAt, recordsOf};
 ghost use Rattle.touch.specs.Judge.{goodArea, goodEnd, goodStep, sameArea, goodSlider, goodKind, goodRecord, firstWrong, judged};
 ghost use Rattle.touch.specs.Find.{holds, found};
-ghost use Rattle.touch.specs.Store.{signed, wordOf, valueIn, placed};
-ghost use Rattle.touch.specs.Raised.{whole};
-ghost use Rattle.touch.specs.Step.{stepped, fenced, stepStores};
-ghost use Rattle.touch.specs.Slider.{along, nearest, roundedDown, slidTo, sliderStores};
-ghost use Rattle.touch.specs.Act.{actedOf, draggedOf};
+ghost use Rattle.touch.specs.Act.{slidAt, actedOf, draggedOf};
 
 // How many values the flags may take: bit 0 checking, bit 1 acknowledging.
 const FLAG_VALUES: u8 = 4;
@@ -184,140 +179,6 @@ pub fn record_of(bytes: &[u8]) -> Record
     }
 }
 
-// ---- Numbers in words
-
-// A word as a number that holds sums and products of words.
-fn wide(w: u16) -> u64
-    ensures { λ r. ⌜ r ≡ w ⌝ }
-{
-    w as u64
-}
-
-// A word's signed number, raised by 98,304, so that a step taken from it stays above 0.
-fn raise(w: u16) -> u64
-    ensures { λ r. ⌜ (whole r ≡ signed w) × ((65536 ≤ r) × (r < 131072)) ⌝ }
-{
-    (wide(w) + 32768) % 65536 + 65536
-}
-
-// The word of a raised number.
-fn lower(n: u64) -> u16
-    ensures { λ r. ⌜ r ≡ wordOf (whole n) ⌝ }
-{
-    ((n % 65536 + 32768) % 65536) as u16
-}
-
-// The number that a mode finds in a word, raised.
-fn value_in(mode: u8, w: u16) -> u64
-    ensures { λ r. ⌜ (whole r ≡ valueIn mode w) × ((65536 ≤ r) × (r < 131072)) ⌝ }
-{
-    if mode == 0 {
-        return raise(w);
-    }
-    if mode == 1 {
-        return 98304 + wide(wire::wide(wire::high_byte(w)));
-    }
-    98304 + wide(wire::wide(wire::low_byte(w)))
-}
-
-// What a mode makes of the old word and the new one.
-fn place(mode: u8, old: u16, new: u16) -> u16
-    ensures { λ r. ⌜ r ≡ placed mode old new ⌝ }
-{
-    if mode == 0 {
-        return new;
-    }
-    if mode == 1 {
-        return wire::word(wire::low_byte(new), wire::low_byte(old));
-    }
-    wire::word(wire::high_byte(old), wire::low_byte(new))
-}
-
-// ---- Step
-
-// The old value with the step added or taken, raised.
-fn step_from(up: bool, mode: u8, old: u16, step: u16) -> u64
-    ensures { λ r. ⌜ whole r ≡ stepped up (valueIn mode old) step ⌝ }
-{
-    let value = value_in(mode, old);
-    if up {
-        value + wide(step)
-    } else {
-        value - wide(step)
-    }
-}
-
-// What is stored for t, all raised.
-fn fence(up: bool, round: bool, least: u64, greatest: u64, t: u64) -> u64
-    ensures { λ r. ⌜ whole r ≡ fenced up round (whole least) (whole greatest) (whole t) ⌝ }
-{
-    if (least <= t) & (t <= greatest) {
-        return t;
-    }
-    if round {
-        if up {
-            return least;
-        }
-        return greatest;
-    }
-    if t < least {
-        return least;
-    }
-    greatest
-}
-
-fn step_stores(mode: u8, old: u16, f: StepFields) -> u16
-    ensures { λ r. ⌜ r ≡ stepStores mode old f ⌝ }
-{
-    let up = f.direction != 0;
-    let round = f.ending != 0;
-    let t = step_from(up, mode, old, f.step);
-    let kept = fence(up, round, raise(f.least), raise(f.greatest), t);
-    place(mode, old, lower(kept))
-}
-
-// ---- Slider
-
-fn nearest_to(first: u16, last: u16, at: u16) -> u16
-    ensures { λ r. ⌜ r ≡ nearest first last at ⌝ }
-{
-    if at < first {
-        return first;
-    }
-    if last < at {
-        return last;
-    }
-    at
-}
-
-// How far one place lies behind another; 0 before it.
-fn distance(from: u16, to: u16) -> u64
-    ensures { λ r. ⌜ r ≡ to - from ⌝ }
-{
-    if to < from { 0 } else { wide(to - from) }
-}
-
-fn rounded_down(product: u64, w: u64) -> u64
-    ensures { λ r. ⌜ r ≡ roundedDown product w ⌝ }
-{
-    if w == 0 { 0 } else { product / w }
-}
-
-// Where a slider stands, raised.
-fn slide(begin: u16, end: u16, first: u16, last: u16, at: u16) -> u64
-    ensures { λ r. ⌜ whole r ≡ slidTo roundedDown (signed begin) (signed end) first last at ⌝ }
-{
-    let b = raise(begin);
-    let e = raise(end);
-    let d = distance(first, nearest_to(first, last, at));
-    let w = distance(first, last);
-    if b <= e {
-        b + rounded_down((e - b) * d, w)
-    } else {
-        b - rounded_down((b - e) * d, w)
-    }
-}
-
 // ---- Judging
 
 fn good_area(s: Setup, a: Area) -> bool
@@ -332,13 +193,6 @@ fn good_end(mode: u8, w: u16) -> bool
     (mode == 0) | (w < 256)
 }
 
-// Whether a word is at most another, as signed numbers.
-fn at_most(a: u16, b: u16) -> bool
-    ensures { λ r. ⌜ r ≡ leZ (signed a) (signed b) ⌝ }
-{
-    raise(a) <= raise(b)
-}
-
 fn good_step(mode: u8, f: StepFields) -> bool
     ensures { λ r. ⌜ r ≡ goodStep mode f ⌝ }
 {
@@ -347,7 +201,7 @@ fn good_step(mode: u8, f: StepFields) -> bool
         & (f.step <= 32767)
         & good_end(mode, f.least)
         & good_end(mode, f.greatest)
-        & at_most(f.least, f.greatest)
+        & stores::at_most(f.least, f.greatest)
         & (f.once == 1)
 }
 
@@ -481,15 +335,14 @@ pub fn find(table: &[u8], page: u16, x: u16, y: u16) -> Found
 
 // ---- Acting
 
-fn slider_stores(r: Record, f: SliderFields, old: u16, x: u16, y: u16) -> u16
-    ensures { λ a. ⌜ a ≡ sliderStores (r .mode) old (r .area) (f .begin) (f .end) x y ⌝ }
+fn slid_at(r: Record, f: SliderFields, old: u16, x: u16, y: u16) -> u16
+    ensures { λ a. ⌜ a ≡ slidAt r f old x y ⌝ }
 {
     let area = r.area;
     let first = along(r.mode, area.xs, area.ys);
     let last = along(r.mode, area.xe, area.ye);
     let at = along(r.mode, x, y);
-    let stands = slide(f.begin, f.end, first, last, at);
-    place(r.mode / 16, old, lower(stands))
+    stores::slider_stores(r.mode / 16, old, f.begin, f.end, first, last, at)
 }
 
 // The word at a record's address after the record acted at a point.
@@ -498,9 +351,17 @@ pub fn acted(r: Record, old: u16, x: u16, y: u16) -> u16
 {
     let kind = r.kind;
     match kind {
-        Kind::Key(code) => place(r.mode, old, code),
-        Kind::Step(f) => step_stores(r.mode, old, f),
-        Kind::Slider(f) => slider_stores(r, f, old, x, y),
+        Kind::Key(code) => stores::key_stores(r.mode, old, code),
+        Kind::Step(f) => stores::step_stores(
+            r.mode,
+            old,
+            f.direction != 0,
+            f.ending != 0,
+            f.step,
+            f.least,
+            f.greatest,
+        ),
+        Kind::Slider(f) => slid_at(r, f, old, x, y),
         Kind::Other => old,
     }
 }

@@ -1,5 +1,5 @@
 -- `touch::along` meets its contract.
-use Rattle.touch.proofs.Modes.{modes}
+use Rattle.touch.proofs.ByKind.{by-kind}
 use Rattle.touch.proofs.along.Statement.{statement}
 use Rattle.touch.proofs.along.Tie as tie
 
@@ -7,5 +7,5 @@ pub along-spec : {M : Type 1} → statement M
 along-spec =
     tie.close
     (tie.spec
-    (λ c. search modes)
-    (λ c. search modes))
+    (λ c. search by-kind)
+    (λ c. search by-kind))

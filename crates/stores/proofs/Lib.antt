@@ -1,0 +1,4 @@
+pub mod Whole
+pub mod Modes
+pub mod Stepping
+pub mod Sliding

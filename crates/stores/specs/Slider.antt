@@ -1,0 +1,30 @@
+-- 01, "Slider": what a slider stores at a point, in whole numbers.
+use Prim.Native.Nat.{ℕ, _-_, _*_, _/_}
+use mathlib.Core.Bool.{cond}
+use lib.Dec.{ltb}
+use lib.IntN.{ℤ, pos, natAbs, _+ℤ_, _-ℤ_}
+use lib.Signed.{leZ}
+use Rattle.stores.specs.Store.{signed, wordOf, placed}
+
+-- "the point moved to the nearest place in its area", along the axis
+unfoldable pub nearest : (first last at : ℕ) → ℕ
+nearest first last at = cond (ltb at first) first (cond (ltb last at) last at)
+
+-- "rounded down"
+unfoldable pub roundedDown : (product w : ℕ) → ℕ
+roundedDown product w = product / w
+
+-- "|end − begin|·d / w rounded down is moved from begin towards end", for any rounding
+unfoldable pub slid : (rounding : ℕ → ℕ → ℕ) → (begin end : ℤ) → (d w : ℕ) → ℤ
+slid rounding begin end d w =
+    let moved = pos (rounding (natAbs (end -ℤ begin) * d) w) in
+    cond (leZ begin end) (begin +ℤ moved) (begin -ℤ moved)
+
+-- "with d the distance from the first edge and w the edge-to-edge distance"
+unfoldable pub slidTo : (rounding : ℕ → ℕ → ℕ) → (begin end : ℤ) → (first last at : ℕ) → ℤ
+slidTo rounding begin end first last at = slid rounding begin end (nearest first last at - first) (last - first)
+
+-- the word after a slider acted on it, the point at a place along the axis
+unfoldable pub sliderStores : (mode old begin end first last at : ℕ) → ℕ
+sliderStores mode old begin end first last at =
+    placed mode old (wordOf (slidTo roundedDown (signed begin) (signed end) first last at))
