@@ -1,4 +1,11 @@
+pub mod Differences
 pub mod Whole
 pub mod Modes
 pub mod Stepping
+pub mod Slides
 pub mod Sliding
+pub mod Steps
+pub mod Stored
+pub mod Examples
+pub mod Kept
+pub mod Determined

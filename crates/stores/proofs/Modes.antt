@@ -27,7 +27,7 @@ module _ {A : Type 0} (mode : ℕ) (w h l : A) where
 
 -- a byte's number, raised
 pub whole-byte : (n b : ℕ) → n ≡ b → whole (98304 + n) ≡ pos b
-whole-byte n b e = ap (λ (k : ℕ). whole (98304 + k)) e ∙ whole-over (98304 + b) b refl
+whole-byte n b e = ap (λ (k : ℕ). whole (98304 + k)) e ∙ whole-over b
 
 module _ (mode w : ℕ) where
   pub value-whole : (r : ℕ) → mode ≡ 0 → whole r ≡ signed w → whole r ≡ valueIn mode w

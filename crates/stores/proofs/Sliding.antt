@@ -1,4 +1,4 @@
--- Laws of `slid` at raised numbers, for every fair rounding, and a law for each answer of the slider's functions.
+-- A law for each answer of the slider's functions, at raised numbers.
 use mathlib.Core.Path.{_≡_, refl, sym, ap, _∙_, subst}
 use mathlib.Core.Bool.{Bool, true, false}
 use Prim.Native.Nat.{ℕ, zero, suc, _+_, _-_, _*_, _/_, _≤_, _<_, _^_}
@@ -14,36 +14,7 @@ use borrow.Author.Tests.{lt-ltb, le-ltb, ltb-true, ltb-false, le-leb, lt-leb}
 use Rattle.stores.specs.Store.{signed}
 use Rattle.stores.specs.Raised.{whole}
 use Rattle.stores.specs.Slider.{nearest, roundedDown, slid, slidTo}
-use Rattle.stores.proofs.Whole.{whole-add, whole-sub, whole-le, whole-rise, whole-fall}
-
--- where the nearest place is
-module _ (first last at : ℕ) where
-  pub near-before : at < first → first ≡ nearest first last at
-  unfolding nearest
-  near-before h = rw (lt-ltb at first h)
-
-  pub near-behind : first ≤ at → last < at → last ≡ nearest first last at
-  unfolding nearest
-  near-behind h l = rw (le-ltb at first h, lt-ltb last at l)
-
-  pub near-inside : first ≤ at → at ≤ last → at ≡ nearest first last at
-  unfolding nearest
-  near-inside h l = rw (le-ltb at first h, le-ltb last at l)
-
-  -- it lies no farther from the first edge than the last does
-  pub near-le : nearest first last at - first ≤ last - first
-  unfolding nearest
-  near-le = go (ltb at first) refl (ltb last at) refl
-    where
-      go : (a : Bool) → ltb at first ≡ a → (b : Bool) → ltb last at ≡ b → nearest first last at - first ≤ last - first
-      go true a b q = rw a (omega arith)
-      go false a true q = rw (a, q) (omega arith)
-      go false a false q = let h : at ≤ last = ltb-false last at q in rw (a, q) (omega arith)
-
--- the share of a distance D that is moved at d of w is at most D
-pub share-le : (D d w : ℕ) → d ≤ w → roundedDown (D * d) w ≤ D
-unfolding roundedDown
-share-le D d w h = div-le-of-le-mul w (subst (λ (n : ℕ). D * d ≤ n) (mul-comm D w) (mul-le-mul-left D h))
+use Rattle.stores.proofs.Slides.{near-before, near-behind, near-inside, near-le, share-le, rounded-down-fair, slid-rise, slid-fall}
 
 pub rounds-nothing : (product w : ℕ) → w ≡ 0 → 0 ≡ roundedDown product w
 unfolding roundedDown
@@ -52,18 +23,6 @@ rounds-nothing product w e = rw (e, div-zero product)
 pub rounds : (product w : ℕ) → (w ≡ 0 → ⊥) → product / w ≡ roundedDown product w
 unfolding roundedDown
 rounds product w n = refl
-
--- the way to the end, for any rounding
-module _ (rounding : ℕ → ℕ → ℕ) (b e d w : ℕ) where
-  pub slid-rise : b ≤ e → slid rounding (whole b) (whole e) d w ≡ whole (b + rounding ((e - b) * d) w)
-  unfolding slid
-  slid-rise h = rw (whole-le b e, le-leb b e h, whole-rise b e h, whole-add)
-
-  pub slid-fall : e < b → rounding ((b - e) * d) w ≤ b → slid rounding (whole b) (whole e) d w ≡ whole (b - rounding ((b - e) * d) w)
-  unfolding slid
-  slid-fall h l =
-      let f : e ≤ b = omega arith in
-      rw (whole-le b e, lt-leb b e h, whole-fall b e f, whole-sub b (rounding ((b - e) * d) w) l)
 
 fits-64 : (x y : ℕ) → x < 65536 → y < 65536 → Fits w64 (x * y)
 fits-64 x y p q =
@@ -89,23 +48,23 @@ module _ (first last at near d w : ℕ) (is-near : near ≡ nearest first last a
     module _ (b e m : ℕ) where
       pub rise-fits : b ≤ e → e < 131072 → m ≡ roundedDown ((e - b) * d) w → Fits w64 (b + m)
       rise-fits p q is =
-          let h : roundedDown ((e - b) * d) w ≤ e - b = share-le (e - b) d w d-le in
+          let h : roundedDown ((e - b) * d) w ≤ e - b = share-le rounded-down-fair (e - b) d w d-le in
           record { fits = omega arith }
 
       pub fall-fits : e < b → m ≡ roundedDown ((b - e) * d) w → m ≤ b
-      fall-fits p is = let h : roundedDown ((b - e) * d) w ≤ b - e = share-le (b - e) d w d-le in omega arith
+      fall-fits p is = let h : roundedDown ((b - e) * d) w ≤ b - e = share-le rounded-down-fair (b - e) d w d-le in omega arith
 
       module _ (begin end : ℤ) (is-b : whole b ≡ begin) (is-e : whole e ≡ end) where
         pub slide-rises : b ≤ e → m ≡ roundedDown ((e - b) * d) w → whole (b + m) ≡ slidTo roundedDown begin end first last at
-        unfolding slidTo
+        unfolding slidTo whole
         slide-rises p is =
-            rw (← is-b, ← is-e, ← is-w, ← is-near, ← is-d, slid-rise roundedDown b e d w p, is)
+            rw (← is-b, ← is-e, ← is-w, ← is-near, ← is-d, slid-rise roundedDown 98304 b e d w p, is)
 
         pub slide-falls : e < b → m ≡ roundedDown ((b - e) * d) w → whole (b - m) ≡ slidTo roundedDown begin end first last at
-        unfolding slidTo
+        unfolding slidTo whole
         slide-falls p is =
             let l : roundedDown ((b - e) * d) w ≤ b = subst (λ (k : ℕ). k ≤ b) is (fall-fits p is) in
-            rw (← is-b, ← is-e, ← is-w, ← is-near, ← is-d, slid-fall roundedDown b e d w p l, is)
+            rw (← is-b, ← is-e, ← is-w, ← is-near, ← is-d, slid-fall roundedDown 98304 b e d w p l, is)
 
 pub ruleset sliding =
     (needs, near-before, near-behind, near-inside, rounds-nothing, rounds, product-fits, rise-fits, fall-fits, slide-rises, slide-falls)

@@ -1,5 +1,6 @@
 -- 01, "Slider": what a slider stores at a point, in whole numbers.
-use Prim.Native.Nat.{ℕ, _-_, _*_, _/_}
+use mathlib.Core.Path.{_≡_}
+use Prim.Native.Nat.{ℕ, _-_, _*_, _/_, _≤_, _<_}
 use mathlib.Core.Bool.{cond}
 use lib.Dec.{ltb}
 use lib.IntN.{ℤ, pos, natAbs, _+ℤ_, _-ℤ_}
@@ -13,6 +14,12 @@ nearest first last at = cond (ltb at first) first (cond (ltb last at) last at)
 -- "rounded down"
 unfoldable pub roundedDown : (product w : ℕ) → ℕ
 roundedDown product w = product / w
+
+-- what a rounding of product / w has to keep, so that a slider begins at begin, ends at end and never turns back
+pub record Fair (rounding : ℕ → ℕ → ℕ) : Type 0 where
+  pub none : (w : ℕ) → rounding 0 w ≡ 0
+  pub all : (n w : ℕ) → 0 < w → rounding (n * w) w ≡ n
+  pub rising : (m n w : ℕ) → m ≤ n → rounding m w ≤ rounding n w
 
 -- "|end − begin|·d / w rounded down is moved from begin towards end", for any rounding
 unfoldable pub slid : (rounding : ℕ → ℕ → ℕ) → (begin end : ℤ) → (d w : ℕ) → ℤ

@@ -1,3 +1,4 @@
 pub mod ByCode
 pub mod ByKind
 pub mod Walk
+pub mod Determined
