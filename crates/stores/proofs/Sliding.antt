@@ -37,34 +37,35 @@ module _ (first last at near d w : ℕ) (is-near : near ≡ nearest first last a
     d-le : d ≤ w
     d-le = let h : nearest first last at - first ≤ last - first = near-le first last at in omega arith
 
-    pub product-fits : (a b : ℕ) → last < 65536 → 65536 ≤ a → b < 131072 → Fits w64 ((b - a) * d)
-    product-fits a b l p q =
+    pub product-fits : (a b far : ℕ) → far ≡ b - a → last < 65536 → 65536 ≤ a → b < 131072 → Fits w64 (far * d)
+    product-fits a b far is l p q =
         let h : d ≤ w = d-le in
-        let x : b - a < 65536 = omega arith in
+        let x : far < 65536 = omega arith in
         let y : d < 65536 = omega arith in
-        fits-64 (b - a) d x y
+        fits-64 far d x y
 
-    -- and the two ends, raised
-    module _ (b e m : ℕ) where
-      pub rise-fits : b ≤ e → e < 131072 → m ≡ roundedDown ((e - b) * d) w → Fits w64 (b + m)
+    -- and the two ends, raised, how far they lie apart and how much of that is moved
+    module _ (b e far m : ℕ) (moved : m ≡ roundedDown (far * d) w) where
+      pub rise-fits : b ≤ e → e < 131072 → far ≡ e - b → Fits w64 (b + m)
       rise-fits p q is =
-          let h : roundedDown ((e - b) * d) w ≤ e - b = share-le rounded-down-fair (e - b) d w d-le in
+          let h : roundedDown (far * d) w ≤ far = share-le rounded-down-fair far d w d-le in
           record { fits = omega arith }
 
-      pub fall-fits : e < b → m ≡ roundedDown ((b - e) * d) w → m ≤ b
-      fall-fits p is = let h : roundedDown ((b - e) * d) w ≤ b - e = share-le rounded-down-fair (b - e) d w d-le in omega arith
+      pub fall-fits : e < b → far ≡ b - e → m ≤ b
+      fall-fits p is = let h : roundedDown (far * d) w ≤ far = share-le rounded-down-fair far d w d-le in omega arith
 
       module _ (begin end : ℤ) (is-b : whole b ≡ begin) (is-e : whole e ≡ end) where
-        pub slide-rises : b ≤ e → m ≡ roundedDown ((e - b) * d) w → whole (b + m) ≡ slidTo roundedDown begin end first last at
+        pub slide-rises : b ≤ e → far ≡ e - b → whole (b + m) ≡ slidTo roundedDown begin end first last at
         unfolding slidTo whole
         slide-rises p is =
-            rw (← is-b, ← is-e, ← is-w, ← is-near, ← is-d, slid-rise roundedDown 98304 b e d w p, is)
+            rw (← is-b, ← is-e, ← is-w, ← is-near, ← is-d, slid-rise roundedDown 98304 b e d w p, moved, is)
 
-        pub slide-falls : e < b → m ≡ roundedDown ((b - e) * d) w → whole (b - m) ≡ slidTo roundedDown begin end first last at
+        pub slide-falls : e < b → far ≡ b - e → whole (b - m) ≡ slidTo roundedDown begin end first last at
         unfolding slidTo whole
         slide-falls p is =
-            let l : roundedDown ((b - e) * d) w ≤ b = subst (λ (k : ℕ). k ≤ b) is (fall-fits p is) in
-            rw (← is-b, ← is-e, ← is-w, ← is-near, ← is-d, slid-fall roundedDown 98304 b e d w p l, is)
+            let k : m ≡ roundedDown ((b - e) * d) w = moved ∙ ap (λ (n : ℕ). roundedDown (n * d) w) is in
+            let l : roundedDown ((b - e) * d) w ≤ b = subst (λ (n : ℕ). n ≤ b) k (fall-fits p is) in
+            rw (← is-b, ← is-e, ← is-w, ← is-near, ← is-d, slid-fall roundedDown 98304 b e d w p l, moved, is)
 
 pub ruleset sliding =
     (needs, near-before, near-behind, near-inside, rounds-nothing, rounds, product-fits, rise-fits, fall-fits, slide-rises, slide-falls)

@@ -149,6 +149,13 @@ fn rounded_down(product: u64, w: u64) -> u64
     if w == 0 { 0 } else { product / w }
 }
 
+// How far one raised number lies above another; 0 below it.
+fn above(from: u64, to: u64) -> u64
+    ensures { λ r. ⌜ r ≡ to - from ⌝ }
+{
+    if to < from { 0 } else { to - from }
+}
+
 // Where a slider stands, raised.
 fn slide(begin: u16, end: u16, first: u16, last: u16, at: u16) -> u64
     ensures { λ r. ⌜ whole r ≡ slidTo roundedDown (signed begin) (signed end) first last at ⌝ }
@@ -158,9 +165,9 @@ fn slide(begin: u16, end: u16, first: u16, last: u16, at: u16) -> u64
     let d = distance(first, nearest_to(first, last, at));
     let w = distance(first, last);
     if b <= e {
-        b + rounded_down((e - b) * d, w)
+        b + rounded_down(above(b, e) * d, w)
     } else {
-        b - rounded_down((b - e) * d, w)
+        b - rounded_down(above(e, b) * d, w)
     }
 }
 

@@ -1,4 +1,6 @@
 pub mod ByCode
 pub mod ByKind
 pub mod Walk
+pub mod Tables
+pub mod GoodFields
 pub mod Determined

@@ -90,8 +90,13 @@ notRecords table = ltb (mostRecords * recordBytes) (length table) || not (eqb (l
 unfoldable pub judged : Setup → List ℕ → Verdict
 judged s table = cond (notRecords table) NotRecords (firstWrong s (recordsOf table))
 
--- 01, "Numbers given back": the number of each verdict
-abbrev pub verdictNumber : Verdict → ℕ
-verdictNumber Good = 0
-verdictNumber NotRecords = 12
-verdictNumber (Wrong i) = 13
+-- 01, "Numbers given back": the number of each verdict, and what is named beside it
+abbrev pub numberOfVerdict : Verdict → ℕ
+numberOfVerdict Good = 0
+numberOfVerdict NotRecords = 12
+numberOfVerdict (Wrong i) = 13
+
+abbrev pub namedByVerdict : Verdict → List ℕ
+namedByVerdict Good = []
+namedByVerdict NotRecords = []
+namedByVerdict (Wrong i) = i ∷ []

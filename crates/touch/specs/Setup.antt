@@ -23,5 +23,5 @@ goodSetup s =
     && leb 1 (s .height) && leb (s .height) 768
 
 -- 01, "Numbers given back": "11 setup wrong"
-abbrev pub setupNumber : Setup → ℕ
-setupNumber s = cond (goodSetup s) 0 11
+abbrev pub numberOfSetup : Setup → ℕ
+numberOfSetup s = cond (goodSetup s) 0 11

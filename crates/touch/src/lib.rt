@@ -280,16 +280,16 @@ fn first_wrong(s: Setup, table: &[u8]) -> Verdict
     ensures { λ r. ⌜ r ≡ firstWrong s (recordsOf (now (table .entry))) ⌝ }
 {
     let count = table.len() / RECORD_BYTES;
-    let mut i: usize = 0;
-    while i < count {
-        let r = record_at(table, i);
+    let mut number: usize = 0;
+    while number < count {
+        let r = record_at(table, number);
         if r.page == 0xFFFF {
             return Verdict::Good;
         }
         if good_record(s, r) {
-            i += 1;
+            number += 1;
         } else {
-            return Verdict::Wrong(i);
+            return Verdict::Wrong(number);
         }
     }
     Verdict::Good
