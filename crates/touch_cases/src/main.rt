@@ -87,27 +87,44 @@ fn answer(head: &[u8], table: &[u8]) {
     }
 }
 
+// Reads n bytes into the front of a room, or says that there are not so many.
+fn filled(room: &mut [u8], n: usize) -> bool {
+    if room.len() < n {
+        return false;
+    }
+    io::read_full(STDIN_FILENO, &mut room[0..n]) == n
+}
+
+// Writes the label and the answer of a case.
+fn show(head: &[u8], label: &[u8], named: usize, table: &[u8], size: usize) {
+    if label.len() < named {
+        return;
+    }
+    if table.len() < size {
+        return;
+    }
+    say(&label[0..named]);
+    say(b": ");
+    answer(head, &table[0..size]);
+    say(b"\n");
+}
+
 // Reads a case and answers it, or says that there is none.
 fn one_case() -> bool {
     let mut head = [0u8; HEAD];
-    let got = io::read_full(STDIN_FILENO, &mut head);
-    let size = wire::word_at(&head, 2) as usize;
-    if (got < HEAD) | (ROOM < size) {
-        return false;
+    if filled(&mut head, HEAD) {
+        let named = wire::count(wire::byte_at(&head, 1));
+        let size = wire::word_at(&head, 2) as usize;
+        let mut label = [0u8; 256];
+        let mut table = [0u8; ROOM];
+        let is_named = filled(&mut label, named);
+        let is_whole = filled(&mut table, size);
+        if is_named & is_whole {
+            show(&head, &label, named, &table, size);
+            return true;
+        }
     }
-    let n = wire::count(wire::byte_at(&head, 1));
-    let mut label = [0u8; 256];
-    let named = io::read_full(STDIN_FILENO, &mut label[..n]);
-    let mut table = [0u8; ROOM];
-    let filled = io::read_full(STDIN_FILENO, &mut table[..size]);
-    if (named < n) | (filled < size) {
-        return false;
-    }
-    say(&label[..n]);
-    say(b": ");
-    answer(&head, &table[..size]);
-    say(b"\n");
-    true
+    false
 }
 
 // A proved loop has to end, and nothing says that the input does. So the loop counts its turns down, from a number that no run uses up.
