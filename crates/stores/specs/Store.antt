@@ -26,6 +26,6 @@ valueIn mode w = inMode mode (signed w) (pos (highByte w)) (pos (lowByte w))
 abbrev pub placed : ℕ → ℕ → ℕ → ℕ
 placed mode old new = inMode mode new (word (lowByte new) (lowByte old)) (word (highByte old) (lowByte new))
 
--- Key: "14 code"
+-- Key: "mode 0 whole word, 1 high byte, 2 low byte; 14 code"
 abbrev pub keyStores : (mode old code : ℕ) → ℕ
 keyStores mode old code = placed mode old code

@@ -12,11 +12,11 @@ use Rattle.touch.specs.declared.Record.{Record}
 use Rattle.touch.specs.Record.{noNext, digitMode, firstEdge, lastEdge}
 use Rattle.touch.specs.Judge.{goodArea, goodMode, goodEnd, sameArea, goodSlider, goodKind, goodRecord}
 
-left : (a b : Bool) → (a && b) ≡ true → a ≡ true
+pub left : (a b : Bool) → (a && b) ≡ true → a ≡ true
 left true b e = refl
 left false b e = e
 
-right : (a b : Bool) → (a && b) ≡ true → b ≡ true
+pub right : (a b : Bool) → (a && b) ≡ true → b ≡ true
 right true b e = e
 right false b e = cc
 

@@ -3,4 +3,5 @@ pub mod ByKind
 pub mod Walk
 pub mod Tables
 pub mod GoodFields
+pub mod Points
 pub mod Determined

@@ -10,12 +10,13 @@ use Rattle.touch.specs.declared.Kind.the-variants.{Key, Step, Slider, Ot
 use Rattle.touch.specs.declared.Record.{Record}
 use Rattle.touch.specs.Record.{slides, up, round, digitMode, firstEdge, lastEdge, along}
 
--- what a slider stores at a point
+-- what a slider stores at a point: its digits of mode, its edges and the point along its axis
 abbrev pub slidAt : Record → SliderFields → (old x y : ℕ) → ℕ
 slidAt r f old x y =
     sliderStores (digitMode (r .mode)) old (f .begin) (f .end)
     (firstEdge (r .mode) (r .area)) (lastEdge (r .mode) (r .area)) (along (r .mode) x y)
 
+-- what each kind stores; a record of no kind leaves the word
 abbrev pub actedBy : Kind → Record → (old x y : ℕ) → ℕ
 actedBy (Key code) r old x y = keyStores (r .mode) old code
 actedBy (Step f) r old x y = stepStores (r .mode) old (up f) (round f) (f .step) (f .least) (f .greatest)

@@ -72,10 +72,10 @@ goodRecord s r =
     && ltb (r .word) 0x7000
     && goodKind r (r .kind)
 
+-- "13 a record is wrong; the first wrong one is named"
 unfoldable pub wrong : Setup → Record → Bool
 wrong s r = not (goodRecord s r)
 
--- "13 a record is wrong; the first wrong one is named"
 abbrev pub namedWrong : Found → Verdict
 namedWrong Nothing = Good
 namedWrong (At i r) = Wrong i
@@ -87,6 +87,7 @@ firstWrong s rs = namedWrong (firstOf (wrong s) 0 rs)
 abbrev pub notRecords : List ℕ → Bool
 notRecords table = ltb (mostRecords * recordBytes) (length table) || not (eqb (length table % recordBytes) 0)
 
+-- of the two numbers, 12 is given first
 unfoldable pub judged : Setup → List ℕ → Verdict
 judged s table = cond (notRecords table) NotRecords (firstWrong s (recordsOf table))
 

@@ -63,6 +63,7 @@ recordOf bytes =
 abbrev pub noNext : Record → Bool
 noNext r = eqb (highByte (r .next)) 0xFF
 
+-- "Slider (03)"
 abbrev pub isSlider : Kind → Bool
 isSlider (Key code) = false
 isSlider (Step f) = false
@@ -73,7 +74,7 @@ isSlider Other = false
 abbrev pub slides : Record → Bool
 slides r = isSlider (r .kind)
 
--- "14 direction, 00 down, else up"
+-- Step: "14 direction, 00 down, else up"
 abbrev pub up : StepFields → Bool
 up f = not (eqb (f .direction) 0)
 
@@ -81,13 +82,15 @@ up f = not (eqb (f .direction) 0)
 abbrev pub round : StepFields → Bool
 round f = not (eqb (f .ending) 0)
 
--- "mode high digit 0, 1, 2 as above, low digit 0 across, 1 down"
+-- Slider: "mode high digit 0, 1, 2 as above"
 abbrev pub digitMode : ℕ → ℕ
 digitMode mode = mode / 16
 
+-- "low digit 0 across, 1 down": of two numbers, the one along a slider's axis
 abbrev pub along {ℓ} : {A : Type ℓ} → ℕ → A → A → A
 along mode across down = cond (eqb (mode % 16) 0) across down
 
+-- "the first edge" along the axis, and the last
 abbrev pub firstEdge : ℕ → Area → ℕ
 firstEdge mode a = along mode (a .xs) (a .ys)
 

@@ -8,13 +8,15 @@ use Rattle.touch.specs.declared.Setup.{Setup}
 abbrev pub flagValues : ℕ
 flagValues = 4
 
+-- "bit 0 checking"
 abbrev pub checkingOf : Setup → Bool
 checkingOf s = eqb (s .flags % 2) 1
 
+-- "bit 1 acknowledging"
 abbrev pub acknowledgingOf : Setup → Bool
 acknowledgingOf s = eqb (s .flags / 2 % 2) 1
 
--- "pages P 1 to 65,280, width 1 to 1,024, height 1 to 768"
+-- "flags .., pages P 1 to 65,280, width 1 to 1,024, height 1 to 768"
 abbrev pub goodSetup : Setup → Bool
 goodSetup s =
     ltb (s .flags) flagValues
