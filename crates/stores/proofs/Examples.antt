@@ -1,8 +1,7 @@
 -- 01, "Proved examples", g to j.
 use mathlib.Core.Path.{_≡_, refl}
 use mathlib.Core.Bool.{true, false}
-use Prim.Native.Nat.{ℕ}
-use lib.IntN.{ℤ, pos, negsuc}
+use lib.IntN.{negsuc}
 use Rattle.stores.specs.Store.{inMode, signed, wordOf}
 use Rattle.stores.specs.Step.{stepped, fenced, stepStores}
 use Rattle.stores.specs.Slider.{nearest, roundedDown, slid, slidTo, sliderStores}

@@ -1,5 +1,5 @@
 -- What a step or a slider of a good record stores is, read again in its mode, the whole number that 01 names.
-use mathlib.Core.Path.{_≡_, refl, sym, ap, _∙_, subst}
+use mathlib.Core.Path.{_≡_, refl, _∙_}
 use mathlib.Core.Bool.{Bool, true, false}
 use mathlib.Core.Logic.{_⊎_, inl, inr}
 use Prim.Native.Nat.{ℕ, _-_, _<_, _≤_}
@@ -11,11 +11,11 @@ use lib.Signed.{leZ, mag}
 use borrow.Author.Tests.{ltb-true, ltb-false, leb-true, leb-false, le-leb, lt-ltb}
 use Rattle.stores.specs.Store.{signed, wordOf, valueIn, placed}
 use Rattle.stores.specs.Step.{stepped, fenced, stepStores}
-use Rattle.stores.specs.Slider.{nearest, roundedDown, slid, slidTo, sliderStores}
+use Rattle.stores.specs.Slider.{roundedDown, slidTo, sliderStores}
 use Rattle.stores.proofs.Differences.{sub-le, over-one}
-use Rattle.stores.proofs.Slides.{rounded-down-fair, near-le, slid-between-up, slid-between-down}
-use Rattle.stores.proofs.Steps.{fenced-within}
-use Rattle.stores.proofs.Stored.{stores-word, stores-byte}
+use Rattle.stores.proofs.Slid.{rounded-down-fair, near-le, slid-between-up, slid-between-down}
+use Rattle.stores.proofs.Fenced.{fenced-within}
+use Rattle.stores.proofs.Placed.{stores-word, stores-byte}
 
 mag-signed : (w : ℕ) → w < 65536 → mag (signed w) < 32768
 unfolding signed

@@ -1,11 +1,13 @@
+-- the laws of the definitions
 pub mod Differences
 pub mod Whole
-pub mod Modes
-pub mod Stepping
-pub mod Slides
-pub mod Sliding
-pub mod Steps
-pub mod Stored
-pub mod Examples
+pub mod Placed
+pub mod Fenced
+pub mod Slid
 pub mod Kept
+pub mod Examples
+-- the laws that the functions' proofs cite
+pub mod ModeAnswers
+pub mod StepAnswers
+pub mod SliderAnswers
 pub mod Determined

@@ -1,5 +1,5 @@
 -- What the code of a record makes it: a law for each answer of `kind_of`.
-use mathlib.Core.Path.{_≡_, sym, ap, _∙_}
+use mathlib.Core.Path.{_≡_}
 use mathlib.Core.List.{List}
 use Prim.Native.Nat.{ℕ}
 use borrow.Author.Needs.{needs}
@@ -7,7 +7,6 @@ use borrow.Author.Tests.{eq-eqb, ne-eqb}
 use Rattle.wire.specs.ByteOrder.{wordAt}
 use Rattle.touch.specs.declared.StepFields.{StepFields}
 use Rattle.touch.specs.declared.SliderFields.{SliderFields}
-use Rattle.touch.specs.declared.Kind.{Kind}
 use Rattle.touch.specs.declared.Kind.the-variants.{Key, Step, Slider, Other}
 use Rattle.touch.specs.Record.{stepFields, sliderFields, kindOf}
 

@@ -1,13 +1,12 @@
 -- What a good record promises of its fields: laws of `goodRecord` for those who use a record of a good table.
 use mathlib.Core.Path.{_≡_, refl, sym, ap, _∙_}
 use mathlib.Core.Bool.{Bool, true, false, _&&_, _||_}
-use Prim.Native.Nat.{ℕ, _<_, _%_}
-use lib.Dec.{ltb, leb, eqb}
+use Prim.Native.Nat.{_<_, _%_}
+use lib.Dec.{ltb, eqb}
 use borrow.Author.Tests.{ltb-true}
 use Rattle.touch.specs.declared.Setup.{Setup}
 use Rattle.touch.specs.declared.SliderFields.{SliderFields}
-use Rattle.touch.specs.declared.Kind.{Kind}
-use Rattle.touch.specs.declared.Kind.the-variants.{Key, Step, Slider, Other}
+use Rattle.touch.specs.declared.Kind.the-variants.{Slider}
 use Rattle.touch.specs.declared.Record.{Record}
 use Rattle.touch.specs.Record.{noNext, digitMode, firstEdge, lastEdge}
 use Rattle.touch.specs.Judge.{goodArea, goodMode, goodEnd, sameArea, goodSlider, goodKind, goodRecord}

@@ -1,7 +1,9 @@
-pub mod ByCode
-pub mod ByKind
-pub mod Walk
+-- the laws of the definitions
 pub mod Tables
 pub mod GoodFields
 pub mod Points
+-- the laws that the functions' proofs cite
+pub mod ByCode
+pub mod ByKind
+pub mod TableAnswers
 pub mod Determined

@@ -1,11 +1,11 @@
 -- A point in a record's area is its own nearest place: what a slider stores there goes by the point itself.
-use mathlib.Core.Path.{_≡_, refl, sym}
+use mathlib.Core.Path.{_≡_, sym}
 use mathlib.Core.Bool.{Bool, true, false, _&&_, cond}
 use Prim.Native.Nat.{ℕ, _%_}
 use lib.Dec.{leb, eqb}
 use borrow.Author.Tests.{leb-true}
 use Rattle.stores.specs.Slider.{nearest}
-use Rattle.stores.proofs.Slides.{near-inside}
+use Rattle.stores.proofs.Slid.{near-inside}
 use Rattle.touch.specs.declared.Area.{Area}
 use Rattle.touch.specs.Record.{along, firstEdge, lastEdge}
 use Rattle.touch.specs.Find.{inArea}

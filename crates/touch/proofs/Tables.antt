@@ -10,12 +10,11 @@ use lib.ListN.{length}
 use borrow.Author.Tests.{not-true, not-false}
 use Rattle.touch.specs.declared.Setup.{Setup}
 use Rattle.touch.specs.declared.Record.{Record}
-use Rattle.touch.specs.declared.Verdict.{Verdict}
 use Rattle.touch.specs.declared.Verdict.the-variants.{Good, NotRecords, Wrong}
 use Rattle.touch.specs.declared.Found.{Found}
 use Rattle.touch.specs.declared.Found.the-variants.{Nothing, At}
 use Rattle.touch.specs.Table.{ends, recordAt, recordsFrom, recordsOf, firstOf}
-use Rattle.touch.specs.Judge.{goodRecord, wrong, namedWrong, firstWrong, notRecords, judged}
+use Rattle.touch.specs.Judge.{goodRecord, wrong, namedWrong, notRecords, judged}
 use Rattle.touch.specs.Find.{holds, found}
 
 no : {A : Type 0} → _≡_ {A = ℕ} 0 1 → A

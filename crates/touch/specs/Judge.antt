@@ -1,9 +1,9 @@
 -- 01, "Setup and touch table", which records and which tables are good. "A field outside what is printed makes the record wrong."
-use Prim.Native.Nat.{ℕ, zero, suc, _+_, _*_, _/_, _%_}
-use mathlib.Core.Bool.{Bool, true, false, _&&_, _||_, not, cond}
+use Prim.Native.Nat.{ℕ, _*_, _%_}
+use mathlib.Core.Bool.{Bool, false, _&&_, _||_, not, cond}
 use mathlib.Core.List.{List, [], _∷_}
 use lib.Dec.{ltb, leb, eqb}
-use lib.ListN.{length, take, drop}
+use lib.ListN.{length}
 use lib.Signed.{leZ}
 use Rattle.touch.specs.declared.Setup.{Setup}
 use Rattle.touch.specs.declared.Area.{Area}

@@ -1,5 +1,5 @@
 -- `stores::at_most` meets its contract.
-use Rattle.stores.proofs.Modes.{modes}
+use Rattle.stores.proofs.ModeAnswers.{modes}
 use Rattle.stores.proofs.at_most.Statement.{statement}
 use Rattle.stores.proofs.at_most.Tie as tie
 

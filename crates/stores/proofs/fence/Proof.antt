@@ -1,5 +1,5 @@
 -- `stores::fence` meets its contract.
-use Rattle.stores.proofs.Stepping.{stepping}
+use Rattle.stores.proofs.StepAnswers.{stepping}
 use Rattle.stores.proofs.fence.Statement.{statement}
 use Rattle.stores.proofs.fence.Tie as tie
 

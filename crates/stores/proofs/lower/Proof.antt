@@ -1,5 +1,5 @@
 -- `stores::lower` meets its contract.
-use Rattle.stores.proofs.Modes.{modes}
+use Rattle.stores.proofs.ModeAnswers.{modes}
 use Rattle.stores.proofs.lower.Statement.{statement}
 use Rattle.stores.proofs.lower.Tie as tie
 

@@ -1,5 +1,5 @@
 -- `stores::nearest_to` meets its contract.
-use Rattle.stores.proofs.Sliding.{sliding}
+use Rattle.stores.proofs.SliderAnswers.{sliding}
 use Rattle.stores.proofs.nearest_to.Statement.{statement}
 use Rattle.stores.proofs.nearest_to.Tie as tie
 

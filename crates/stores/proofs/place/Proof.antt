@@ -1,5 +1,5 @@
 -- `stores::place` meets its contract.
-use Rattle.stores.proofs.Modes.{modes}
+use Rattle.stores.proofs.ModeAnswers.{modes}
 use Rattle.stores.proofs.place.Statement.{statement}
 use Rattle.stores.proofs.place.Tie as tie
 

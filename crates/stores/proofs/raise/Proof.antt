@@ -1,5 +1,5 @@
 -- `stores::raise` meets its contract.
-use Rattle.stores.proofs.Modes.{modes}
+use Rattle.stores.proofs.ModeAnswers.{modes}
 use Rattle.stores.proofs.raise.Statement.{statement}
 use Rattle.stores.proofs.raise.Tie as tie
 

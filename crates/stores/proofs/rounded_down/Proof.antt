@@ -1,5 +1,5 @@
 -- `stores::rounded_down` meets its contract.
-use Rattle.stores.proofs.Sliding.{sliding}
+use Rattle.stores.proofs.SliderAnswers.{sliding}
 use Rattle.stores.proofs.rounded_down.Statement.{statement}
 use Rattle.stores.proofs.rounded_down.Tie as tie
 

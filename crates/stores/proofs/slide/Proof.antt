@@ -1,5 +1,5 @@
 -- `stores::slide` meets its contract.
-use Rattle.stores.proofs.Sliding.{sliding}
+use Rattle.stores.proofs.SliderAnswers.{sliding}
 use Rattle.stores.proofs.slide.Statement.{statement}
 use Rattle.stores.proofs.slide.Tie as tie
 

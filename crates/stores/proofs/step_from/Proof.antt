@@ -1,5 +1,5 @@
 -- `stores::step_from` meets its contract.
-use Rattle.stores.proofs.Stepping.{stepping}
+use Rattle.stores.proofs.StepAnswers.{stepping}
 use Rattle.stores.proofs.step_from.Statement.{statement}
 use Rattle.stores.proofs.step_from.Tie as tie
 

@@ -1,5 +1,5 @@
 -- `stores::value_in` meets its contract.
-use Rattle.stores.proofs.Modes.{modes}
+use Rattle.stores.proofs.ModeAnswers.{modes}
 use Rattle.stores.proofs.value_in.Statement.{statement}
 use Rattle.stores.proofs.value_in.Tie as tie
 

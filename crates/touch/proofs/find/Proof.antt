@@ -1,9 +1,8 @@
 -- `touch::find` meets its contract.
 use mathlib.Core.Path.{_≡_}
 use Prim.Native.Nat.{_≤_, _-_}
-use lib.ListN.{length}
 use Rattle.touch.specs.Find.{holds, found}
-use Rattle.touch.proofs.Walk.{walk, picked}
+use Rattle.touch.proofs.TableAnswers.{walk, picked}
 use Rattle.touch.proofs.find.Statement.{statement}
 use Rattle.touch.proofs.find.Tie as tie
 

@@ -1,10 +1,9 @@
 -- `touch::first_wrong` meets its contract.
 use mathlib.Core.Path.{_≡_}
 use Prim.Native.Nat.{_≤_, _-_}
-use lib.ListN.{length}
 use Rattle.touch.specs.Table.{firstOf, recordsOf}
 use Rattle.touch.specs.Judge.{wrong}
-use Rattle.touch.proofs.Walk.{walk, picked}
+use Rattle.touch.proofs.TableAnswers.{walk, picked}
 use Rattle.touch.proofs.first_wrong.Statement.{statement}
 use Rattle.touch.proofs.first_wrong.Tie as tie
 

@@ -1,5 +1,5 @@
 -- `touch::judge` meets its contract.
-use Rattle.touch.proofs.Walk.{walk}
+use Rattle.touch.proofs.TableAnswers.{walk}
 use Rattle.touch.proofs.judge.Statement.{statement}
 use Rattle.touch.proofs.judge.Tie as tie
 

@@ -1,5 +1,5 @@
 -- `touch::record_at` meets its contract.
-use Rattle.touch.proofs.Walk.{walk}
+use Rattle.touch.proofs.TableAnswers.{walk}
 use Rattle.touch.proofs.record_at.Statement.{statement}
 use Rattle.touch.proofs.record_at.Tie as tie
 

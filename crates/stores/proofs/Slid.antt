@@ -1,13 +1,13 @@
 -- Laws of `nearest`, `slid` and `slidTo`, for every fair rounding and all whole numbers: a slider stands between begin and end, at begin
 -- at the first edge, at end at the last, and moves one way as the point does.
-use mathlib.Core.Path.{_≡_, refl, sym, ap, _∙_, subst}
+use mathlib.Core.Path.{_≡_, refl, sym, ap, _∙_}
 use mathlib.Core.Bool.{Bool, true, false}
 use mathlib.Core.Logic.{_⊎_, inl, inr}
 use Prim.Native.Nat.{ℕ, zero, suc, _+_, _-_, _*_, _/_, _≤_, _<_}
-use native.Mathlib.Nat.{mul-comm, mul-zero, mul-le-mul-left, mul-div-cancel, zero-div, le-div-iff-mul-le, div-mul-le-self, div-zero, le-trans, le-refl, eq-zero-or-pos}
+use native.Mathlib.Nat.{mul-zero, mul-le-mul-left, mul-div-cancel, zero-div, le-div-iff-mul-le, div-mul-le-self, div-zero, le-trans, le-refl, eq-zero-or-pos}
 use native.Mathlib.Omega.{arith}
 use lib.Dec.{ltb, leb}
-use lib.IntN.{ℤ, pos, natAbs, subℕ, _+ℤ_, _-ℤ_}
+use lib.IntN.{ℤ, subℕ}
 use lib.Signed.{leZ}
 use borrow.Author.Tests.{lt-ltb, le-ltb, ltb-true, ltb-false, leb-true, leb-false, le-leb, lt-leb}
 use Rattle.stores.specs.Slider.{nearest, roundedDown, Fair, slid, slidTo}

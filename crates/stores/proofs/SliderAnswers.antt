@@ -1,20 +1,15 @@
 -- A law for each answer of the slider's functions, at raised numbers.
-use mathlib.Core.Path.{_≡_, refl, sym, ap, _∙_, subst}
-use mathlib.Core.Bool.{Bool, true, false}
-use Prim.Native.Nat.{ℕ, zero, suc, _+_, _-_, _*_, _/_, _≤_, _<_, _^_}
-use native.Mathlib.Nat.{div-le-of-le-mul, mul-le-mul, mul-le-mul-left, mul-comm, mul-zero, div-zero}
+use mathlib.Core.Path.{_≡_, refl, ap, _∙_, subst}
+use Prim.Native.Nat.{ℕ, _+_, _-_, _*_, _/_, _≤_, _<_}
+use native.Mathlib.Nat.{mul-le-mul, div-zero}
 use native.Mathlib.Omega.{arith}
-use lib.Dec.{ltb, lit<}
-use lib.IntN.{ℤ, pos, natAbs, _+ℤ_, _-ℤ_}
-use lib.Signed.{leZ}
+use lib.IntN.{ℤ}
 use mir.Syntax.{w64}
 use mir.Val.{Fits}
 use borrow.Author.Needs.{needs}
-use borrow.Author.Tests.{lt-ltb, le-ltb, ltb-true, ltb-false, le-leb, lt-leb}
-use Rattle.stores.specs.Store.{signed}
 use Rattle.stores.specs.Raised.{whole}
-use Rattle.stores.specs.Slider.{nearest, roundedDown, slid, slidTo}
-use Rattle.stores.proofs.Slides.{near-before, near-behind, near-inside, near-le, share-le, rounded-down-fair, slid-rise, slid-fall}
+use Rattle.stores.specs.Slider.{nearest, roundedDown, slidTo}
+use Rattle.stores.proofs.Slid.{near-before, near-behind, near-inside, near-le, share-le, rounded-down-fair, slid-rise, slid-fall}
 
 pub rounds-nothing : (product w : ℕ) → w ≡ 0 → 0 ≡ roundedDown product w
 unfolding roundedDown

@@ -1,15 +1,15 @@
 -- Laws of the modes over all words: a byte mode keeps the other byte, and what is stored is the number that was to be stored.
 use mathlib.Core.Path.{_≡_, refl, sym, ap, _∙_}
 use mathlib.Core.Bool.{Bool, true, false}
-use Prim.Native.Nat.{ℕ, _+_, _-_, _*_, _/_, _%_, _<_, _≤_}
+use Prim.Native.Nat.{ℕ, _-_, _%_, _<_, _≤_}
 use native.Mathlib.Omega.{arith}
-use lib.Dec.{ltb, eqb}
+use lib.Dec.{eqb}
 use lib.IntN.{ℤ, pos, negsuc}
 use lib.Signed.{mag}
 use borrow.Author.Tests.{lt-ltb, le-ltb, eqb-true, eqb-false}
 use Rattle.wire.specs.ByteOrder.{highByte, lowByte, word}
-use Rattle.stores.specs.Store.{inMode, signed, wordOf, valueIn, placed}
-use Rattle.stores.proofs.Modes.{in-whole, in-high, in-low}
+use Rattle.stores.specs.Store.{signed, wordOf, valueIn, placed}
+use Rattle.stores.proofs.ModeAnswers.{in-whole, in-high, in-low}
 
 module _ (mode old new : ℕ) where
   placed-high : (mode ≡ 0 → ⊥) → mode ≡ 1 → placed mode old new ≡ word (lowByte new) (lowByte old)
