@@ -1,17 +1,17 @@
 -- What a step or a slider of a good record stores is, read again in its mode, the whole number that 01 names.
 use mathlib.Core.Path.{_≡_, refl, _∙_}
-use mathlib.Core.Bool.{Bool, true, false}
+use mathlib.Core.Bool.{Bool, true, false, _||_}
 use mathlib.Core.Logic.{_⊎_, inl, inr}
 use Prim.Native.Nat.{ℕ, _-_, _<_, _≤_}
 use native.Mathlib.Nat.{lt-of-le-of-lt}
 use native.Mathlib.Omega.{arith}
-use lib.Dec.{ltb, leb}
+use lib.Dec.{ltb, leb, eqb}
 use lib.IntN.{ℤ, pos, negsuc, subℕ}
 use lib.Signed.{leZ, mag}
-use borrow.Author.Tests.{ltb-true, ltb-false, leb-true, leb-false, le-leb, lt-ltb}
-use Rattle.stores.specs.Store.{signed, wordOf, valueIn, placed}
+use borrow.Author.Tests.{eqb-true, eqb-false, ltb-true, ltb-false, leb-true, leb-false, le-leb, lt-ltb}
+use Rattle.stores.specs.Store.{signed, wordOf, valueIn, placed, goodEnd}
 use Rattle.stores.specs.Step.{stepped, fenced, stepStores}
-use Rattle.stores.specs.Slider.{roundedDown, slidTo, sliderStores}
+use Rattle.stores.specs.Slider.{nearest, roundedDown, slid, slidTo, sliderStores}
 use Rattle.stores.proofs.Differences.{sub-le, over-one}
 use Rattle.stores.proofs.Slid.{rounded-down-fair, near-le, slid-between-up, slid-between-down}
 use Rattle.stores.proofs.Fenced.{fenced-within}
@@ -54,26 +54,25 @@ module _ (mode old a b : ℕ) (z : ℤ) (low : leZ (signed a) z ≡ true) (high 
       go : (k : ℕ) × ((z ≡ pos k) × (k < 256)) → valueIn mode (placed mode old (wordOf z)) ≡ z
       go (k, (e, l)) = rw e (stores-byte mode old k n l)
 
--- the number that a step stores
-module _ (mode old : ℕ) (up round : Bool) (step least greatest : ℕ) (ends : leZ (signed least) (signed greatest) ≡ true) where
-  t : ℤ
-  t = fenced up round (signed least) (signed greatest) (stepped up (valueIn mode old) step)
+  module _ (p : a < 65536) (q : b < 65536) (fits-a : goodEnd mode a ≡ true) (fits-b : goodEnd mode b ≡ true) where
+    pub kept : valueIn mode (placed mode old (wordOf z)) ≡ z
+    kept = go (eqb mode 0) refl fits-a fits-b
+      where
+        go : (t : Bool) → eqb mode 0 ≡ t → (t || ltb a 256) ≡ true → (t || ltb b 256) ≡ true
+            → valueIn mode (placed mode old (wordOf z)) ≡ z
+        go true t x y = kept-word (eqb-true mode 0 t) p q
+        go false t x y = kept-byte (eqb-false mode 0 t) (ltb-true a 256 x) (ltb-true b 256 y)
 
-  pub step-word : mode ≡ 0 → least < 65536 → greatest < 65536
-      → valueIn mode (stepStores mode old up round step least greatest)
-      ≡ fenced up round (signed least) (signed greatest) (stepped up (valueIn mode old) step)
-  unfolding stepStores t
-  step-word e p q =
-      let in-ends = fenced-within up round (signed least) (signed greatest) (stepped up (valueIn mode old) step) ends in
-      kept-word mode old least greatest t (in-ends .0) (in-ends .1) e p q
-
-  pub step-byte : (mode ≡ 0 → ⊥) → least < 256 → greatest < 256
-      → valueIn mode (stepStores mode old up round step least greatest)
-      ≡ fenced up round (signed least) (signed greatest) (stepped up (valueIn mode old) step)
-  unfolding stepStores t
-  step-byte n p q =
-      let in-ends = fenced-within up round (signed least) (signed greatest) (stepped up (valueIn mode old) step) ends in
-      kept-byte mode old least greatest t (in-ends .0) (in-ends .1) n p q
+-- the number that a step stores, where its mode holds both ends
+pub step-kept : (mode old : ℕ) (up round : Bool) (step least greatest : ℕ) → least < 65536 → greatest < 65536
+    → goodEnd mode least ≡ true → goodEnd mode greatest ≡ true → leZ (signed least) (signed greatest) ≡ true
+    → valueIn mode (stepStores mode old up round step least greatest)
+    ≡ fenced up round (signed least) (signed greatest) (stepped up (valueIn mode old) step)
+unfolding stepStores
+step-kept mode old up round step least greatest p q fits-l fits-g ends =
+    let t = stepped up (valueIn mode old) step in
+    let in-ends = fenced-within up round (signed least) (signed greatest) t ends in
+    kept mode old least greatest (fenced up round (signed least) (signed greatest) t) (in-ends .0) (in-ends .1) p q fits-l fits-g
 
 le-or : (y z : ℤ) → (leZ y z ≡ true) ⊎ (leZ z y ≡ true)
 le-or = over-one (λ y z. (leZ y z ≡ true) ⊎ (leZ z y ≡ true)) (λ a b c. go a b c (leb a b) refl)
@@ -83,36 +82,27 @@ le-or = over-one (λ y z. (leZ y z ≡ true) ⊎ (leZ z y ≡ true)) (λ a b c. 
     go a b c false t =
         let h : b < a = leb-false a b t in inr (sub-le c b a ∙ le-leb b a (omega arith))
 
--- the number that a slider stores
-module _ (mode old begin end first last at : ℕ) where
-  stands : ℤ
-  stands = slidTo roundedDown (signed begin) (signed end) first last at
+-- the number that a slider stores, where its mode holds begin and end
+pub slider-kept : (mode old begin end first last at : ℕ) → begin < 65536 → end < 65536
+    → goodEnd mode begin ≡ true → goodEnd mode end ≡ true
+    → valueIn mode (sliderStores mode old begin end first last at) ≡ slidTo roundedDown (signed begin) (signed end) first last at
+unfolding sliderStores slidTo
+slider-kept mode old begin end first last at p q fits-b fits-e = go (le-or (signed begin) (signed end))
+  where
+    d : ℕ
+    d = nearest first last at - first
 
-  Between : ℕ → ℕ → Type 0
-  Between a b = (leZ (signed a) stands ≡ true) × (leZ stands (signed b) ≡ true)
+    w : ℕ
+    w = last - first
 
-  between : Between begin end ⊎ Between end begin
-  unfolding stands Between slidTo
-  between = go (le-or (signed begin) (signed end))
-    where
-      go : (leZ (signed begin) (signed end) ≡ true) ⊎ (leZ (signed end) (signed begin) ≡ true) → Between begin end ⊎ Between end begin
-      go (inl h) = inl (slid-between-up rounded-down-fair (last - first) (signed begin) (signed end) _ (near-le first last at) h)
-      go (inr h) = inr (slid-between-down rounded-down-fair (last - first) (signed begin) (signed end) _ (near-le first last at) h)
+    stands : ℤ
+    stands = slid roundedDown (signed begin) (signed end) d w
 
-  pub slider-word : mode ≡ 0 → begin < 65536 → end < 65536
-      → valueIn mode (sliderStores mode old begin end first last at) ≡ slidTo roundedDown (signed begin) (signed end) first last at
-  unfolding sliderStores stands Between
-  slider-word e p q = go between
-    where
-      go : Between begin end ⊎ Between end begin → valueIn mode (sliderStores mode old begin end first last at) ≡ stands
-      go (inl h) = kept-word mode old begin end stands (h .0) (h .1) e p q
-      go (inr h) = kept-word mode old end begin stands (h .0) (h .1) e q p
-
-  pub slider-byte : (mode ≡ 0 → ⊥) → begin < 256 → end < 256
-      → valueIn mode (sliderStores mode old begin end first last at) ≡ slidTo roundedDown (signed begin) (signed end) first last at
-  unfolding sliderStores stands Between
-  slider-byte n p q = go between
-    where
-      go : Between begin end ⊎ Between end begin → valueIn mode (sliderStores mode old begin end first last at) ≡ stands
-      go (inl h) = kept-byte mode old begin end stands (h .0) (h .1) n p q
-      go (inr h) = kept-byte mode old end begin stands (h .0) (h .1) n q p
+    go : (leZ (signed begin) (signed end) ≡ true) ⊎ (leZ (signed end) (signed begin) ≡ true)
+        → valueIn mode (placed mode old (wordOf stands)) ≡ stands
+    go (inl h) =
+        let in-ends = slid-between-up rounded-down-fair w (signed begin) (signed end) d (near-le first last at) h in
+        kept mode old begin end stands (in-ends .0) (in-ends .1) p q fits-b fits-e
+    go (inr h) =
+        let in-ends = slid-between-down rounded-down-fair w (signed begin) (signed end) d (near-le first last at) h in
+        kept mode old end begin stands (in-ends .0) (in-ends .1) q p fits-e fits-b

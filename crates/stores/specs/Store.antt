@@ -1,6 +1,6 @@
 -- 01, "Setup and touch table", the modes and the numbers that words and bytes hold. One definition for key, step and slider.
 use Prim.Native.Nat.{ℕ, _-_, _%_}
-use mathlib.Core.Bool.{cond}
+use mathlib.Core.Bool.{Bool, _||_, cond}
 use lib.Dec.{ltb, eqb}
 use lib.IntN.{ℤ, pos, negsuc}
 use Rattle.wire.specs.ByteOrder.{highByte, lowByte, word}
@@ -21,6 +21,10 @@ wordOf (negsuc n) = 65535 - n % 65536
 -- "Words are signed; bytes are 0 to 255": the number that a mode finds in a word
 abbrev pub valueIn : ℕ → ℕ → ℤ
 valueIn mode w = inMode mode (signed w) (pos (highByte w)) (pos (lowByte w))
+
+-- "bytes are 0 to 255 and so are their two ends"; "Begin and end are signed, or 0 to 255 in byte modes": any word is a signed number
+abbrev pub goodEnd : ℕ → ℕ → Bool
+goodEnd mode w = eqb mode 0 || ltb w 256
 
 -- "Byte modes store the code's low byte; in all byte modes the other byte stays": the word after `new` is stored over `old`
 abbrev pub placed : ℕ → ℕ → ℕ → ℕ

@@ -4,12 +4,13 @@ use mathlib.Core.Bool.{Bool, true, false, _&&_, _||_}
 use Prim.Native.Nat.{_<_, _%_}
 use lib.Dec.{ltb, eqb}
 use borrow.Author.Tests.{ltb-true}
+use Rattle.stores.specs.Store.{goodEnd}
 use Rattle.touch.specs.declared.Setup.{Setup}
 use Rattle.touch.specs.declared.SliderFields.{SliderFields}
 use Rattle.touch.specs.declared.Kind.the-variants.{Slider}
 use Rattle.touch.specs.declared.Record.{Record}
 use Rattle.touch.specs.Record.{noNext, digitMode, firstEdge, lastEdge}
-use Rattle.touch.specs.Judge.{goodArea, goodMode, goodEnd, sameArea, goodSlider, goodKind, goodRecord}
+use Rattle.touch.specs.Judge.{goodArea, goodMode, sameArea, goodSlider, goodKind, goodRecord}
 
 pub left : (a b : Bool) → (a && b) ≡ true → a ≡ true
 left true b e = refl
@@ -40,6 +41,11 @@ module _ (s : Setup) (r : Record) where
     pages-good =
         left pages (eqb (r .fe) 0xFE) (left (pages && eqb (r .fe) 0xFE) (ltb (r .word) 0x7000) fields-good)
 
+    -- the tests of its kind
+    pub good-kind : goodKind r (r .kind) ≡ true
+    unfolding goodRecord pages fields
+    good-kind = right fields (goodKind r (r .kind)) good
+
     -- "the word below 0x7000"
     pub good-word : r .word < 0x7000
     unfolding pages fields
@@ -69,7 +75,7 @@ module _ (s : Setup) (r : Record) where
         let begins = goodEnd (digitMode (r .mode)) (f .begin) in
         let ends = goodEnd (digitMode (r .mode)) (f .end) in
         let kind : (shape && noNext r && wide && begins && ends) ≡ true =
-        ap (goodKind r) (sym e) ∙ right fields (goodKind r (r .kind)) good
+        ap (goodKind r) (sym e) ∙ good-kind
         in
         right shape (noNext r)
         (left (shape && noNext r) wide

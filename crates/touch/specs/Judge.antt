@@ -16,7 +16,7 @@ use Rattle.touch.specs.declared.Verdict.{Verdict}
 use Rattle.touch.specs.declared.Verdict.the-variants.{Good, NotRecords, Wrong}
 use Rattle.touch.specs.declared.Found.{Found}
 use Rattle.touch.specs.declared.Found.the-variants.{Nothing, At}
-use Rattle.stores.specs.Store.{signed}
+use Rattle.stores.specs.Store.{signed, goodEnd}
 use Rattle.touch.specs.Record.{noNext, digitMode, firstEdge, lastEdge}
 use Rattle.touch.specs.Table.{firstOf, recordsOf, recordBytes, mostRecords}
 
@@ -27,10 +27,6 @@ goodArea s a = leb (a .xs) (a .xe) && leb (a .ys) (a .ye) && ltb (a .xe) (s .wid
 -- "mode 0 whole word, 1 high byte, 2 low byte"
 abbrev pub goodMode : ℕ → Bool
 goodMode mode = ltb mode 3
-
--- "bytes are 0 to 255 and so are their two ends"; "Begin and end are signed, or 0 to 255 in byte modes": any word is a signed number
-abbrev pub goodEnd : ℕ → ℕ → Bool
-goodEnd mode w = eqb mode 0 || ltb w 256
 
 -- "mode as for a key; ..; 16 step 1 to 32,767; 18 least; 1A greatest, least ≤ greatest; 1C must be 01"
 unfoldable pub goodStep : ℕ → StepFields → Bool

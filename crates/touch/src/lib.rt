@@ -3,10 +3,11 @@
 ghost use mathlib.Core.Path.{_≡_};
 ghost use Prim.Native.Nat.{_/_, _<_};
 ghost use lib.ListN.{length};
+ghost use Rattle.stores.specs.Store.{goodEnd};
 ghost use Rattle.touch.specs.Setup.{goodSetup, checkingOf, acknowledgingOf};
 ghost use Rattle.touch.specs.Record.{areaAt, stepFields, sliderFields, kindOf, recordOf, noNext, slides, along};
 ghost use Rattle.touch.specs.Table.{recordBytes, recordAt, recordsOf};
-ghost use Rattle.touch.specs.Judge.{goodArea, goodEnd, goodStep, sameArea, goodSlider, goodKind, goodRecord, firstWrong, judged};
+ghost use Rattle.touch.specs.Judge.{goodArea, goodStep, sameArea, goodSlider, goodKind, goodRecord, firstWrong, judged};
 ghost use Rattle.touch.specs.Find.{holds, found};
 ghost use Rattle.touch.specs.Act.{slidAt, actedOf, draggedOf};
 
