@@ -6,7 +6,7 @@ use lib.IntN.{ℤ, pos, negsuc}
 use Rattle.wire.specs.ByteOrder.{highByte, lowByte, word}
 
 -- "mode 0 whole word, 1 high byte, 2 low byte"; a mode that no good record has counts as 2
-unfoldable pub inMode {ℓ} : {A : Type ℓ} → ℕ → A → A → A → A
+unfoldable pub inMode : {A : Type 0} → (mode : ℕ) → (whole high low : A) → A
 inMode mode whole high low = cond (eqb mode 0) whole (cond (eqb mode 1) high low)
 
 -- "Words are signed": w below 32,768 is w, and else w − 65,536

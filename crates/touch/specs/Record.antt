@@ -87,7 +87,7 @@ abbrev pub digitMode : ℕ → ℕ
 digitMode mode = mode / 16
 
 -- "low digit 0 across, 1 down": of two numbers, the one along a slider's axis
-abbrev pub along {ℓ} : {A : Type ℓ} → ℕ → A → A → A
+abbrev pub along : (mode across down : ℕ) → ℕ
 along mode across down = cond (eqb (mode % 16) 0) across down
 
 -- "the first edge" along the axis, and the last
