@@ -1,0 +1,7 @@
+-- How the code holds whole numbers from −98,304 on: raised by 98,304, so that differences and comparisons are those of 01.
+use Prim.Native.Nat.{ℕ}
+use lib.IntN.{ℤ, subℕ}
+
+-- the whole number that a raised one stands for
+unfoldable pub whole : ℕ → ℤ
+whole n = subℕ n 98304

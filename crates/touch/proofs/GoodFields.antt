@@ -1,0 +1,82 @@
+-- What a good record promises of its fields: laws of `goodRecord` for those who use a record of a good table.
+use mathlib.Core.Path.{_≡_, refl, sym, ap, _∙_}
+use mathlib.Core.Bool.{Bool, true, false, _&&_, _||_}
+use Prim.Native.Nat.{_<_, _%_}
+use lib.Dec.{ltb, eqb}
+use borrow.Author.Tests.{ltb-true}
+use Rattle.stores.specs.Store.{goodEnd}
+use Rattle.touch.specs.declared.Setup.{Setup}
+use Rattle.touch.specs.declared.SliderFields.{SliderFields}
+use Rattle.touch.specs.declared.Kind.the-variants.{Slider}
+use Rattle.touch.specs.declared.Record.{Record}
+use Rattle.touch.specs.Record.{noNext, digitMode, firstEdge, lastEdge}
+use Rattle.touch.specs.Judge.{goodArea, goodMode, sameArea, goodSlider, goodKind, goodRecord}
+
+pub left : (a b : Bool) → (a && b) ≡ true → a ≡ true
+left true b e = refl
+left false b e = e
+
+pub right : (a b : Bool) → (a && b) ≡ true → b ≡ true
+right true b e = e
+right false b e = cc
+
+otherwise : (a b : Bool) → (a || b) ≡ true → a ≡ false → b ≡ true
+otherwise true b e f = cc
+otherwise false b e f = e
+
+module _ (s : Setup) (r : Record) where
+  pages : Bool
+  pages = ltb (r .page) (s .pages) && goodArea s (r .area) && (noNext r || ltb (r .next) (s .pages))
+
+  fields : Bool
+  fields = pages && eqb (r .fe) 0xFE && ltb (r .word) 0x7000
+
+  module _ (good : goodRecord s r ≡ true) where
+    fields-good : fields ≡ true
+    unfolding goodRecord pages fields
+    fields-good = left fields (goodKind r (r .kind)) good
+
+    pages-good : pages ≡ true
+    unfolding pages fields
+    pages-good =
+        left pages (eqb (r .fe) 0xFE) (left (pages && eqb (r .fe) 0xFE) (ltb (r .word) 0x7000) fields-good)
+
+    -- the tests of its kind
+    pub good-kind : goodKind r (r .kind) ≡ true
+    unfolding goodRecord pages fields
+    good-kind = right fields (goodKind r (r .kind)) good
+
+    -- "the word below 0x7000"
+    pub good-word : r .word < 0x7000
+    unfolding pages fields
+    good-word = ltb-true (r .word) 0x7000 (right (pages && eqb (r .fe) 0xFE) (ltb (r .word) 0x7000) fields-good)
+
+    -- "Page and next page lie below P"
+    pub good-page : r .page < s .pages
+    unfolding pages
+    good-page =
+        let p = ltb (r .page) (s .pages) in
+        ltb-true (r .page) (s .pages)
+        (left p (goodArea s (r .area)) (left (p && goodArea s (r .area)) (noNext r || ltb (r .next) (s .pages)) pages-good))
+
+    pub good-next : noNext r ≡ false → r .next < s .pages
+    unfolding pages
+    good-next n =
+        ltb-true (r .next) (s .pages)
+        (otherwise (noNext r) (ltb (r .next) (s .pages))
+        (right (ltb (r .page) (s .pages) && goodArea s (r .area)) (noNext r || ltb (r .next) (s .pages)) pages-good) n)
+
+    -- "Next page must be FFxx" for a slider
+    pub slider-stays : (f : SliderFields) → r .kind ≡ Slider f → noNext r ≡ true
+    unfolding goodRecord goodSlider pages fields
+    slider-stays f e =
+        let shape = goodMode (digitMode (r .mode)) && ltb (r .mode % 16) 2 && sameArea (r .area) (f .again) in
+        let wide = ltb (firstEdge (r .mode) (r .area)) (lastEdge (r .mode) (r .area)) in
+        let begins = goodEnd (digitMode (r .mode)) (f .begin) in
+        let ends = goodEnd (digitMode (r .mode)) (f .end) in
+        let kind : (shape && noNext r && wide && begins && ends) ≡ true =
+        ap (goodKind r) (sym e) ∙ good-kind
+        in
+        right shape (noNext r)
+        (left (shape && noNext r) wide
+        (left (shape && noNext r && wide) begins (left (shape && noNext r && wide && begins) ends kind)))

@@ -1,0 +1,10 @@
+-- the laws of the definitions
+pub mod Tables
+pub mod GoodFields
+pub mod Points
+pub mod Acts
+-- the laws that the functions' proofs cite
+pub mod ByCode
+pub mod ByKind
+pub mod TableAnswers
+pub mod Determined

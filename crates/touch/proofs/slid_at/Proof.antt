@@ -1,0 +1,14 @@
+-- `touch::slid_at` meets its contract.
+use borrow.Author.Needs.{needs}
+use Rattle.touch.proofs.slid_at.Statement.{statement}
+use Rattle.touch.proofs.slid_at.Tie as tie
+
+pub slid-at-spec : {M : Type 1} → statement M
+slid-at-spec =
+    tie.close
+    (tie.spec
+    (λ c κs. search needs)
+    (λ c κs. search needs)
+    (λ c κs. search needs)
+    (λ c κs. search needs)
+    (λ c. cc))

@@ -1,0 +1,6 @@
+pub mod Setup
+pub mod Record
+pub mod Table
+pub mod Judge
+pub mod Find
+pub mod Act

@@ -1,0 +1,29 @@
+-- 01, "Setup and touch table", the setup.
+use Prim.Native.Nat.{ℕ, _/_, _%_}
+use mathlib.Core.Bool.{Bool, _&&_, cond}
+use lib.Dec.{ltb, leb, eqb}
+use Rattle.touch.specs.declared.Setup.{Setup}
+
+-- "flags (bit 0 checking, bit 1 acknowledging, others 0)": how many values they may take
+abbrev pub flagValues : ℕ
+flagValues = 4
+
+-- "bit 0 checking"
+abbrev pub checkingOf : Setup → Bool
+checkingOf s = eqb (s .flags % 2) 1
+
+-- "bit 1 acknowledging"
+abbrev pub acknowledgingOf : Setup → Bool
+acknowledgingOf s = eqb (s .flags / 2 % 2) 1
+
+-- "flags .., pages P 1 to 65,280, width 1 to 1,024, height 1 to 768"
+abbrev pub goodSetup : Setup → Bool
+goodSetup s =
+    ltb (s .flags) flagValues
+    && leb 1 (s .pages) && leb (s .pages) 65280
+    && leb 1 (s .width) && leb (s .width) 1024
+    && leb 1 (s .height) && leb (s .height) 768
+
+-- 01, "Numbers given back": "11 setup wrong"
+abbrev pub numberOfSetup : Setup → ℕ
+numberOfSetup s = cond (goodSetup s) 0 11
