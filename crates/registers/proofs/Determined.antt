@@ -17,6 +17,18 @@ use Rattle.registers.proofs.Registers.write.Reads as write
 use Rattle.registers.proofs.Registers.write.Kinds as write-kinds
 use Rattle.registers.proofs.Registers.read.Reads as read
 use Rattle.registers.proofs.Registers.read.Kinds as read-kinds
+use Rattle.registers.proofs.Registers.page.Reads as page
+use Rattle.registers.proofs.Registers.page.Kinds as page-kinds
+use Rattle.registers.proofs.Registers.with_page.Reads as with-page
+use Rattle.registers.proofs.Registers.with_page.Kinds as with-page-kinds
+use Rattle.registers.proofs.Registers.is_down.Reads as is-down
+use Rattle.registers.proofs.Registers.is_down.Kinds as is-down-kinds
+use Rattle.registers.proofs.Registers.with_status.Reads as with-status
+use Rattle.registers.proofs.Registers.with_status.Kinds as with-status-kinds
+use Rattle.registers.proofs.Registers.is_touch_off.Reads as is-touch-off
+use Rattle.registers.proofs.Registers.is_touch_off.Kinds as is-touch-off-kinds
+use Rattle.registers.proofs.Registers.with_place.Reads as with-place
+use Rattle.registers.proofs.Registers.with_place.Kinds as with-place-kinds
 
 pub is-unwritable-determined : OneAnswer 1 is-unwritable-kinds.ps is-unwritable-kinds.r is-unwritable.Post
 is-unwritable-determined κs a x y s t p q = cc
@@ -38,3 +50,21 @@ write-determined κs a x y s t p q = p ∙ sym q
 
 pub read-determined : OneAnswerLeft 1 read-kinds.ps read-kinds.r read.Post (λ κs s. now (s .1 .1 .1 .0))
 read-determined κs a x y s t p q = (ap (λ (l : Laid). l .count) (p ∙ sym q), ap (λ (l : Laid). l .room) (p ∙ sym q))
+
+pub page-determined : OneAnswer 0 page-kinds.ps page-kinds.r page.Post
+page-determined κs a x y s t p q = p ∙ sym q
+
+pub with-page-determined : OneAnswer 0 with-page-kinds.ps with-page-kinds.r with-page.Post
+with-page-determined κs a x y s t p q = p ∙ sym q
+
+pub is-down-determined : OneAnswer 0 is-down-kinds.ps is-down-kinds.r is-down.Post
+is-down-determined κs a x y s t p q = p ∙ sym q
+
+pub with-status-determined : OneAnswer 0 with-status-kinds.ps with-status-kinds.r with-status.Post
+with-status-determined κs a x y s t p q = p ∙ sym q
+
+pub is-touch-off-determined : OneAnswer 0 is-touch-off-kinds.ps is-touch-off-kinds.r is-touch-off.Post
+is-touch-off-determined κs a x y s t p q = p ∙ sym q
+
+pub with-place-determined : OneAnswer 0 with-place-kinds.ps with-place-kinds.r with-place.Post
+with-place-determined κs a x y s t p q = p ∙ sym q

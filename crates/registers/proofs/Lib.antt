@@ -2,3 +2,4 @@ pub mod Runs
 pub mod Copying
 pub mod Written
 pub mod Determined
+pub mod Touching

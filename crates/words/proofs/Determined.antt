@@ -2,11 +2,21 @@
 use mathlib.Core.Path.{refl, sym, ap, _∙_}
 use denote.Ref.{now}
 use Rattle.wire.specs.Room.{Laid}
-use Rattle.wire.proofs.OneAnswer.{OneAnswerLeft}
+use Rattle.wire.proofs.OneAnswer.{OneAnswer, OneAnswerLeft}
+use Rattle.words.proofs.at.Reads as at
+use Rattle.words.proofs.at.Kinds as at-kinds
+use Rattle.words.proofs.set.Reads as set
+use Rattle.words.proofs.set.Kinds as set-kinds
 use Rattle.words.proofs.write.Reads as write
 use Rattle.words.proofs.write.Kinds as write-kinds
 use Rattle.words.proofs.read.Reads as read
 use Rattle.words.proofs.read.Kinds as read-kinds
+
+pub at-determined : OneAnswer 1 at-kinds.ps at-kinds.r at.Post
+at-determined κs a x y s t p q = p ∙ sym q
+
+pub set-determined : OneAnswerLeft 1 set-kinds.ps set-kinds.r set.Post (λ κs s. now (s .0))
+set-determined κs a x y s t p q = (refl, p ∙ sym q)
 
 pub write-determined : OneAnswerLeft 2 write-kinds.ps write-kinds.r write.Post (λ κs s. now (s .0))
 write-determined κs a x y s t p q = (refl, p ∙ sym q)

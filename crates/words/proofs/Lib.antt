@@ -1,3 +1,4 @@
+pub mod OneWord
 pub mod Carried
 pub mod Loops
 pub mod Written

@@ -3,12 +3,19 @@ use Prim.Native.Nat.{ℕ, _+_}
 use mathlib.Core.Bool.{cond, _&&_}
 use mathlib.Core.List.{List, [], _∷_}
 use lib.Dec.{leb}
-use lib.ListN.{length, take, drop}
+use lib.ListN.{length, getD, set, take, drop}
 use Rattle.wire.specs.ByteOrder.{word, highByte, lowByte}
 use Rattle.wire.specs.Room.{laidAt, Laid, laid}
 
 unfoldable pub wordCount : ℕ
 wordCount = 28672
+
+-- one word, and the words with one of them set; an address past the end has none
+unfoldable pub wordAtAddress : List ℕ → ℕ → ℕ
+wordAtAddress words address = getD words address 0
+
+unfoldable pub wordSet : List ℕ → ℕ → ℕ → List ℕ
+wordSet words address word = set words address word
 
 -- "Multi-byte data goes high byte first": the words that a list of bytes carries; an odd last byte carries none
 unfoldable pub wordsOf : List ℕ → List ℕ

@@ -3,10 +3,28 @@ ghost use mathlib.Core.Path.{_≡_};
 ghost use Prim.Native.Nat.{_+_, _*_, _/_, _≤_};
 ghost use lib.ListN.{length};
 ghost use Rattle.wire.specs.Room.{over, laidAt, lays};
-ghost use Rattle.words.specs.Words.{wordsOf, bytesOf, wordRun, wordsWritten, wordsLaid};
+ghost use Rattle.words.specs.Words.{wordAtAddress, wordSet, wordsOf, bytesOf, wordRun, wordsWritten, wordsLaid};
 
 // An address of a word. It cannot stand where a register's address is meant, nor the other way round.
 pub struct WordAddress(pub u16);
+
+// The word at an address; past the end, 0.
+pub fn at(words: &[u16], address: WordAddress) -> u16
+    ensures { λ r. ⌜ r ≡ wordAtAddress (now (words .entry)) (address .0) ⌝ }
+{
+    let a = address.0 as usize;
+    if a < words.len() { words[a] } else { 0 }
+}
+
+// Stores a word at an address; past the end, nothing.
+pub fn set(words: &mut [u16], address: WordAddress, word: u16)
+    ensures { λ _. ⌜ now (words .exit) ≡ wordSet (now (words .entry)) (address .0) word ⌝ }
+{
+    let a = address.0 as usize;
+    if a < words.len() {
+        words[a] = word;
+    }
+}
 
 // Stores the n words that the bytes carry.
 fn store_run(words: &mut [u16], at: usize, bytes: &[u8], n: usize)

@@ -1,0 +1,34 @@
+-- 01, "Registers" and "Contact and lift": the registers that a touch reads and sets.
+use Prim.Native.Nat.{ℕ}
+use mathlib.Core.Bool.{Bool, cond, _||_}
+use mathlib.Core.List.{List, _++_}
+use lib.Dec.{eqb}
+use lib.ListN.{set}
+use Rattle.wire.specs.ByteOrder.{word, highFirst}
+use Rattle.wire.specs.Room.{laidAt}
+use Rattle.registers.specs.declared.Registers.{Registers}
+use Rattle.registers.specs.Table.{holding, registerAt}
+
+-- "03-04 page"
+unfoldable pub pageOf : Registers → ℕ
+pageOf registers = word (registerAt registers 0x03) (registerAt registers 0x04)
+
+unfoldable pub withPage : Registers → ℕ → Registers
+withPage registers page = holding (laidAt 0x03 (highFirst page) (registers .bytes))
+
+-- "06 touch status": 01 and 03 while down, 02 once lifted, 00 before the first contact
+unfoldable pub isDown : Registers → Bool
+isDown registers = eqb (registerAt registers 0x06) 0x01 || eqb (registerAt registers 0x06) 0x03
+
+unfoldable pub withStatus : Registers → ℕ → Registers
+withStatus registers status = holding (set (registers .bytes) 0x06 status)
+
+-- "0B touch enable, 00 is off"
+unfoldable pub isTouchOff : Registers → Bool
+isTouchOff registers = eqb (registerAt registers 0x0B) 0x00
+
+-- "if the flag isn't 5A, X and Y are stored and the flag becomes 5A"
+unfoldable pub withPlace : Registers → (x y : ℕ) → Registers
+withPlace registers x y =
+    cond (eqb (registerAt registers 0x05) 0x5A) registers
+    (holding (laidAt 0x07 (highFirst x ++ highFirst y) (set (registers .bytes) 0x05 0x5A)))
