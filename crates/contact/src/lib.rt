@@ -1,0 +1,118 @@
+// 01, "Contact and lift": what a contact that is not refused, and a lift, do to registers, words and the catch.
+ghost use mathlib.Core.Path.{_≡_};
+ghost use Rattle.contact.specs.Contact.{leaves, showing, catching, acting, pressed, dragging, kept, touched, lifted};
+use registers::Registers;
+use touch::Found;
+use touch::Record;
+use words::WordAddress;
+
+// A slider that is being dragged, as a copy of its record.
+pub enum Catch {
+    Free,
+    Caught(Record),
+}
+
+// What a touch reads and sets, beside the words.
+pub struct Pad {
+    pub registers: Registers,
+    pub catch: Catch,
+}
+
+fn show(r: Record, registers: Registers, catch: Catch) -> Pad
+    ensures { λ a. ⌜ a ≡ showing r registers catch ⌝ }
+{
+    if touch::no_next(r) {
+        Pad {
+            registers: registers,
+            catch: catch,
+        }
+    } else {
+        Pad {
+            registers: registers.with_page(r.next),
+            catch: Catch::Free,
+        }
+    }
+}
+
+fn catch_with(r: Record, catch: Catch) -> Catch
+    ensures { λ a. ⌜ a ≡ catching r catch ⌝ }
+{
+    if touch::is_slider(r) {
+        Catch::Caught(r)
+    } else {
+        catch
+    }
+}
+
+fn act(f: Found, registers: Registers, catch: Catch, words: &mut [u16], x: u16, y: u16) -> Pad
+    ensures { λ a. ⌜ leaves a (now (words .exit)) ≡ acting f registers catch (now (words .entry)) x y ⌝ }
+{
+    match f {
+        Found::Nothing => Pad {
+            registers: registers,
+            catch: catch,
+        },
+        Found::At(_, r) => {
+            let old = words::at(words, WordAddress(r.word));
+            words::set(words, WordAddress(r.word), touch::acted(r, old, x, y));
+            show(r, registers, catch_with(r, catch))
+        }
+    }
+}
+
+fn press(pad: Pad, table: &[u8], words: &mut [u16], x: u16, y: u16) -> Pad
+    ensures { λ a. ⌜ leaves a (now (words .exit)) ≡ pressed pad (now (table .entry)) (now (words .entry)) x y ⌝ }
+{
+    let before = pad.registers;
+    let catch = pad.catch;
+    let f = touch::find(table, before.page(), x, y);
+    let after = before.with_status(0x01).with_place(x, y);
+    act(f, after, catch, words, x, y)
+}
+
+fn drag(catch: Catch, words: &mut [u16], x: u16, y: u16)
+    ensures { λ _. ⌜ now (words .exit) ≡ dragging catch (now (words .entry)) x y ⌝ }
+{
+    match catch {
+        Catch::Free => {}
+        Catch::Caught(r) => {
+            let old = words::at(words, WordAddress(r.word));
+            words::set(words, WordAddress(r.word), touch::dragged(r, old, x, y));
+        }
+    }
+}
+
+fn keep(pad: Pad, words: &mut [u16], x: u16, y: u16) -> Pad
+    ensures { λ a. ⌜ leaves a (now (words .exit)) ≡ kept pad (now (words .entry)) x y ⌝ }
+{
+    let before = pad.registers;
+    let catch = pad.catch;
+    drag(catch, words, x, y);
+    Pad {
+        registers: before.with_status(0x03).with_place(x, y),
+        catch: catch,
+    }
+}
+
+// A contact on the screen, with touch on and a good table.
+pub fn touch_down(pad: Pad, table: &[u8], words: &mut [u16], x: u16, y: u16) -> Pad
+    ensures { λ a. ⌜ leaves a (now (words .exit)) ≡ touched pad (now (table .entry)) (now (words .entry)) x y ⌝ }
+{
+    let registers = pad.registers;
+    if registers.is_down() {
+        keep(pad, words, x, y)
+    } else {
+        press(pad, table, words, x, y)
+    }
+}
+
+// A lift while down.
+pub fn lift_up(pad: Pad) -> Pad
+    ensures { λ a. ⌜ a ≡ lifted pad ⌝ }
+{
+    let before = pad.registers;
+    Pad {
+        registers: before.with_status(0x02),
+        catch: Catch::Free,
+    }
+}
