@@ -1,0 +1,7 @@
+pub mod Padding
+pub mod Fronts
+pub mod Settling
+pub mod Giving
+pub mod Asking
+pub mod Blindness
+pub mod Feeding

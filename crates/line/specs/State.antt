@@ -1,0 +1,44 @@
+-- The reader as a value, against what crate reading says a reader keeps between inputs.
+use Prim.Native.Nat.{ℕ, _-_}
+use mathlib.Core.Bool.{Bool}
+use mathlib.Core.List.{List, _++_}
+use lib.ListN.{length, take, replicate}
+use Rattle.reading.specs.Place.{Rules, look}
+use Rattle.reading.specs.Moves.{Kept, settled}
+use Rattle.place.specs.Looks.{rulesOf, shown}
+use Rattle.line.specs.declared.Line.{Line}
+use Rattle.line.specs.declared.Reader.{Reader}
+use Rattle.line.specs.declared.Rest.{Rest}
+
+abbrev pub rulesFor : Line → Rules
+rulesFor line = rulesOf (line .header) (line .checking)
+
+-- these bytes at the front of an array of that size, zeros behind them
+unfoldable pub padded : ℕ → List ℕ → List ℕ
+padded size xs = xs ++ replicate (size - length xs) 0
+
+-- the reader that keeps these bytes: all of it is a function of what is kept, the array past the bytes included
+abbrev pub readerOf : Line → Kept → Reader
+readerOf line kept =
+    record {
+      line = line;
+      held = padded 258 (kept .bytes);
+      len = length (kept .bytes);
+      closed = kept .closed;
+      head = shown (look (rulesFor line) (kept .closed) (kept .bytes));
+    }
+
+-- what any reader keeps: a count past the array means the whole array
+abbrev pub keptOf : Reader → Kept
+keptOf reader = record { closed = reader .closed; bytes = take (reader .len) (reader .held) }
+
+-- the reader once all that is passed over of these bytes has been
+abbrev pub settledReader : Line → Bool → List ℕ → Reader
+settledReader line closed xs = readerOf line (settled (rulesFor line) closed xs)
+
+-- what is left of the bytes then, and what stands at its first
+abbrev pub leftOf : Line → Bool → List ℕ → List ℕ
+leftOf line closed xs = settled (rulesFor line) closed xs .bytes
+
+abbrev pub restOf : Line → Bool → List ℕ → Rest
+restOf line closed xs = record { len = length (leftOf line closed xs); head = settledReader line closed xs .head }
