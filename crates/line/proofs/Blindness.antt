@@ -11,7 +11,7 @@ use Rattle.frame.specs.Frame.{leastLength}
 use Rattle.reading.specs.Place.{Rules, Seen, pass, wait, bad, accepted, cutShort, judged, afterHeader, behind, look}
 use Rattle.reading.specs.Moves.{isPass, passes, settled}
 use Rattle.place.proofs.Stops.{look-nothing}
-use Rattle.line.specs.Methods.{decidedAt}
+use Rattle.line.specs.State.{decidedAt}
 
 -- while fewer than w bytes are held, with these in front, the front waits
 unfoldable pub Blind : Rules → List ℕ → ℕ → Type 0

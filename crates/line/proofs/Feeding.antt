@@ -20,17 +20,14 @@ use Rattle.place.specs.Looks.{shown}
 use Rattle.place.proofs.Stops.{look-nothing, passes-none, passes-more, still-over}
 use Rattle.line.specs.declared.Line.{Line}
 use Rattle.line.specs.declared.Reader.{Reader}
-use Rattle.line.specs.declared.Rest.{Rest}
+use Rattle.line.specs.declared.Step.{Step}
+use Rattle.line.specs.declared.Fed.{Fed}
 use Rattle.line.specs.declared.Gave.{Gave}
-use Rattle.line.specs.State.{rulesFor, padded, readerOf, keptOf, settledReader, leftOf, restOf}
-use Rattle.line.specs.Methods.{isAnswer, takes, busy, givenByte, plus, givenBytes, decidedAt}
+use Rattle.line.specs.State.{rulesFor, padded, readerOf, keptOf, opened, settledReader, leftOf, stepOf, decidedAt}
+use Rattle.line.specs.Methods.{isAnswer, takes, busy, givenByte, gave, plus, givenBytes}
 use Rattle.line.proofs.Padding.{length-padded, take-padded, laid-behind, set-behind}
 use Rattle.line.proofs.Settling.{passes-le}
 use Rattle.line.proofs.Blindness.{Blind, blind-more, blind-here, blind-whole, left-stands}
-
--- the reader as the loop has it, in an open stretch
-abbrev pub opened : Line → List ℕ → ℕ → Look → Reader
-opened line held n head = record { line = line; held = held; len = n; closed = false; head = head }
 
 -- the loop's test
 and-left : (a b : Bool) → (a && b) ≡ true → a ≡ true
@@ -70,7 +67,7 @@ given-is reader b free = rw free
 
 -- what is left of an open stretch is open
 open-still : (line : Line) (xs : List ℕ)
-    → settledReader line false xs ≡ opened line (padded 258 (leftOf line false xs)) (length (leftOf line false xs)) (settledReader line false xs .head)
+    → settledReader line false xs ≡ opened line (padded 258 (leftOf line xs)) (length (leftOf line xs)) (settledReader line false xs .head)
 unfolding settled stillClosed
 open-still line xs = refl
 
@@ -108,107 +105,65 @@ module _ (line : Line) (bytes : List ℕ) (i n : ℕ) (held : List ℕ) (head : 
       turn (opened line held n Wait) (passed-byte line n held (getD bytes i 0) none other front)
 
   -- a byte behind those that are held
-  module _ (rest : Rest) (held′ : List ℕ) (long : length held ≡ 258)
-      (is-rest : rest ≡ restOf line false (take (n + 1) (set held n (getD bytes i 0))))
-      (is-held : held′ ≡ padded 258 (leftOf line false (take (n + 1) (set held n (getD bytes i 0))))) where
-    room : n < 258
-    room = room-left i (length bytes) t goes n head is-t
+  pub fed-byte : (step : Step) (held′ : List ℕ) → step ≡ stepOf line (take n held ++ (getD bytes i 0 ∷ []))
+      → held′ ≡ padded 258 (leftOf line (take n held ++ (getD bytes i 0 ∷ [])))
+      → start ≡ plus (i + 1) (givenBytes (opened line held′ (step .len) (step .head)) (drop (i + 1) bytes))
+  fed-byte step held′ is-step is-held =
+      turn (opened line held′ (step .len) (step .head)) (rw (is-step, is-held) (open-still line (take n held ++ (getD bytes i 0 ∷ []))))
 
-    longer : take (n + 1) (set held n (getD bytes i 0)) ≡ take n held ++ (getD bytes i 0 ∷ [])
-    longer = rw (add-one n) (take-suc-set held n (getD bytes i 0) (omega (arith, room)))
+-- a byte that was taken
+module _ (line : Line) (step : Step) (xs held′ : List ℕ) (is-step : step ≡ stepOf line xs) (is-held : held′ ≡ padded 258 (leftOf line xs)) where
+  left-long : length (leftOf line xs) ≡ step .len
+  left-long = sym (ap (λ (s : Step). s .len) is-step)
 
-    pub fed-byte : start ≡ plus (i + 1) (givenBytes (opened line held′ (rest .len) (rest .head)) (drop (i + 1) bytes))
-    fed-byte =
-        turn (opened line held′ (rest .len) (rest .head))
-        (rw (← longer, is-rest, is-held) (open-still line (take (n + 1) (set held n (getD bytes i 0)))))
+  front-left : take (step .len) held′ ≡ leftOf line xs
+  front-left = rw is-held (take-padded 258 (step .len) (leftOf line xs) left-long)
 
-    left : List ℕ
-    left = leftOf line false (take (n + 1) (set held n (getD bytes i 0)))
+  pub step-front : held′ ≡ padded 258 (take (step .len) held′)
+  step-front = is-held ∙ ap (padded 258) (sym front-left)
 
-    left-few : length left ≤ 258
-    unfolding left settled
-    left-few =
-        let xs : List ℕ = take (n + 1) (set held n (getD bytes i 0)) in
-        let few : length xs ≤ n + 1 = simp length-take (omega arith) in
-        simp length-drop (omega (arith, room))
+  pub step-blind : Blind (rulesFor line) (take (step .len) held′) (step .need)
+  unfolding settled
+  step-blind =
+      let whole : step .need ≡ decidedAt (headerBytes (line .header)) (leftOf line xs) = ap (λ (s : Step). s .need) is-step in
+      rw (front-left, whole) (blind-whole (rulesFor line) (leftOf line xs) (left-stands (rulesFor line) xs))
 
-    rest-long : length left ≡ rest .len
-    unfolding left
-    rest-long = sym (ap (λ (r : Rest). r .len) is-rest)
-
-    front-left : take (rest .len) held′ ≡ left
-    unfolding left
-    front-left = rw is-held (take-padded 258 (rest .len) (leftOf line false (take (n + 1) (set held n (getD bytes i 0)))) rest-long)
-
-    pub rest-few : rest .len ≤ 258
-    rest-few = omega (arith, rest-long, left-few)
-
-    pub rest-inside : length held′ ≡ 258 → rest .len ≤ length held′
-    rest-inside full = omega (arith, rest-few)
-
-    pub rest-counted : length held′ ≡ 258 → rest .len ≡ length (take (rest .len) held′)
-    rest-counted full = sym (length-take-le (rest .len) held′ (rest-inside full))
-
-    pub rest-front : held′ ≡ padded 258 (take (rest .len) held′)
-    unfolding left
-    rest-front = is-held ∙ ap (padded 258) (sym front-left)
-
-    pub rest-blind : (need : ℕ) → need ≡ decidedAt (headerBytes (line .header)) (take (rest .len) held′)
-        → Blind (rulesFor line) (take (rest .len) held′) need
-    unfolding left settled
-    rest-blind need is-need =
-        rw (is-need, front-left)
-        (blind-whole (rulesFor line) left (left-stands (rulesFor line) (take (n + 1) (set held n (getD bytes i 0)))))
-
--- the byte stored behind those that are held
-module _ (i m n b : ℕ) (head : Look) (t : Bool) (held : List ℕ) (goes : (ltb i m && t) ≡ true) (is-t : t ≡ takes n head) where
-  has-room : n < 258
-  has-room = room-left i m t goes n head is-t
-
-  pub stored-fits : n + 1 ≤ 258
-  stored-fits = omega (arith, has-room)
-
-  pub stored-front : length held ≡ 258 → held ≡ padded 258 (take n held) → set held n b ≡ padded 258 (take (n + 1) (set held n b))
-  stored-front long front =
-      let inside : n < length held = omega (arith, has-room) in
-      let counted : length (take n held) ≡ n = length-take-le n held (omega arith) in
-      let more : take (n + 1) (set held n b) ≡ take n held ++ (b ∷ []) = rw (add-one n) (take-suc-set held n b inside) in
-      ap (λ (l : List ℕ). set l n b) front ∙ set-behind 258 n b (take n held) counted has-room ∙ ap (padded 258) (sym more)
-
+-- the loop's bounds
+module _ (i m n : ℕ) (head : Look) (t : Bool) (goes : (ltb i m && t) ≡ true) where
   pub turn-inside : i + 1 ≤ m
   turn-inside = let h = more-left i m t goes in omega arith
 
   pub turn-less : m - (i + 1) < m - i
   turn-less = let h = more-left i m t goes in omega arith
 
-  pub some-left : 0 < m - i
-  some-left = let h = more-left i m t goes in omega arith
+  pub some-left : (bytes : List ℕ) → m ≡ length bytes → 0 < length (take (length bytes - i) (drop i bytes))
+  some-left bytes is = let h = more-left i m t goes in rw (part-whole bytes i) (simp length-drop (omega arith))
 
 -- entering and leaving the loop
 pub nothing-given : (reader : Reader) (bytes : List ℕ) (r : Bool) → r ≡ busy reader → r ≡ true
-    → _≡_ {A = Gave} (record { used = 0; reader = reader }) (givenBytes reader bytes)
+    → gave 0 reader ≡ (givenBytes reader bytes)
 unfolding givenBytes
 nothing-given reader [] r is full = refl
 nothing-given reader (b ∷ bytes) r is full = rw (sym is ∙ full)
 
 pub none-given : (reader : Reader) (bytes : List ℕ) → length bytes ≡ 0
-    → _≡_ {A = Gave} (record { used = 0; reader = reader }) (givenBytes reader bytes)
+    → gave 0 reader ≡ (givenBytes reader bytes)
 unfolding givenBytes
 none-given reader [] none = refl
 none-given reader (b ∷ bytes) none = absurd (omega arith)
 
-pub fed-start : (start : Gave) (line : Line) (held : List ℕ) (n : ℕ) (bytes : List ℕ)
+pub fed-start : (line : Line) (held : List ℕ) (n : ℕ) (bytes : List ℕ)
     → givenBytes (opened line held n Wait) bytes ≡ plus 0 (givenBytes (opened line held n Wait) (drop 0 bytes))
-fed-start start line held n bytes =
+fed-start line held n bytes =
     ap (λ (k : ℕ). record { used = k; reader = givenBytes (opened line held n Wait) bytes .reader })
     (sym (zero-add (givenBytes (opened line held n Wait) bytes .used)))
 
 -- where the loop stops, nothing more is given
 stops : (reader : Reader) (bytes : List ℕ) (i : ℕ) (t : Bool) → (ltb i (length bytes) && t) ≡ false → not t ≡ busy reader
-    → givenBytes reader (drop i bytes) ≡ record { used = 0; reader = reader }
+    → givenBytes reader (drop i bytes) ≡ gave 0 reader
 stops reader bytes i t done is = go (ltb i (length bytes)) refl done
   where
-    go : (b : Bool) → ltb i (length bytes) ≡ b → (b && t) ≡ false → givenBytes reader (drop i bytes) ≡ record { used = 0; reader = reader }
+    go : (b : Bool) → ltb i (length bytes) ≡ b → (b && t) ≡ false → givenBytes reader (drop i bytes) ≡ gave 0 reader
     go true is-b full = sym (nothing-given reader (drop i bytes) (not t) is (ap not full))
     go false is-b full =
         let past : length bytes ≤ i = ltb-false i (length bytes) is-b in
@@ -255,14 +210,18 @@ module _ (reader : Reader) (r : Bool) (is : r ≡ busy reader) (free : r ≡ fal
           ∙ sym (given-is (opened (reader .line) held (reader .len) Wait) b open-free) in
           rw (sym is ∙ free, open-free, same)
 
-      pub all-fed : (bytes held′ : List ℕ) (t : Bool) (i n : ℕ) (head : Look) → (length bytes ≡ 0 → ⊥)
-          → givenBytes (opened (reader .line) held (reader .len) Wait) bytes
-          ≡ plus i (givenBytes (opened (reader .line) held′ n head) (drop i bytes))
-          → (ltb i (length bytes) && t) ≡ false → t ≡ takes n head
-          → _≡_ {A = Gave} (record { used = i; reader = opened (reader .line) held′ n head }) (givenBytes reader bytes)
-      all-fed bytes held′ t i n head some so-far done is-t =
-          sym (enter bytes some ∙ so-far ∙ ap (plus i) (stops (opened (reader .line) held′ n head) bytes i t done (ap not is-t))
-          ∙ ap (λ (k : ℕ). record { used = k; reader = opened (reader .line) held′ n head }) (add-zero i))
+      pub bytes-given : (bytes held′ : List ℕ) (fed : Fed) → (length bytes ≡ 0 → ⊥)
+          → gave (fed .used) (opened (reader .line) held′ (fed .len) (fed .head))
+          ≡ givenBytes (opened (reader .line) held (reader .len) Wait) bytes
+          → gave (fed .used) (opened (reader .line) held′ (fed .len) (fed .head)) ≡ givenBytes reader bytes
+      bytes-given bytes held′ fed some is-fed = is-fed ∙ sym (enter bytes some)
+
+pub all-fed : (line : Line) (bytes held : List ℕ) (start : Gave) (t : Bool) (i n : ℕ) (head : Look)
+    → start ≡ plus i (givenBytes (opened line held n head) (drop i bytes)) → (ltb i (length bytes) && t) ≡ false → t ≡ takes n head
+    → gave i (opened line held n head) ≡ start
+all-fed line bytes held start t i n head so-far done is-t =
+    sym (so-far ∙ ap (plus i) (stops (opened line held n head) bytes i t done (ap not is-t))
+    ∙ ap (λ (k : ℕ). gave k (opened line held n head)) (add-zero i))
 
 -- a block of bytes that decides nothing
 settled-wait : (rules : Rules) (xs : List ℕ) → look rules false xs ≡ wait → settled rules false xs ≡ record { closed = false; bytes = xs }
@@ -301,70 +260,76 @@ head-free line held n head b bytes free =
     let room : ltb n 258 ≡ true = and-left (ltb n 258) (not (isAnswer head)) free in
     rw (free, room)
 
-pub block-less : (m i k : ℕ) → i ≤ m → k ≤ m - i → 0 < k → m - (i + k) < m - i
-block-less m i k inside fits some = omega arith
+-- a block laid behind the bytes held
+module _ (n k need : ℕ) (held bytes r : List ℕ) (below : k ≤ need - 1 - n) (known : n + 1 < need) (least : need ≤ 258) (fits : k ≤ length bytes)
+    (long : length held ≡ 258) (front : held ≡ padded 258 (take n held))
+    (is-r : r ≡ take (length (take k bytes)) (take k bytes) ++ drop (length (take k bytes)) (take (length held - n) (drop n held))) where
+  pub block-laid : take n held ++ (r ++ drop (length held - n) (drop n held)) ≡ padded 258 (take n held ++ take k bytes)
+  block-laid =
+      let held-long : length (take n held) ≡ n = length-take-le n held (omega arith) in
+      let r-is : r ≡ take k bytes ++ drop (length (take k bytes)) (drop n held) = is-r ∙ rw (part-whole held n, take-length (take k bytes)) in
+      rw (part-end held n, append-nil r, r-is)
+      (ap (λ (l : List ℕ). take n l ++ (take k bytes ++ drop (length (take k bytes)) (drop n l))) front
+      ∙ laid-behind 258 n (take n held) (take k bytes) held-long)
 
-module _ (line : Line) (bytes : List ℕ) (i n k need : ℕ) (held r : List ℕ) (inside : i ≤ length bytes) (few : n ≤ 258)
-    (fits : k ≤ length bytes - i) (long : length held ≡ 258) (front : held ≡ padded 258 (take n held)) (below : k ≤ need - 1 - n)
-    (known : n + 1 < need) (least : need ≤ 258)
-    (is-r : r ≡ take (length (take (i + k - i) (drop i bytes))) (take (i + k - i) (drop i bytes))
-    ++ drop (length (take (i + k - i) (drop i bytes))) (take (258 - n) (drop n held))) where
+module _ (line : Line) (bytes : List ℕ) (i n k need : ℕ) (held held′ : List ℕ) (few : n ≤ 258) (long : length held ≡ 258)
+    (front : held ≡ padded 258 (take n held)) (below : n + k < need) (least : need ≤ 258)
+    (fits : k ≤ length (take (length bytes - i) (drop i bytes)))
+    (is : held′ ≡ padded 258 (take n held ++ take k (take (length bytes - i) (drop i bytes)))) where
   abbrev block : List ℕ
-  block = take (i + k - i) (drop i bytes)
-
-  abbrev laid : List ℕ
-  laid = take n held ++ (r ++ drop (258 - n) (drop n held))
+  block = take k (take (length bytes - i) (drop i bytes))
 
   held-long : length (take n held) ≡ n
   held-long = length-take-le n held (omega arith)
 
-  block-long : length block ≡ k
-  block-long =
-      let z : i + k - i ≡ k = omega arith in
-      rw z (length-take-le k (drop i bytes) (simp length-drop (omega arith)))
-
-  laid-is : laid ≡ padded 258 (take n held ++ block)
-  laid-is =
-      let to-end : length (drop n held) ≤ 258 - n = simp length-drop (omega arith) in
-      let none : drop (258 - n) (drop n held) ≡ [] = drop-of-length-le (drop n held) to-end in
-      let all : take (258 - n) (drop n held) ≡ drop n held = take-all (258 - n) (drop n held) to-end in
-      let r-is : r ≡ block ++ drop (length block) (drop n held) = is-r ∙ rw (all, take-length block) in
-      rw (none, append-nil r, r-is)
-      (ap (λ (l : List ℕ). take n l ++ (block ++ drop (length block) (drop n l))) front ∙ laid-behind 258 n (take n held) block held-long)
-
   both-long : length (take n held ++ block) ≡ n + k
-  both-long = length-append (take n held) block ∙ omega (arith, held-long, block-long)
+  both-long = length-append (take n held) block ∙ omega (arith, held-long, length-take-le k (take (length bytes - i) (drop i bytes)) fits)
 
-  laid-front : take (n + k) laid ≡ take n held ++ block
-  laid-front = rw laid-is (take-padded 258 (n + k) (take n held ++ block) both-long)
+  block-part : take (n + k) held′ ≡ take n held ++ block
+  block-part = rw is (take-padded 258 (n + k) (take n held ++ block) both-long)
 
-  pub block-full : length laid ≡ 258
-  block-full = rw laid-is (length-padded 258 (take n held ++ block) (omega (arith, both-long)))
+  pub block-front : held′ ≡ padded 258 (take (n + k) held′)
+  block-front = is ∙ ap (padded 258) (sym block-part)
 
-  pub block-front : laid ≡ padded 258 (take (n + k) laid)
-  block-front = laid-is ∙ ap (padded 258) (sym laid-front)
+  pub block-blind : Blind (rulesFor line) (take n held) need → Blind (rulesFor line) (take (n + k) held′) need
+  block-blind blind = rw block-part (blind-more (rulesFor line) (take n held) block need blind)
 
-  pub block-blind : Blind (rulesFor line) (take n held) need → Blind (rulesFor line) (take (n + k) laid) need
-  block-blind blind = rw laid-front (blind-more (rulesFor line) (take n held) block need blind)
+  pub block-inside : i ≤ length bytes → i + k ≤ length bytes
+  block-inside inside = omega (arith, rest-long)
+    where
+      rest-long : length (take (length bytes - i) (drop i bytes)) ≡ length bytes - i
+      rest-long = rw (part-whole bytes i) (length-drop i bytes)
+
+  pub block-less : i ≤ length bytes → 0 < k → length bytes - (i + k) < length bytes - i
+  block-less inside some = let h = block-inside inside in omega arith
 
   pub fed-block : (head : Look) (t : Bool) (start : Gave) → (ltb i (length bytes) && t) ≡ true → t ≡ takes n head
       → Blind (rulesFor line) (take n held) need → start ≡ plus i (givenBytes (opened line held n head) (drop i bytes))
-      → start ≡ plus (i + k) (givenBytes (opened line laid (n + k) Wait) (drop (i + k) bytes))
+      → start ≡ plus (i + k) (givenBytes (opened line held′ (n + k) Wait) (drop (i + k) bytes))
   fed-block head t start goes is-t blind so-far =
       let free : takes n head ≡ true = sym is-t ∙ taking i (length bytes) t goes in
       let more : i < length bytes = more-left i (length bytes) t goes in
       let any-head : givenBytes (opened line held n head) (drop i bytes) ≡ givenBytes (opened line held n Wait) (drop i bytes) =
       rw (drop-cons bytes i 0 more) (head-free line held n head (getD bytes i 0) (drop (suc i) bytes) free) in
-      let z : i + k - i ≡ k = omega arith in
       let parts : drop i bytes ≡ block ++ drop (i + k) bytes =
-      sym (take-append-drop k (drop i bytes)) ∙ rw (z, drop-drop k i bytes) in
+      sym (take-append-drop k (drop i bytes)) ∙ rw (part-whole bytes i, drop-drop k i bytes) in
+      let block-long : length block ≡ k = length-take-le k (take (length bytes - i) (drop i bytes)) fits in
       let same : opened line held n Wait ≡ opened line (padded 258 (take n held)) (length (take n held)) Wait = rw (← front, held-long) in
       let short : length (take n held ++ block) < need = omega (arith, both-long) in
-      let ends : opened line (padded 258 (take n held ++ block)) (length (take n held ++ block)) Wait ≡ opened line laid (n + k) Wait =
-      rw (← laid-is, both-long) in
+      let ends : opened line (padded 258 (take n held ++ block)) (length (take n held ++ block)) Wait ≡ opened line held′ (n + k) Wait =
+      rw (← is, both-long) in
       so-far
       ∙ ap (plus i) (any-head ∙ ap (givenBytes (opened line held n Wait)) parts
       ∙ ap (λ (x : Reader). givenBytes x (block ++ drop (i + k) bytes)) same
       ∙ block-fold line (take n held) block (drop (i + k) bytes) need blind short least)
       ∙ plus-plus i (length block) (givenBytes (opened line (padded 258 (take n held ++ block)) (length (take n held ++ block)) Wait) (drop (i + k) bytes))
       ∙ rw (block-long, ends)
+
+pub block-counted : (k : ℕ) (bytes : List ℕ) → k ≤ length bytes → k ≡ length (take k bytes)
+block-counted k bytes fits = sym (length-take-le k bytes fits)
+
+pub block-room : (n k need : ℕ) (held bytes : List ℕ) → k ≤ need - 1 - n → n + 1 < need → need ≤ 258 → length held ≡ 258
+    → length (take k bytes) ≤ length (take (length held - n) (drop n held))
+block-room n k need held bytes below known least long =
+    let short : length (take k bytes) ≤ k = simp length-take (omega arith) in
+    rw (part-whole held n) (simp length-drop (omega arith))

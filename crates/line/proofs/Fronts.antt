@@ -13,8 +13,8 @@ use Rattle.place.specs.declared.Look.{Look}
 use Rattle.place.specs.declared.Look.the-variants.{Pass, Wait, Bad, Good}
 use Rattle.line.specs.declared.Report.{Report}
 use Rattle.line.specs.declared.Report.the-variants.{Accepted, BadCheck, Nothing}
-use Rattle.line.specs.State.{padded}
-use Rattle.line.specs.Methods.{isAnswer, takes, bodyLength, span, told, decidedAt}
+use Rattle.line.specs.State.{padded, decidedAt}
+use Rattle.line.specs.Methods.{isAnswer, takes, bodyLength, span, told}
 use Rattle.line.proofs.Padding.{drop-take, laid-empty}
 
 pub taken-if : (n : ℕ) (head : Look) (r : Bool) → r ≡ isAnswer head → (ltb n 258 && not r) ≡ takes n head

@@ -32,6 +32,9 @@ passes-le rules closed (x ∷ xs) = go (isPass (look rules closed (x ∷ xs))) (
 pub prefix-long : (n : ℕ) (held : List ℕ) → n ≤ 258 → length held ≡ 258 → n ≡ length (take n held)
 prefix-long n held few long = sym (length-take-le n held (omega arith))
 
+abbrev stays : Line → Bool → List ℕ → List ℕ
+stays line closed xs = settled (rulesFor line) closed xs .bytes
+
 -- a stretch that is closed and gone through is over
 still-flag : (closed : Bool) (left : List ℕ) → (closed && ltb 0 (length left)) ≡ stillClosed closed left
 unfolding stillClosed
@@ -40,7 +43,7 @@ still-flag true [] = refl
 still-flag true (x ∷ left) = lt-ltb 0 (suc (length left)) (omega arith)
 
 settled-closed : (line : Line) (closed : Bool) (xs : List ℕ)
-    → (closed && ltb 0 (length (leftOf line closed xs))) ≡ settled (rulesFor line) closed xs .closed
+    → (closed && ltb 0 (length (stays line closed xs))) ≡ settled (rulesFor line) closed xs .closed
 unfolding settled
 settled-closed line closed xs = still-flag closed (drop (passes (rulesFor line) closed xs) xs)
 
@@ -54,11 +57,11 @@ module _ (line : Line) (closed : Bool) (xs : List ℕ) (stop : Stop) (is : stop 
   unfolding stopOf settled
   stop-look = ap (λ (s : Stop). s .look) is
 
-  left-is : leftOf line closed xs ≡ drop (stop .at) xs
+  left-is : stays line closed xs ≡ drop (stop .at) xs
   unfolding settled
   left-is = ap (λ (k : ℕ). drop k xs) (sym stop-at)
 
-  left-long : length (leftOf line closed xs) ≡ length xs - stop .at
+  left-long : length (stays line closed xs) ≡ length xs - stop .at
   left-long = rw left-is (length-drop (stop .at) xs)
 
   pub stop-inside : stop .at ≤ length xs
@@ -72,11 +75,11 @@ module _ (line : Line) (closed : Bool) (xs : List ℕ) (stop : Stop) (is : stop 
       (record { line = line; held = left; len = length xs - stop .at; closed = closed && ltb 0 (length xs - stop .at); head = stop .look })
       (settledReader line closed xs)
   settled-is left is-left =
-      let front : left ≡ padded 258 (leftOf line closed xs) = is-left ∙ ap (padded 258) (part-whole xs (stop .at) ∙ sym left-is) in
+      let front : left ≡ padded 258 (stays line closed xs) = is-left ∙ ap (padded 258) (part-whole xs (stop .at) ∙ sym left-is) in
       rw (closed-is, front, ← left-long, stop-look)
 
--- the same with the bytes at the front of an array
-module _ (line : Line) (closed : Bool) (n : ℕ) (held : List ℕ) (stop : Stop) (is : stop ≡ stopOf (rulesFor line) closed (take n held))
+-- the same in an open stretch, with the bytes at the front of an array
+module _ (line : Line) (n : ℕ) (held : List ℕ) (stop : Stop) (is : stop ≡ stopOf (rulesFor line) false (take n held))
     (few : n ≤ 258) (long : length held ≡ 258) where
   abbrev bytes : List ℕ
   bytes = take n held
@@ -85,29 +88,29 @@ module _ (line : Line) (closed : Bool) (n : ℕ) (held : List ℕ) (stop : Stop)
   bytes-long = length-take-le n held (omega arith)
 
   pub stop-within : stop .at ≤ n
-  stop-within = omega (arith, bytes-long, stop-inside line closed bytes stop is)
+  stop-within = omega (arith, bytes-long, stop-inside line false bytes stop is)
 
-  rest-is : (len : ℕ) → len ≡ n - stop .at → _≡_ {A = Rest} (record { len = len; head = stop .look }) (restOf line closed bytes)
+  rest-is : (len : ℕ) → len ≡ n - stop .at → _≡_ {A = Rest} (record { len = len; head = stop .look }) (restOf line bytes)
   rest-is len is-len =
-      let same : len ≡ length (leftOf line closed bytes) = omega (arith, left-long line closed bytes stop is, bytes-long) in
-      rw (same, stop-look line closed bytes stop is)
+      let same : len ≡ length (leftOf line bytes) = omega (arith, left-long line false bytes stop is, bytes-long) in
+      rw (same, stop-look line false bytes stop is)
 
-  pub rest-stays : stop .at ≡ 0 → _≡_ {A = Rest} (record { len = n; head = stop .look }) (restOf line closed bytes)
+  pub rest-stays : stop .at ≡ 0 → _≡_ {A = Rest} (record { len = n; head = stop .look }) (restOf line bytes)
   rest-stays none = rest-is n (omega arith)
 
-  pub rest-moved : _≡_ {A = Rest} (record { len = n - stop .at; head = stop .look }) (restOf line closed bytes)
+  pub rest-moved : _≡_ {A = Rest} (record { len = n - stop .at; head = stop .look }) (restOf line bytes)
   rest-moved = rest-is (n - stop .at) refl
 
-  pub held-stays : stop .at ≡ 0 → held ≡ padded 258 bytes → held ≡ padded 258 (leftOf line closed bytes)
-  held-stays none front = front ∙ ap (padded 258) (sym (left-is line closed bytes stop is ∙ ap (λ (k : ℕ). drop k bytes) none))
+  pub held-stays : stop .at ≡ 0 → held ≡ padded 258 bytes → held ≡ padded 258 (leftOf line bytes)
+  held-stays none front = front ∙ ap (padded 258) (sym (left-is line false bytes stop is ∙ ap (λ (k : ℕ). drop k bytes) none))
 
   pub held-moved : (left held′ : List ℕ) → left ≡ padded 258 (take (n - stop .at) (drop (stop .at) held))
-      → held′ ≡ take (length left) left ++ drop (length left) held → held′ ≡ padded 258 (leftOf line closed bytes)
+      → held′ ≡ take (length left) left ++ drop (length left) held → held′ ≡ padded 258 (leftOf line bytes)
   held-moved left held′ is-left is-held =
-      let front : left ≡ padded 258 (leftOf line closed bytes) =
-      is-left ∙ ap (padded 258) (sym (left-is line closed bytes stop is ∙ drop-take (stop .at) n held)) in
-      let few-left : length (leftOf line closed bytes) ≤ 258 = omega (arith, left-long line closed bytes stop is, bytes-long) in
-      let full : length left ≡ 258 = rw front (length-padded 258 (leftOf line closed bytes) few-left) in
+      let front : left ≡ padded 258 (leftOf line bytes) =
+      is-left ∙ ap (padded 258) (sym (left-is line false bytes stop is ∙ drop-take (stop .at) n held)) in
+      let few-left : length (leftOf line bytes) ≤ 258 = omega (arith, left-long line false bytes stop is, bytes-long) in
+      let full : length left ≡ 258 = rw front (length-padded 258 (leftOf line bytes) few-left) in
       let past : length held ≤ length left = omega arith in
       let none : drop (length left) held ≡ [] = drop-of-length-le held past in
       is-held ∙ rw (none, take-length left, append-nil) front

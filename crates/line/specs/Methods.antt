@@ -49,13 +49,16 @@ givenMark reader =
     (record { answer = Done; reader = readerOf (reader .line) (withMark (rulesFor (reader .line)) (keptOf reader)) })
 
 -- bytes given one after the other until one is refused
+abbrev pub gave : ℕ → Reader → Gave
+gave used reader = record { used = used; reader = reader }
+
 abbrev pub plus : ℕ → Gave → Gave
-plus n gave = record { used = n + gave .used; reader = gave .reader }
+plus n given = gave (n + given .used) (given .reader)
 
 unfoldable pub givenBytes : Reader → List ℕ → Gave
-givenBytes reader [] = record { used = 0; reader = reader }
+givenBytes reader [] = gave 0 reader
 givenBytes reader (b ∷ bs) =
-    cond (busy reader) (record { used = 0; reader = reader }) (plus 1 (givenBytes (givenByte reader b .reader) bs))
+    cond (busy reader) (gave 0 reader) (plus 1 (givenBytes (givenByte reader b .reader) bs))
 
 -- the L of the frame that stands there
 abbrev pub bodyLength : Look → ℕ
@@ -93,7 +96,3 @@ asked reader =
       payload = padded 254 (drop 1 (contentOf checking body));
       reader = settledReader (reader .line) (reader .closed) (drop k xs);
     })
-
--- how long the bytes must be before the frame that the first begins is whole; 0 where its length byte has not come
-unfoldable pub decidedAt : List ℕ → List ℕ → ℕ
-decidedAt header xs = cond (ltb (length header) (length xs)) (length header + 1 + getD xs (length header) 0) 0

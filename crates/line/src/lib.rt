@@ -3,13 +3,14 @@
 use frame::Header;
 use place::Look;
 ghost use mathlib.Core.Path.{_≡_};
-ghost use mathlib.Core.List.{[]};
+ghost use mathlib.Core.List.{[], _∷_, _++_};
 ghost use Prim.Native.Nat.{_+_, _-_, _≤_, _<_};
 ghost use lib.ListN.{length, take, drop};
 ghost use Rattle.frame.specs.Frame.{headerBytes, contentOf};
 ghost use Rattle.reading.specs.Moves.{fresh};
-ghost use Rattle.line.specs.State.{padded, readerOf, settledReader, leftOf, restOf};
-ghost use Rattle.line.specs.Methods.{isAnswer, takes, busy, bodyLength, span, told, givenByte, givenMark, givenBytes, asked, decidedAt};
+ghost use Rattle.line.specs.State.{padded, readerOf, opened, settledReader, leftOf, restOf, stepOf, decidedAt};
+ghost use Rattle.place.specs.declared.Look.the-variants.{Wait};
+ghost use Rattle.line.specs.Methods.{isAnswer, takes, busy, bodyLength, span, told, givenByte, givenMark, gave, givenBytes, asked};
 
 // What is fixed at setup.
 pub struct Line {
@@ -59,6 +60,20 @@ pub struct Asked {
 
 // How many bytes are left once all that is passed over has been, and what stands at the first of them.
 struct Rest {
+    len: usize,
+    head: Look,
+}
+
+// The same, and how many bytes must be held before more is decided.
+struct Step {
+    len: usize,
+    head: Look,
+    need: usize,
+}
+
+// How many bytes were taken, how many are held then, and what stands at the first of them.
+struct Fed {
+    used: usize,
     len: usize,
     head: Look,
 }
@@ -158,12 +173,12 @@ fn packed(s: &[u8]) -> [u8; 258]
     out
 }
 
-// Goes past all that is passed over of the n bytes held, and brings what is left to the front.
-fn settle_in(line: Line, closed: bool, held: &mut [u8], n: usize) -> Rest
+// Goes past all that is passed over of the n bytes held in an open stretch, and brings what is left to the front.
+fn settle_in(line: Line, held: &mut [u8], n: usize) -> Rest
     requires { ⌜ (n ≤ 258) × (length (now held) ≡ 258) × (now held ≡ padded 258 (take n (now held))) ⌝ }
-    ensures { λ r. ⌜ (r ≡ restOf line closed (take n (now (held .entry)))) × (now (held .exit) ≡ padded 258 (leftOf line closed (take n (now (held .entry))))) ⌝ }
+    ensures { λ r. ⌜ (r ≡ restOf line (take n (now (held .entry)))) × (now (held .exit) ≡ padded 258 (leftOf line (take n (now (held .entry))))) ⌝ }
 {
-    let stop = place::first_stop(line.header, line.checking, closed, &held[..n]);
+    let stop = place::first_stop(line.header, line.checking, false, &held[..n]);
     let at = stop.at;
     let head = stop.look;
     if at == 0 {
@@ -173,6 +188,70 @@ fn settle_in(line: Line, closed: bool, held: &mut [u8], n: usize) -> Rest
     bytes::copy(&left, held);
     Rest {
         len: n - at,
+        head: head,
+    }
+}
+
+// Takes a byte behind the n that are held.
+fn take_byte(line: Line, held: &mut [u8], n: usize, b: u8) -> Step
+    requires { ⌜ (n < 258) × (length (now held) ≡ 258) × (now held ≡ padded 258 (take n (now held))) ⌝ }
+    ensures { λ r. ⌜ (r ≡ stepOf line (take n (now (held .entry)) ++ (b ∷ []))) × (now (held .exit) ≡ padded 258 (leftOf line (take n (now (held .entry)) ++ (b ∷ [])))) × (r .len ≤ 258) × (r .need ≤ 258) ⌝ }
+{
+    held[n] = b;
+    let rest = settle_in(line, held, n + 1);
+    let len = rest.len;
+    let head = rest.head;
+    let need = whole_at(line.header, &held[..len]);
+    Step {
+        len: len,
+        head: head,
+        need: need,
+    }
+}
+
+// Takes a block of bytes that decides nothing behind the n that are held; answers how many.
+fn take_block(held: &mut [u8], n: usize, need: usize, bytes: &[u8]) -> usize
+    requires { ⌜ (n + 1 < need) × (need ≤ 258) × (0 < length (now bytes)) × (length (now held) ≡ 258) × (now held ≡ padded 258 (take n (now held))) ⌝ }
+    ensures { λ r. ⌜ (0 < r) × (n + r < need) × (r ≤ length (now (bytes .entry))) × (now (held .exit) ≡ padded 258 (take n (now (held .entry)) ++ take r (now (bytes .entry)))) ⌝ }
+{
+    let k = smaller(need - 1 - n, bytes.len());
+    bytes::copy(&bytes[..k], &mut held[n..]);
+    k
+}
+
+// Gives bytes to a reader that takes them, in place: a byte that nothing waits for is skipped, a block that decides nothing is copied.
+fn feed(line: Line, held: &mut [u8], count: usize, bytes: &[u8]) -> Fed
+    requires { ⌜ (count ≤ 258) × (length (now held) ≡ 258) × (now held ≡ padded 258 (take count (now held))) ⌝ }
+    ensures { λ r. ⌜ gave (r .used) (opened line (now (held .exit)) (r .len) (r .head)) ≡ givenBytes (opened line (now (held .entry)) count Wait) (now (bytes .entry)) ⌝ }
+{
+    let mut n = count;
+    let mut head = Look::Wait;
+    // Below this length the bytes held decide nothing.
+    let mut need = 0;
+    let mut i = 0;
+    while (i < bytes.len()) & can_take(n, head) {
+        if n + 1 < need {
+            let k = take_block(held, n, need, &bytes[i..]);
+            head = Look::Wait;
+            n += k;
+            i += k;
+        } else {
+            let b = bytes[i];
+            if (n == 0) & (b != line.header.h1) {
+                head = Look::Wait;
+                i += 1;
+            } else {
+                let step = take_byte(line, held, n, b);
+                head = step.head;
+                n = step.len;
+                need = step.need;
+                i += 1;
+            }
+        }
+    }
+    Fed {
+        used: i,
+        len: n,
         head: head,
     }
 }
@@ -344,41 +423,17 @@ impl Reader {
             };
         }
         let line = self.line;
-        let mut n = self.len;
+        let n = self.len;
         let old = self.held;
         let mut held = packed(&old[..n]);
-        let mut head = Look::Wait;
-        // Below this length the bytes held decide nothing.
-        let mut need = 0;
-        let mut i = 0;
-        while (i < bytes.len()) & can_take(n, head) {
-            if n + 1 < need {
-                let k = smaller(need - 1 - n, bytes.len() - i);
-                bytes::copy(&bytes[i..i + k], &mut held[n..]);
-                head = Look::Wait;
-                n += k;
-                i += k;
-            } else {
-                let b = bytes[i];
-                if (n == 0) & (b != line.header.h1) {
-                    head = Look::Wait;
-                    i += 1;
-                } else {
-                    held[n] = b;
-                    let rest = settle_in(line, false, &mut held, n + 1);
-                    head = rest.head;
-                    n = rest.len;
-                    need = whole_at(line.header, &held[..n]);
-                    i += 1;
-                }
-            }
-        }
+        let fed = feed(line, &mut held, n, bytes);
+        let head = fed.head;
         Gave {
-            used: i,
+            used: fed.used,
             reader: Reader {
                 line: line,
                 held: held,
-                len: n,
+                len: fed.len,
                 closed: false,
                 head: head,
             },
