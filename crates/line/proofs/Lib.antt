@@ -6,3 +6,5 @@ pub mod Asking
 pub mod Stepping
 pub mod Blindness
 pub mod Feeding
+pub mod Carried
+pub mod Determined
