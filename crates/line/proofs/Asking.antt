@@ -38,8 +38,8 @@ module _ (k n : ℕ) (obeyed : (eqb k 0 || ltb n k || ltb 258 n) ≡ false) wher
   pub part-inside : (held : List ℕ) → length held ≡ 258 → n ≤ length held
   part-inside held long = let b = held-fits in omega arith
 
-  pub rest-fits : (held : List ℕ) → length (take (n - k) (drop k held)) ≤ 258
-  rest-fits held = let b = held-fits in simp length-take (omega arith)
+  pub rest-fits : (j : ℕ) (held : List ℕ) → length (take (n - j) (drop j held)) ≤ 258
+  rest-fits j held = let b = held-fits in simp length-take (omega arith)
 
 pub body-inside : (held : List ℕ) (h l : ℕ) → length held ≡ 258 → h ≤ 2 → l ≤ 255 → h + 1 + l ≤ length held
 body-inside held h l long short byte = omega arith
