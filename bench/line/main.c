@@ -1,0 +1,128 @@
+/* Bytes per second of the proved reader against the plain one, on the same buffers, in turns. No headers: the kit's clang has none. */
+#include "plain.h"
+
+int printf(const char *, ...);
+struct timespec { long sec, nsec; };
+int clock_gettime(int, struct timespec *);
+
+/* The proved reader: crate line_bench. A slice is a pointer and a length. */
+unsigned long line_bench_chunks(unsigned char h1, unsigned char h2, _Bool checking, const unsigned char *s, unsigned long n, unsigned long chunk);
+unsigned long line_bench_single(unsigned char h1, unsigned char h2, _Bool checking, const unsigned char *s, unsigned long n);
+
+enum { SIZE = 1 << 19, CHUNK = 4096, TURNS = 9 };
+static unsigned char buffer[SIZE];
+
+/* The same work: reports are asked for after each byte, and the same sum is made of them. */
+static __attribute__((noinline)) unsigned long plain_run(const unsigned char *s, unsigned long n) {
+    plain_reader r;
+    plain_report p;
+    unsigned long sum = 0;
+    plain_new(&r, 0x5A, 0xA5, 1);
+    for (unsigned long i = 0; i < n; i++) {
+        plain_byte(&r, s[i]);
+        while (plain_waits(&r)) {
+            p.data[0] = 0;
+            if (plain_ask(&r, &p) == GOOD)
+                sum += 65536 + p.command + p.len + p.data[0];
+            else
+                sum += p.command;
+        }
+    }
+    return sum;
+}
+
+static unsigned int seed = 1;
+static unsigned int draw(unsigned int below) {
+    seed ^= seed << 13;
+    seed ^= seed >> 17;
+    seed ^= seed << 5;
+    return (seed >> 8) % below;
+}
+
+/* Good frames end to end, header 5A A5, checking on, any command, `least` to `most` data bytes, all drawn; the last may be cut. */
+static void frames(unsigned int least, unsigned int most) {
+    unsigned char f[258];
+    unsigned long at = 0;
+    while (at < SIZE) {
+        unsigned int n = least + draw(most - least + 1);
+        f[0] = 0x5A;
+        f[1] = 0xA5;
+        f[2] = n + 3;
+        for (unsigned int i = 0; i <= n; i++) f[3 + i] = draw(256);
+        unsigned short v = plain_check(f + 3, n + 1);
+        f[4 + n] = v & 255;
+        f[5 + n] = v >> 8;
+        for (unsigned int i = 0; i < n + 6 && at < SIZE; i++) buffer[at++] = f[i];
+    }
+}
+
+static void noise(void) {
+    for (unsigned long at = 0; at < SIZE; at++) buffer[at] = draw(256);
+}
+
+/* Noise with a header pair after every 0 to 7 bytes. */
+static void pairs(void) {
+    unsigned long at = 0;
+    while (at < SIZE) {
+        for (unsigned int k = draw(8); k && at < SIZE; k--) buffer[at++] = draw(256);
+        if (at < SIZE) buffer[at++] = 0x5A;
+        if (at < SIZE) buffer[at++] = 0xA5;
+    }
+}
+
+static double now(void) {
+    struct timespec t;
+    clock_gettime(1, &t);
+    return t.sec + t.nsec * 1e-9;
+}
+
+static volatile unsigned long kept;
+
+static double chunks(void) {
+    double t = now();
+    kept = line_bench_chunks(0x5A, 0xA5, 1, buffer, SIZE, CHUNK);
+    return now() - t;
+}
+
+static double single(void) {
+    double t = now();
+    kept = line_bench_single(0x5A, 0xA5, 1, buffer, SIZE);
+    return now() - t;
+}
+
+static double plain(void) {
+    double t = now();
+    kept = plain_run(buffer, SIZE);
+    return now() - t;
+}
+
+/* The fastest of some turns, the three readers one after the other in each. */
+static int measure(const char *name) {
+    double c = 1e9, s = 1e9, p = 1e9, t;
+    unsigned long a = 0, b = 0, d = 0;
+    for (int i = 0; i < TURNS; i++) {
+        if ((t = plain()) < p) p = t;
+        a = kept;
+        if ((t = chunks()) < c) c = t;
+        b = kept;
+        if (i < 3 && (t = single()) < s) s = t;
+        if (i < 3) d = kept;
+    }
+    if (a != b || a != d) printf("%s: the readers differ: %lu %lu %lu\n", name, a, b, d);
+    printf("%-13s plain C %7.2f MB/s   give_bytes %7.2f MB/s, ratio %.2f   give_byte %7.2f MB/s, ratio %.2f\n", name, SIZE / p / 1e6,
+           SIZE / c / 1e6, p / c, SIZE / s / 1e6, p / s);
+    return a != b || a != d;
+}
+
+int main(void) {
+    int bad = 0;
+    frames(0, 252);
+    bad |= measure("good frames");
+    noise();
+    bad |= measure("noise");
+    pairs();
+    bad |= measure("header pairs");
+    frames(0, 16);
+    bad |= measure("short frames");
+    return bad;
+}

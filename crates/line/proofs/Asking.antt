@@ -1,0 +1,79 @@
+-- Laws of asking.
+use mathlib.Core.Path.{_≡_, refl, sym, ap, _∙_}
+use mathlib.Core.Bool.{Bool, true, false, cond, _||_}
+use mathlib.Core.List.{List, [], _∷_, _++_}
+use Prim.Native.Nat.{ℕ, suc, _+_, _-_, _≤_, _<_}
+use native.Mathlib.Omega.{arith}
+use borrow.Author.Tests.{ltb-false, eqb-false}
+use lib.Dec.{eqb, ltb}
+use lib.ListN.{length, take, drop, length-take}
+use lib.Seq.{take-take}
+use Rattle.frame.specs.Frame.{headerBytes, contentOf}
+use Rattle.place.specs.declared.Look.{Look}
+use Rattle.place.specs.declared.Look.the-variants.{Pass, Wait, Bad, Good}
+use Rattle.line.specs.declared.Reader.{Reader}
+use Rattle.line.specs.declared.Report.{Report}
+use Rattle.line.specs.declared.Report.the-variants.{Nothing}
+use Rattle.line.specs.declared.Asked.{Asked}
+use Rattle.line.specs.State.{padded, settledReader}
+use Rattle.line.specs.Methods.{bodyLength, span, told, asked}
+use Rattle.line.proofs.Padding.{drop-take}
+
+or-left : (a b : Bool) → (a || b) ≡ false → a ≡ false
+or-left false b is = refl
+or-left true b is = is
+
+or-right : (a b : Bool) → (a || b) ≡ false → b ≡ false
+or-right false b is = is
+or-right true b is = let z : _≡_ {A = ℕ} 0 1 = cc in absurd (omega arith)
+
+-- a head that is obeyed: its frame is all held
+module _ (k n : ℕ) (obeyed : (eqb k 0 || ltb n k || ltb 258 n) ≡ false) where
+  pub frame-held : k ≤ n
+  frame-held = ltb-false n k (or-right (eqb k 0) (ltb n k) (or-left (eqb k 0 || ltb n k) (ltb 258 n) obeyed))
+
+  held-fits : n ≤ 258
+  held-fits = ltb-false 258 n (or-right (eqb k 0 || ltb n k) (ltb 258 n) obeyed)
+
+  pub part-inside : (held : List ℕ) → length held ≡ 258 → n ≤ length held
+  part-inside held long = let b = held-fits in omega arith
+
+  pub rest-fits : (j : ℕ) (held : List ℕ) → length (take (n - j) (drop j held)) ≤ 258
+  rest-fits j held = let b = held-fits in simp length-take (omega arith)
+
+pub body-inside : (held : List ℕ) (h l : ℕ) → length held ≡ 258 → h ≤ 2 → l ≤ 255 → h + 1 + l ≤ length held
+body-inside held h l long short byte = omega arith
+
+-- the L bytes of a frame that is all held
+body-held : (header : List ℕ) (head : Look) (n : ℕ) (held : List ℕ) → span header head ≤ n
+    → take (bodyLength head) (drop (length header + 1) (take n held)) ≡ take (bodyLength head) (drop (length header + 1) held)
+body-held header Pass n held fits = refl
+body-held header Wait n held fits = refl
+body-held header (Bad command) n held fits = refl
+body-held header (Good l) n held fits =
+    rw (drop-take (length header + 1) n held) (take-take l (n - (length header + 1)) (drop (length header + 1) held) (omega arith))
+
+module _ (reader : Reader) (k : ℕ) (is-k : k ≡ span (headerBytes (reader .line .header)) (reader .head)) where
+  pub nothing-asked : (payload : List ℕ) → (eqb k 0 || ltb (reader .len) k || ltb 258 (reader .len)) ≡ true → payload ≡ padded 254 []
+      → _≡_ {A = Asked} (record { report = Nothing; payload = payload; reader = reader }) (asked reader)
+  unfolding asked
+  nothing-asked payload none empty = rw (← is-k, none, empty)
+
+  pub report-asked : (h l : ℕ) (report : Report) (payload : List ℕ) (next : Reader)
+      → (eqb k 0 || ltb (reader .len) k || ltb 258 (reader .len)) ≡ false → h ≡ length (headerBytes (reader .line .header))
+      → l ≡ bodyLength (reader .head)
+      → report ≡ told (reader .line .checking) (reader .head) (take (h + 1 + l - (h + 1)) (drop (h + 1) (reader .held)))
+      → payload ≡ padded 254 (drop 1 (contentOf (reader .line .checking) (take (h + 1 + l - (h + 1)) (drop (h + 1) (reader .held)))))
+      → next ≡ settledReader (reader .line) (reader .closed) (take (reader .len - k) (drop k (reader .held)))
+      → _≡_ {A = Asked} (record { report = report; payload = payload; reader = next }) (asked reader)
+  unfolding asked
+  report-asked h l report payload next obeyed is-h is-l is-report is-payload is-next =
+      let header = headerBytes (reader .line .header) in
+      let there : span header (reader .head) ≤ reader .len = rw (← is-k) (frame-held k (reader .len) obeyed) in
+      let z : h + 1 + l - (h + 1) ≡ l = omega arith in
+      let body : take (h + 1 + l - (h + 1)) (drop (h + 1) (reader .held))
+      ≡ take (bodyLength (reader .head)) (drop (length header + 1) (take (reader .len) (reader .held))) =
+      rw (z, is-h, is-l) (sym (body-held header (reader .head) (reader .len) (reader .held) there)) in
+      let rest : take (reader .len - k) (drop k (reader .held)) ≡ drop k (take (reader .len) (reader .held)) =
+      sym (drop-take k (reader .len) (reader .held)) in
+      rw (is-report, is-payload, is-next, body, rest, ← is-k, obeyed)

@@ -1,0 +1,20 @@
+-- `line::take_block` meets its contract.
+use Rattle.line.proofs.Feeding.{block-counted, block-room, block-laid}
+use borrow.Author.Needs.{needs}
+use Rattle.line.proofs.take_block.Statement.{statement}
+use Rattle.line.proofs.take_block.Tie as tie
+
+pub take-block-spec : {M : Type 1} → statement M
+take-block-spec =
+    tie.close
+    (tie.spec
+    (λ c. search needs)
+    (λ c. search needs)
+    (λ c κs. search needs)
+    (λ c. search block-counted)
+    (λ c. search needs)
+    (λ c. search needs)
+    (λ c. search needs)
+    (λ c κs. search block-room)
+    (λ c. search needs)
+    (λ c. (search needs, search needs, search needs, search block-laid)))

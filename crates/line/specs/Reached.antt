@@ -1,0 +1,31 @@
+-- The readers that are reached from a new one, and what a report of the reading looks like as the reader hands it over.
+use Prim.Native.Nat.{ℕ, _≤_}
+use mathlib.Core.Path.{_≡_}
+use mathlib.Core.Bool.{Bool, false}
+use mathlib.Core.List.{List, [], _∷_}
+use lib.ListN.{length}
+use Rattle.wire.specs.Bytes.{Bytes}
+use Rattle.reading.specs.Place as Place
+use Rattle.reading.specs.Place.{look, badCheck, acceptedFrame}
+use Rattle.reading.specs.Moves.{Kept, isPass}
+use Rattle.line.specs.declared.Line.{Line}
+use Rattle.line.specs.declared.Report.{Report}
+use Rattle.line.specs.declared.Report.the-variants.{Accepted, BadCheck, Nothing}
+use Rattle.line.specs.State.{rulesFor, padded}
+
+-- what holds of all that a reader keeps between inputs
+pub record Reached (line : Line) (kept : Kept) : Type 0 where
+  pub are-bytes : Bytes (kept .bytes)
+  pub few : length (kept .bytes) ≤ 258
+  -- the first byte kept is one where reading stays: it waits or reports
+  pub stands : isPass (look (rulesFor line) (kept .closed) (kept .bytes)) ≡ false
+
+unfoldable pub reportAs : List Place.Report → Report
+reportAs [] = Nothing
+reportAs (badCheck command ∷ reports) = BadCheck command
+reportAs (acceptedFrame command content ∷ reports) = Accepted command (length content)
+
+unfoldable pub payloadAs : List Place.Report → List ℕ
+payloadAs [] = padded 254 []
+payloadAs (badCheck command ∷ reports) = padded 254 []
+payloadAs (acceptedFrame command content ∷ reports) = padded 254 content
