@@ -10,7 +10,7 @@ use borrow.Author.Tests.{ltb-true, ltb-false, lt-ltb, le-ltb, eqb-true, not-true
 use lib.Dec.{eqb, ltb}
 use lib.ListN.{length, getD, take, drop, set, length-append, length-take, length-drop, length-set, drop-of-length-le, take-append-drop}
 use lib.Seq.{drop-cons, take-suc-set, length-take-le, take-all, take-length, drop-drop}
-use Rattle.wire.proofs.Over.{part-whole, part-end}
+use Rattle.wire.proofs.Parts.{part-whole, part-end}
 use Rattle.frame.specs.Frame.{headerBytes}
 use Rattle.reading.specs.Place.{Rules, Seen, pass, wait, bad, accepted, behind, look}
 use Rattle.reading.specs.Moves.{Kept, isPass, passes, stillClosed, settled, withByte}

@@ -8,7 +8,7 @@ use borrow.Author.Tests.{lt-ltb}
 use lib.Dec.{ltb}
 use lib.ListN.{length, take, drop, length-drop, drop-of-length-le}
 use lib.Seq.{length-take-le, take-length}
-use Rattle.wire.proofs.Over.{part-whole}
+use Rattle.wire.proofs.Parts.{part-whole}
 use Rattle.reading.specs.Place.{Rules, look}
 use Rattle.reading.specs.Moves.{isPass, passes, stillClosed, settled}
 use Rattle.place.specs.declared.Look.{Look}

@@ -9,7 +9,7 @@ use borrow.Author.Tests.{lt-ltb, le-ltb, eq-eqb, ne-eqb}
 use lib.Dec.{eqb, ltb}
 use lib.ListN.{length, getD, take, drop}
 use lib.Seq.{length-take-le}
-use Rattle.wire.proofs.Over.{part-whole}
+use Rattle.wire.proofs.Parts.{part-whole}
 use Rattle.check_value.specs.CheckValue.{checkValue}
 use Rattle.frame.specs.Frame.{headerBytes, checkLength, leastLength, rightCheck}
 use Rattle.frame.specs.declared.Header.{Header}

@@ -7,7 +7,7 @@ use native.Mathlib.Omega.{arith}
 use native.Mathlib.Numerals.{add-one}
 use lib.ListN.{length, getD, take, drop, drop-of-length-le}
 use lib.Seq.{drop-cons}
-use Rattle.wire.proofs.Over.{part-whole}
+use Rattle.wire.proofs.Parts.{part-whole}
 use Rattle.reading.specs.Place.{Rules, Seen, pass, wait, bad, accepted, cutShort, afterHeader, behind, look}
 use Rattle.reading.specs.Moves.{isPass, passes, stillClosed}
 use Rattle.place.specs.declared.Look.{Look}
