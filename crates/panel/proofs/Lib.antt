@@ -1,0 +1,4 @@
+pub mod Inputs
+pub mod Touches
+pub mod Reports
+pub mod Determined

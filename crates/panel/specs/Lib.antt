@@ -1,0 +1,6 @@
+pub mod State
+pub mod Numbers
+pub mod Start
+pub mod Inputs
+pub mod Reporting
+pub mod Contacts

@@ -1,0 +1,37 @@
+-- The panel by value: setup, registers, catch and reader; and the parts of it that are set together.
+use Prim.Native.Nat.{ℕ}
+use mathlib.Core.Bool.{Bool, _&&_}
+use mathlib.Core.List.{List}
+use Rattle.frame.specs.declared.Header.{Header}
+use Rattle.frame.specs.Frame.{headerBytes}
+use Rattle.line.specs.declared.Reader.{Reader}
+use Rattle.registers.specs.Table.{registerAt}
+use Rattle.touch.specs.declared.Setup.{Setup}
+use Rattle.touch.specs.Setup.{checkingOf, acknowledgingOf}
+use Rattle.contact.specs.declared.Pad.{Pad}
+use Rattle.panel.specs.declared.Panel.{Panel}
+
+-- "Two header bytes H1 H2, fixed at setup"
+abbrev pub headerFor : Setup → Header
+headerFor setup = record { h1 = setup .h1; h2 = setup .h2 }
+
+abbrev pub headerOf : Setup → List ℕ
+headerOf setup = headerBytes (headerFor setup)
+
+-- "With checking and acknowledging both on"
+abbrev pub answering : Setup → Bool
+answering setup = checkingOf setup && acknowledgingOf setup
+
+abbrev pub withReader : Panel → Reader → Panel
+withReader panel reader = record { setup = panel .setup; registers = panel .registers; catch = panel .catch; reader = reader }
+
+-- what a touch reads and sets
+abbrev pub padOf : Panel → Pad
+padOf panel = record { registers = panel .registers; catch = panel .catch }
+
+abbrev pub withPad : Panel → Pad → Panel
+withPad panel pad = record { setup = panel .setup; registers = pad .registers; catch = pad .catch; reader = panel .reader }
+
+-- what a register of the panel reads
+abbrev pub panelRegister : Panel → ℕ → ℕ
+panelRegister panel address = registerAt (panel .registers) address
