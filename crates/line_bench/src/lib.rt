@@ -2,7 +2,6 @@
 use frame::Header;
 use line::Reader;
 use line::Report;
-
 ghost use Prim.Native.Nat.{_≤_};
 
 // What one report adds to the sum.

@@ -4,14 +4,6 @@ use borrow.Author.Needs.{needs}
 use lib.ListN.{length}
 use Rattle.line_bench.proofs.line_bench_single.Statement.{statement}
 use Rattle.line_bench.proofs.line_bench_single.Tie as tie
-use Rattle.line_bench.proofs.line_bench_single.Reads as reads
-use Rattle.line_bench.proofs.line_bench_single.Lts as lts
-use Rattle.line.proofs.Reader.ask.Reads as ask-reads
-use Rattle.line.proofs.Reader.give_byte.Reads as give-byte-reads
-use Rattle.line.proofs.Reader.is_waiting.Reads as is-waiting-reads
-use Rattle.line.proofs.Reader.new.Reads as new-reads
-use Rattle.line_bench.proofs.weight.Reads as weight-reads
-use Rattle.std.proofs.num.wrapping_add_u64.Reads as wrapping-add-u64-reads
 
 abbrev Inv-loop : tie.InvT-loop
 Inv-loop h1 h2 checking input reader₀ sum₀ i₀ turns₀ reader sum i turns = i ≤ length input
@@ -19,75 +11,57 @@ Inv-loop h1 h2 checking input reader₀ sum₀ i₀ turns₀ reader sum i turns 
 abbrev μ-loop : tie.MeasureT-loop
 μ-loop h1 h2 checking input reader₀ sum₀ i₀ turns₀ reader sum i turns = turns
 
--- src/lib.rt:69:9
 new-requires : tie.Need-new-requires Inv-loop μ-loop
 new-requires c κs = search needs
 
--- src/lib.rt:73:5
 loop-holds : tie.Need-loop-holds Inv-loop μ-loop
 loop-holds c = search needs
 
--- src/lib.rt:74:12
 is-waiting-requires : tie.Need-is-waiting-requires Inv-loop μ-loop
 is-waiting-requires c κs = search needs
 
--- src/lib.rt:75:17
 ask-requires : tie.Need-ask-requires Inv-loop μ-loop
 ask-requires c κs = search needs
 
--- src/lib.rt:78:66
 array-read-weight : tie.Need-array-read-weight Inv-loop μ-loop
 array-read-weight c = search needs
 
--- src/lib.rt:78:51
 weight-requires : tie.Need-weight-requires Inv-loop μ-loop
 weight-requires c κs = search needs
 
--- src/lib.rt:78:13
 wrapping-add-u64-requires : tie.Need-wrapping-add-u64-requires Inv-loop μ-loop
 wrapping-add-u64-requires c κs = search needs
 
--- src/lib.rt:81:13
 sub-turns : tie.Need-sub-turns Inv-loop μ-loop
 sub-turns c = search needs
 
--- src/lib.rt:73:5
 loop-less : tie.Need-loop-less Inv-loop μ-loop
 loop-less c = search needs
 
--- src/lib.rt:73:5
 loop-again : tie.Need-loop-again Inv-loop μ-loop
 loop-again c = search needs
 
--- src/lib.rt:84:46
 shared-slice-read-give-byte : tie.Need-shared-slice-read-give-byte Inv-loop μ-loop
 shared-slice-read-give-byte c = search needs
 
--- src/lib.rt:84:21
 give-byte-requires : tie.Need-give-byte-requires Inv-loop μ-loop
 give-byte-requires c κs = search needs
 
--- src/lib.rt:87:17
 add-i : tie.Need-add-i Inv-loop μ-loop
 add-i c = search needs
 
--- src/lib.rt:88:17
 sub-turns-2 : tie.Need-sub-turns-2 Inv-loop μ-loop
 sub-turns-2 c = search needs
 
--- src/lib.rt:73:5
 loop-less-2 : tie.Need-loop-less-2 Inv-loop μ-loop
 loop-less-2 c = search needs
 
--- src/lib.rt:73:5
 loop-again-2 : tie.Need-loop-again-2 Inv-loop μ-loop
 loop-again-2 c = search needs
 
--- src/lib.rt:90:17
 returns : tie.Need-returns Inv-loop μ-loop
 returns c = search needs
 
--- src/lib.rt:67:1
 returns-2 : tie.Need-returns-2 Inv-loop μ-loop
 returns-2 c = search needs
 
