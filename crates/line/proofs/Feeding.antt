@@ -2,42 +2,33 @@
 use mathlib.Core.Path.{_≡_, refl, sym, ap, _∙_}
 use mathlib.Core.Bool.{Bool, true, false, cond, not, _&&_}
 use mathlib.Core.List.{List, [], _∷_, _++_, append-assoc, append-nil}
-use Prim.Native.Nat.{ℕ, zero, suc, _+_, _-_, _≤_, _<_}
+use Prim.Native.Nat.{ℕ, suc, _+_, _-_, _≤_, _<_}
 use native.Mathlib.Nat.{zero-add, add-zero}
 use native.Mathlib.Omega.{arith}
 use native.Mathlib.Numerals.{add-one, one-add}
-use borrow.Author.Tests.{ltb-true, ltb-false, lt-ltb, le-ltb, eqb-true, eq-eqb, ne-eqb, not-true, not-false}
+use borrow.Author.Tests.{ltb-true, ltb-false, lt-ltb, eqb-true, eq-eqb, ne-eqb, not-true, not-false}
 use lib.Dec.{eqb, ltb}
-use lib.ListN.{length, getD, take, drop, set, length-append, length-take, length-drop, length-set, drop-of-length-le, take-append-drop}
-use lib.Seq.{drop-cons, take-suc-set, length-take-le, take-all, take-length, drop-drop}
+use lib.ListN.{length, getD, take, drop, length-append, length-take, length-drop, drop-of-length-le, take-append-drop}
+use lib.Seq.{drop-cons, length-take-le, take-length, drop-drop}
 use Rattle.wire.proofs.Over.{part-whole, part-end}
 use Rattle.frame.specs.Frame.{headerBytes}
-use Rattle.reading.specs.Place.{Rules, Seen, pass, wait, bad, accepted, behind, look}
-use Rattle.reading.specs.Moves.{Kept, isPass, passes, stillClosed, settled, withByte}
+use Rattle.reading.specs.Place.{Rules, wait, behind, look}
+use Rattle.reading.specs.Moves.{isPass, passes, stillClosed, settled, withByte}
 use Rattle.place.specs.declared.Look.{Look}
-use Rattle.place.specs.declared.Look.the-variants.{Pass, Wait, Bad, Good}
-use Rattle.place.specs.Looks.{shown}
-use Rattle.place.proofs.Stops.{look-nothing, passes-none, passes-more, still-over}
+use Rattle.place.specs.declared.Look.the-variants.{Wait}
+use Rattle.place.proofs.Stops.{look-nothing}
 use Rattle.line.specs.declared.Line.{Line}
 use Rattle.line.specs.declared.Reader.{Reader}
 use Rattle.line.specs.declared.Step.{Step}
 use Rattle.line.specs.declared.Fed.{Fed}
 use Rattle.line.specs.declared.Gave.{Gave}
-use Rattle.line.specs.State.{rulesFor, padded, readerOf, keptOf, opened, settledReader, leftOf, stepOf, decidedAt, noiseLength}
+use Rattle.line.specs.State.{rulesFor, padded, opened, settledReader, leftOf, stepOf, decidedAt, noiseLength}
 use Rattle.line.specs.Methods.{isAnswer, takes, busy, givenByte, gave, plus, givenBytes}
-use Rattle.line.proofs.Padding.{length-padded, take-padded, laid-behind, set-behind}
-use Rattle.line.proofs.Settling.{passes-le}
+use Rattle.line.proofs.Padding.{take-padded, laid-behind}
 use Rattle.line.proofs.Blindness.{Blind, blind-more, blind-here, blind-whole, left-stands}
+use Rattle.line.proofs.Truths.{and-left, and-right}
 
 -- the loop's test
-and-left : (a b : Bool) → (a && b) ≡ true → a ≡ true
-and-left true b is = refl
-and-left false b is = is
-
-and-right : (a b : Bool) → (a && b) ≡ true → b ≡ true
-and-right true b is = is
-and-right false b is = let z : _≡_ {A = ℕ} 0 1 = cc in absurd (omega arith)
-
 module _ (i m : ℕ) (t : Bool) (goes : (ltb i m && t) ≡ true) where
   pub more-left : i < m
   more-left = ltb-true i m (and-left (ltb i m) t goes)
