@@ -3,10 +3,14 @@
 
 python3 tests/line_model.py           prints what line_cases must print (crates/line_cases/stdout)
 python3 tests/line_model.py --stdin   prints what it reads (crates/line_cases/stdin)
+A seed and a count behind that draw other cases, and more of them: tests/line_compare.sh.
 
 The model keeps all that was given and reads it anew each time: a report waits while fewer reports were handed over than the reading has.
 """
 import random, sys
+
+WANTS_STDIN = "--stdin" in sys.argv
+SEED, COUNT = [int(a) for a in sys.argv[1:] if a != "--stdin"] or (1, 40)
 
 
 def check(content):
@@ -129,8 +133,8 @@ def cases():
         yield f"header {h[0]:02X} {h[1]:02X}, checking on", h, True, [h[0], *good, "?", *good, "?", "|", "?", *h, *h, h[0], "|", "?", *good, "?"]
         yield f"header {h[0]:02X} {h[1]:02X}, checking off", h, False, [h[0], *short, "?", *short, "?", "|", "?", *short, "?"]
         yield f"header {h[0]:02X} {h[1]:02X}, header bytes only", h, True, [("[", [h[0]] * 300), "?", "|", "?", ("[", [h[0]] * 100), "|", "?"]
-    draw = random.Random(1)
-    for k in range(40):
+    draw = random.Random(SEED)
+    for k in range(COUNT):
         h = draw.choice([H, H, (0xFF, 0xFF), (0, 0), (3, 4)])
         checking = draw.random() < 0.7
         all_given = []
@@ -183,5 +187,5 @@ def expected():
                 yield "1"
 
 
-for line in script() if sys.argv[1:] == ["--stdin"] else expected():
+for line in script() if WANTS_STDIN else expected():
     print(line)

@@ -1,10 +1,10 @@
 -- Laws of asking.
-use mathlib.Core.Path.{_≡_, refl, sym, ap, _∙_}
-use mathlib.Core.Bool.{Bool, true, false, cond, _||_}
-use mathlib.Core.List.{List, [], _∷_, _++_}
-use Prim.Native.Nat.{ℕ, suc, _+_, _-_, _≤_, _<_}
+use mathlib.Core.Path.{_≡_, refl, sym}
+use mathlib.Core.Bool.{true, false, _||_}
+use mathlib.Core.List.{List, []}
+use Prim.Native.Nat.{ℕ, _+_, _-_, _≤_}
 use native.Mathlib.Omega.{arith}
-use borrow.Author.Tests.{ltb-false, eqb-false}
+use borrow.Author.Tests.{ltb-false}
 use lib.Dec.{eqb, ltb}
 use lib.ListN.{length, take, drop, length-take}
 use lib.Seq.{take-take}
@@ -18,14 +18,7 @@ use Rattle.line.specs.declared.Asked.{Asked}
 use Rattle.line.specs.State.{padded, settledReader}
 use Rattle.line.specs.Methods.{bodyLength, span, told, asked}
 use Rattle.line.proofs.Padding.{drop-take}
-
-or-left : (a b : Bool) → (a || b) ≡ false → a ≡ false
-or-left false b is = refl
-or-left true b is = is
-
-or-right : (a b : Bool) → (a || b) ≡ false → b ≡ false
-or-right false b is = is
-or-right true b is = let z : _≡_ {A = ℕ} 0 1 = cc in absurd (omega arith)
+use Rattle.line.proofs.Truths.{or-left, or-right}
 
 -- a head that is obeyed: its frame is all held
 module _ (k n : ℕ) (obeyed : (eqb k 0 || ltb n k || ltb 258 n) ≡ false) where

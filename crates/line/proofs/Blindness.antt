@@ -1,17 +1,18 @@
 -- Bytes that decide nothing: below the length at which the frame at the front is whole, whatever comes, the front waits.
-use mathlib.Core.Path.{_≡_, refl, sym, ap, _∙_}
+use mathlib.Core.Path.{_≡_, refl}
 use mathlib.Core.Bool.{Bool, true, false, cond}
-use mathlib.Core.List.{List, [], _∷_, _++_, append-assoc, append-nil}
-use Prim.Native.Nat.{ℕ, suc, _+_, _-_, _≤_, _<_}
+use mathlib.Core.List.{List, [], _∷_, _++_, append-assoc}
+use Prim.Native.Nat.{ℕ, suc, _+_, _<_}
 use native.Mathlib.Omega.{arith}
-use borrow.Author.Tests.{ltb-true, ltb-false, lt-ltb, le-ltb}
+use borrow.Author.Tests.{ltb-true, lt-ltb}
 use lib.Dec.{eqb, ltb}
 use lib.ListN.{length, getD, take, drop}
 use Rattle.frame.specs.Frame.{leastLength}
-use Rattle.reading.specs.Place.{Rules, Seen, pass, wait, bad, accepted, cutShort, judged, afterHeader, behind, look}
-use Rattle.reading.specs.Moves.{isPass, passes, settled}
+use Rattle.reading.specs.Place.{Rules, pass, wait, cutShort, judged, afterHeader, behind, look}
+use Rattle.reading.specs.Moves.{isPass, passes}
 use Rattle.place.proofs.Stops.{look-nothing}
 use Rattle.line.specs.State.{decidedAt}
+use Rattle.line.proofs.Truths.{never}
 
 -- while fewer than w bytes are held, with these in front, the front waits
 unfoldable pub Blind : Rules → List ℕ → ℕ → Type 0
@@ -37,7 +38,7 @@ blind-length checking l xs ys stands short = go (ltb l (leastLength checking)) s
   where
     go : (b : Bool) → isPass (cond b pass (cond (ltb (length xs) l) wait (judged checking (take l xs)))) ≡ false
         → cond b pass (cond (ltb (length (xs ++ ys)) l) wait (judged checking (take l (xs ++ ys)))) ≡ wait
-    go true is = let z : _≡_ {A = ℕ} 0 1 = cc in absurd (omega arith)
+    go true is = never (cc)
     go false is = rw (lt-ltb (length (xs ++ ys)) l short)
 
 blind-behind : (checking : Bool) (header xs ys : List ℕ) → isPass (behind checking false header xs) ≡ false → length header < length xs
@@ -52,7 +53,7 @@ blind-behind checking (h ∷ header) (x ∷ xs) ys stands long short =
     go : (b : Bool) → (isPass (behind checking false header xs) ≡ false → behind checking false header (xs ++ ys) ≡ wait)
         → isPass (cond b (behind checking false header xs) pass) ≡ false → cond b (behind checking false header (xs ++ ys)) pass ≡ wait
     go true ih is = ih is
-    go false ih is = let z : _≡_ {A = ℕ} 0 1 = cc in absurd (omega arith)
+    go false ih is = never (cc)
 
 -- bytes whose front is not passed over decide nothing before they are as long as its frame
 pub blind-whole : (rules : Rules) (xs : List ℕ) → isPass (look rules false xs) ≡ false → Blind rules xs (decidedAt (rules .header) xs)

@@ -1,31 +1,29 @@
 -- The methods on a reader that keeps something are the moves of crate reading: what is proved of the moves holds of the code.
 use mathlib.Core.Path.{_≡_, refl, sym, ap, _∙_}
-use mathlib.Core.Bool.{Bool, true, false, cond, not, _&&_, _||_}
+use mathlib.Core.Bool.{Bool, true, false, cond, not, _&&_}
 use mathlib.Core.List.{List, [], _∷_, _++_}
 use Prim.Native.Nat.{ℕ, zero, suc, _+_, _-_, _≤_, _<_}
 use native.Mathlib.Omega.{arith}
 use borrow.Author.Tests.{lt-ltb, le-ltb, ltb-true, ltb-false, ne-eqb}
 use lib.Dec.{eqb, ltb}
-use lib.ListN.{length, getD, take, drop, length-append, length-drop, length-take}
+use lib.ListN.{length, take, drop, length-append, length-drop}
 use lib.Seq.{take-nil, getD-drop, length-take-le}
 use Rattle.wire.specs.Bytes.{Bytes}
 use Rattle.frame.specs.Frame.{headerBytes, checkLength, leastLength, contentOf, rightCheck}
 use Rattle.reading.specs.Place.{Rules, Seen, pass, wait, bad, accepted, cutShort, judged, afterHeader, behind, look, reportOf, goneBy}
 use Rattle.reading.specs.Moves.{Kept, fresh, isPass, isReport, passes, stillClosed, settled, waiting, withByte, withMark, handed, afterReport}
-use Rattle.place.specs.declared.Look.the-variants.{Pass, Wait, Bad, Good}
 use Rattle.place.specs.Looks.{shown}
 use Rattle.place.proofs.Stops.{look-nothing, still-there, still-over}
 use Rattle.line.specs.declared.Line.{Line}
 use Rattle.line.specs.declared.Reader.{Reader}
 use Rattle.line.specs.declared.Answer.the-variants.{Done, Waits}
-use Rattle.line.specs.declared.Given.{Given}
 use Rattle.line.specs.declared.Asked.{Asked}
 use Rattle.line.specs.declared.Report.the-variants.{Nothing}
-use Rattle.line.specs.State.{rulesFor, padded, readerOf, keptOf, settledReader}
-use Rattle.line.specs.Methods.{isAnswer, takes, busy, givenByte, givenMark, bodyLength, span, told, asked}
+use Rattle.line.specs.State.{rulesFor, padded, readerOf, keptOf}
+use Rattle.line.specs.Methods.{isAnswer, busy, givenByte, givenMark, asked}
 use Rattle.line.specs.Reached.{Reached, reportAs, payloadAs}
 use Rattle.line.proofs.Padding.{take-padded}
-use Rattle.line.proofs.Settling.{passes-le}
+use Rattle.line.proofs.Truths.{never}
 
 -- a reader that keeps something keeps just that
 pub kept-is : (line : Line) (kept : Kept) → keptOf (readerOf line kept) ≡ kept
@@ -43,8 +41,8 @@ unfolding judged
 judged-stays checking body waits = go (rightCheck checking body) waits
   where
     go : (b : Bool) → cond b (accepted body) (bad body) ≡ wait → ⊥
-    go true is = let z : _≡_ {A = ℕ} 0 1 = cc in omega arith
-    go false is = let z : _≡_ {A = ℕ} 0 1 = cc in omega arith
+    go true is = never (cc)
+    go false is = never (cc)
 
 -- a place that waits has fewer bytes than the longest frame
 wait-length : (checking closed : Bool) (xs : List ℕ) → Bytes xs → afterHeader checking closed xs ≡ wait → length xs ≤ 255
@@ -53,7 +51,7 @@ wait-length checking closed [] are waits = omega arith
 wait-length checking closed (l ∷ xs) are waits = go (ltb l (leastLength checking)) (ltb (length xs) l) refl waits
   where
     go : (a b : Bool) → ltb (length xs) l ≡ b → cond a pass (cond b (cutShort closed) (judged checking (take l xs))) ≡ wait → suc (length xs) ≤ 255
-    go true b is waits = let z : _≡_ {A = ℕ} 0 1 = cc in absurd (omega arith)
+    go true b is waits = never (cc)
     go false true is waits = let h : length xs < l = ltb-true (length xs) l is in omega (arith, are 0)
     go false false is waits = absurd (judged-stays checking (take l xs) waits)
 
@@ -66,15 +64,15 @@ wait-short checking closed (h ∷ header) (x ∷ xs) are waits = go (eqb x h) (w
     go : (b : Bool) → (behind checking closed header xs ≡ wait → length xs ≤ length header + 255)
         → cond b (behind checking closed header xs) pass ≡ wait → suc (length xs) ≤ suc (length header) + 255
     go true ih waits = omega (arith, ih waits)
-    go false ih waits = let z : _≡_ {A = ℕ} 0 1 = cc in absurd (omega arith)
+    go false ih waits = never (cc)
 
 -- what is neither passed over nor reported waits
 stands-waits : (seen : Seen) → isPass seen ≡ false → isReport seen ≡ false → seen ≡ wait
 unfolding isPass isReport
-stands-waits pass stays none = let z : _≡_ {A = ℕ} 0 1 = cc in absurd (omega arith)
+stands-waits pass stays none = never (cc)
 stands-waits wait stays none = refl
-stands-waits (bad body) stays none = let z : _≡_ {A = ℕ} 0 1 = cc in absurd (omega arith)
-stands-waits (accepted body) stays none = let z : _≡_ {A = ℕ} 0 1 = cc in absurd (omega arith)
+stands-waits (bad body) stays none = never (cc)
+stands-waits (accepted body) stays none = never (cc)
 
 -- "at most 257 bytes are ever held while waiting"
 pub held-waiting : (line : Line) (kept : Kept) → Reached line kept → waiting (rulesFor line) kept ≡ false → length (kept .bytes) ≤ 257
@@ -181,8 +179,8 @@ reached-report line kept reached = go (isReport seen)
 -- a report: what stands there is all there
 cut-none : (closed : Bool) → isReport (cutShort closed) ≡ true → ⊥
 unfolding cutShort isReport
-cut-none true reports = let z : _≡_ {A = ℕ} 0 1 = cc in omega arith
-cut-none false reports = let z : _≡_ {A = ℕ} 0 1 = cc in omega arith
+cut-none true reports = never (cc)
+cut-none false reports = never (cc)
 
 report-there : (rules : Rules) (closed : Bool) (xs : List ℕ) → isReport (look rules closed xs) ≡ true → 1 ≤ length xs
 unfolding look behind afterHeader
@@ -200,8 +198,8 @@ pub record Body (header xs body : List ℕ) : Type 0 where
 
 cut-no-frame : (closed : Bool) (body : List ℕ) → cutShort closed ≡ accepted body → ⊥
 unfolding cutShort
-cut-no-frame true body is = let z : _≡_ {A = ℕ} 0 1 = cc in omega arith
-cut-no-frame false body is = let z : _≡_ {A = ℕ} 0 1 = cc in omega arith
+cut-no-frame true body is = never (cc)
+cut-no-frame false body is = never (cc)
 
 judged-body : (checking : Bool) (bytes body : List ℕ) → judged checking bytes ≡ accepted body → bytes ≡ body
 unfolding judged
@@ -209,7 +207,7 @@ judged-body checking bytes body is = go (rightCheck checking bytes) is
   where
     go : (b : Bool) → cond b (accepted bytes) (bad bytes) ≡ accepted body → bytes ≡ body
     go true is = cc
-    go false is = let z : _≡_ {A = ℕ} 0 1 = cc in absurd (omega arith)
+    go false is = never (cc)
 
 length-body-there : (checking closed : Bool) (xs body : List ℕ) → afterHeader checking closed xs ≡ accepted body → Body [] xs body
 unfolding afterHeader
@@ -218,7 +216,7 @@ length-body-there checking closed (l ∷ xs) body is = go (ltb l (leastLength ch
   where
     go : (a b : Bool) → ltb (length xs) l ≡ b → cond a pass (cond b (cutShort closed) (judged checking (take l xs))) ≡ accepted body
         → Body [] (l ∷ xs) body
-    go true b t is = let z : _≡_ {A = ℕ} 0 1 = cc in absurd (omega arith)
+    go true b t is = never (cc)
     go false true t is = absurd (cut-no-frame closed body is)
     go false false t is =
         let there : l ≤ length xs = ltb-false (length xs) l t in
@@ -239,7 +237,7 @@ accepted-there checking closed (h ∷ header) (x ∷ xs) body is = go (eqb x h) 
         let fits : length header + 1 + length body ≤ length xs = rest .whole in
         let next : suc (length header) + 1 ≡ suc (length header + 1) = omega arith in
         record { whole = omega arith; body-is = rw next (rest .body-is) }
-    go false ih is = let z : _≡_ {A = ℕ} 0 1 = cc in absurd (omega arith)
+    go false ih is = never (cc)
 
 -- an ask
 abbrev headed : Line → Kept → Seen → Reader
@@ -298,3 +296,55 @@ module _ (line : Line) (kept : Kept) (few : length (kept .bytes) ≤ 258) where
   }
   unfolding handed afterReport
   ask-carried = asked-as (look (rulesFor line) (kept .closed) (kept .bytes)) refl
+
+-- "After a quiet mark and its reports .. reading goes on as from a new panel": in a closed stretch no place waits
+never-waits-behind : (checking : Bool) (xs : List ℕ) → afterHeader checking true xs ≡ wait → ⊥
+unfolding afterHeader cutShort
+never-waits-behind checking [] is = never (cc)
+never-waits-behind checking (l ∷ xs) is = go (ltb l (leastLength checking)) (ltb (length xs) l) is
+  where
+    go : (a b : Bool) → cond a pass (cond b pass (judged checking (take l xs))) ≡ wait → ⊥
+    go true b is = never (cc)
+    go false true is = never (cc)
+    go false false is = judged-stays checking (take l xs) is
+
+never-waits : (checking : Bool) (header xs : List ℕ) → behind checking true header xs ≡ wait → ⊥
+unfolding behind cutShort
+never-waits checking [] xs is = never-waits-behind checking xs is
+never-waits checking (h ∷ header) [] is = never (cc)
+never-waits checking (h ∷ header) (x ∷ xs) is = go (eqb x h) (never-waits checking header xs) is
+  where
+    go : (b : Bool) → (behind checking true header xs ≡ wait → ⊥) → cond b (behind checking true header xs) pass ≡ wait → ⊥
+    go true ih is = ih is
+    go false ih is = never (cc)
+
+over-fresh : (rules : Rules) (xs : List ℕ) → waiting rules (settled rules true xs) ≡ false → settled rules true xs ≡ fresh
+unfolding settled waiting look stillClosed
+over-fresh rules xs none = go (drop (passes rules true xs) xs) (left-stays rules true xs) none
+  where
+    go : (left : List ℕ) → isPass (look rules (stillClosed true left) left) ≡ false → isReport (look rules (stillClosed true left) left) ≡ false
+        → record { closed = stillClosed true left; bytes = left } ≡ fresh
+    go [] stays none = refl
+    go (x ∷ left) stays none =
+        absurd (never-waits (rules .checking) (rules .header) (x ∷ left) (stands-waits (look rules true (x ∷ left)) stays none))
+
+report-settles : (line : Line) (kept : Kept) → kept .closed ≡ true → waiting (rulesFor line) kept ≡ true → afterReport (rulesFor line) kept
+    ≡ settled (rulesFor line) true (drop (suc (goneBy (rulesFor line) (look (rulesFor line) (kept .closed) (kept .bytes)))) (kept .bytes))
+unfolding afterReport waiting
+report-settles line kept closed waits =
+    rw waits
+    (ap (λ (c : Bool). settled (rulesFor line) c (drop (suc (goneBy (rulesFor line) (look (rulesFor line) (kept .closed) (kept .bytes)))) (kept .bytes))) closed)
+
+-- so once nothing waits behind a mark, or behind a report of a closed stretch, the reader equals a new one
+pub mark-over : (line : Line) (kept : Kept) → waiting (rulesFor line) (withMark (rulesFor line) kept) ≡ false
+    → readerOf line (withMark (rulesFor line) kept) ≡ readerOf line fresh
+unfolding withMark
+mark-over line kept none = ap (readerOf line) (over-fresh (rulesFor line) (kept .bytes) none)
+
+pub report-over : (line : Line) (kept : Kept) → kept .closed ≡ true → waiting (rulesFor line) kept ≡ true
+    → waiting (rulesFor line) (afterReport (rulesFor line) kept) ≡ false
+    → readerOf line (afterReport (rulesFor line) kept) ≡ readerOf line fresh
+report-over line kept closed waits none =
+    let behind-it : List ℕ = drop (suc (goneBy (rulesFor line) (look (rulesFor line) (kept .closed) (kept .bytes)))) (kept .bytes) in
+    let next : afterReport (rulesFor line) kept ≡ settled (rulesFor line) true behind-it = report-settles line kept closed waits in
+    ap (readerOf line) (next ∙ over-fresh (rulesFor line) behind-it (rw next at none))

@@ -1,8 +1,8 @@
 -- Laws of what the small functions answer.
-use mathlib.Core.Path.{_≡_, refl, sym, ap, _∙_}
-use mathlib.Core.Bool.{Bool, true, false, cond, not, _&&_}
-use mathlib.Core.List.{List, [], _∷_, _++_}
-use Prim.Native.Nat.{ℕ, suc, _+_, _-_, _≤_, _<_}
+use mathlib.Core.Path.{_≡_, sym, ap, _∙_}
+use mathlib.Core.Bool.{Bool, not, _&&_}
+use mathlib.Core.List.{List, [], _++_}
+use Prim.Native.Nat.{ℕ, _+_, _-_, _≤_, _<_}
 use native.Mathlib.Omega.{arith}
 use borrow.Author.Tests.{lt-ltb, le-ltb}
 use lib.Dec.{ltb}
@@ -10,11 +10,10 @@ use lib.ListN.{length, getD, take, drop, length-drop}
 use lib.Seq.{length-take-le}
 use Rattle.frame.specs.Frame.{checkLength, contentOf}
 use Rattle.place.specs.declared.Look.{Look}
-use Rattle.place.specs.declared.Look.the-variants.{Pass, Wait, Bad, Good}
-use Rattle.line.specs.declared.Report.{Report}
-use Rattle.line.specs.declared.Report.the-variants.{Accepted, BadCheck, Nothing}
+use Rattle.place.specs.declared.Look.the-variants.{Bad, Good}
+use Rattle.line.specs.declared.Report.the-variants.{Accepted, BadCheck}
 use Rattle.line.specs.State.{padded, decidedAt}
-use Rattle.line.specs.Methods.{isAnswer, takes, bodyLength, span, told}
+use Rattle.line.specs.Methods.{isAnswer, takes, span, told}
 use Rattle.line.proofs.Padding.{drop-take, laid-empty}
 
 pub taken-if : (n : ℕ) (head : Look) (r : Bool) → r ≡ isAnswer head → (ltb n 258 && not r) ≡ takes n head

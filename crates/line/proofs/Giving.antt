@@ -1,8 +1,8 @@
 -- Laws of giving a byte and a mark.
-use mathlib.Core.Path.{_≡_, refl, sym, ap, _∙_}
-use mathlib.Core.Bool.{Bool, true, false, cond, not, _&&_}
+use mathlib.Core.Path.{_≡_, sym, ap, _∙_}
+use mathlib.Core.Bool.{Bool, true, false, not}
 use mathlib.Core.List.{List, [], _∷_, _++_}
-use Prim.Native.Nat.{ℕ, suc, _+_, _-_, _≤_, _<_}
+use Prim.Native.Nat.{ℕ, _+_, _≤_, _<_}
 use native.Mathlib.Omega.{arith}
 use native.Mathlib.Numerals.{add-one}
 use mir.Val.{Fits}
@@ -21,10 +21,7 @@ use Rattle.line.specs.declared.Answer.the-variants.{Done, Waits}
 use Rattle.line.specs.declared.Given.{Given}
 use Rattle.line.specs.State.{rulesFor, padded, readerOf, settledReader}
 use Rattle.line.specs.Methods.{isAnswer, takes, busy, givenByte, givenMark}
-
-and-left : (a b : Bool) → (a && b) ≡ true → a ≡ true
-and-left true b is = refl
-and-left false b is = is
+use Rattle.line.proofs.Truths.{and-left}
 
 -- an input that is taken finds room
 module _ (n : ℕ) (head : Look) (r : Bool) (is : r ≡ takes n head) (free : r ≡ true) where

@@ -1,3 +1,4 @@
+pub mod Truths
 pub mod Padding
 pub mod Fronts
 pub mod Settling

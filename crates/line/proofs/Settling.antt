@@ -2,7 +2,7 @@
 use mathlib.Core.Path.{_≡_, refl, sym, ap, _∙_}
 use mathlib.Core.Bool.{Bool, true, false, cond, _&&_}
 use mathlib.Core.List.{List, [], _∷_, _++_, append-nil}
-use Prim.Native.Nat.{ℕ, zero, suc, _+_, _-_, _≤_, _<_}
+use Prim.Native.Nat.{ℕ, suc, _-_, _≤_}
 use native.Mathlib.Omega.{arith}
 use borrow.Author.Tests.{lt-ltb}
 use lib.Dec.{ltb}
@@ -11,9 +11,8 @@ use lib.Seq.{length-take-le, take-length}
 use Rattle.wire.proofs.Parts.{part-whole}
 use Rattle.reading.specs.Place.{Rules, look}
 use Rattle.reading.specs.Moves.{isPass, passes, stillClosed, settled}
-use Rattle.place.specs.declared.Look.{Look}
 use Rattle.place.specs.declared.Stop.{Stop}
-use Rattle.place.specs.Looks.{shown, stopOf}
+use Rattle.place.specs.Looks.{stopOf}
 use Rattle.line.specs.declared.Line.{Line}
 use Rattle.line.specs.declared.Reader.{Reader}
 use Rattle.line.specs.declared.Rest.{Rest}

@@ -1,11 +1,10 @@
 -- Laws of taking one byte behind those that are held.
-use mathlib.Core.Path.{_≡_, refl, sym, ap, _∙_}
-use mathlib.Core.Bool.{Bool, false}
+use mathlib.Core.Path.{_≡_, sym, ap, _∙_}
 use mathlib.Core.List.{List, [], _∷_, _++_}
-use Prim.Native.Nat.{ℕ, suc, _+_, _-_, _≤_, _<_}
+use Prim.Native.Nat.{ℕ, _+_, _≤_, _<_}
 use native.Mathlib.Omega.{arith}
 use native.Mathlib.Numerals.{add-one}
-use lib.ListN.{length, take, drop, set, length-set, length-drop}
+use lib.ListN.{length, take, set, length-set, length-drop}
 use lib.Seq.{take-suc-set, length-take-le}
 use Rattle.frame.specs.Frame.{headerBytes}
 use Rattle.reading.specs.Moves.{settled}

@@ -5,7 +5,7 @@ use mathlib.Core.List.{List, [], _∷_}
 use lib.Dec.{eqb, ltb}
 use lib.ListN.{length, getD, take, drop}
 use Rattle.frame.specs.Frame.{headerBytes, contentOf}
-use Rattle.reading.specs.Moves.{Kept, withByte, withMark}
+use Rattle.reading.specs.Moves.{withByte, withMark}
 use Rattle.place.specs.declared.Look.{Look}
 use Rattle.place.specs.declared.Look.the-variants.{Pass, Wait, Bad, Good}
 use Rattle.line.specs.declared.Reader.{Reader}

@@ -1,7 +1,7 @@
 -- The readers that are reached from a new one, and what a report of the reading looks like as the reader hands it over.
 use Prim.Native.Nat.{ℕ, _≤_}
 use mathlib.Core.Path.{_≡_}
-use mathlib.Core.Bool.{Bool, false}
+use mathlib.Core.Bool.{false}
 use mathlib.Core.List.{List, [], _∷_}
 use lib.ListN.{length}
 use Rattle.wire.specs.Bytes.{Bytes}

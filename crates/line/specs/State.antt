@@ -1,8 +1,8 @@
 -- The reader as a value, against what crate reading says a reader keeps between inputs.
-use Prim.Native.Nat.{ℕ, _+_, _-_}
+use Prim.Native.Nat.{ℕ, suc, _+_, _-_}
 use mathlib.Core.Bool.{Bool, false, cond}
-use mathlib.Core.List.{List, _++_}
-use lib.Dec.{ltb}
+use mathlib.Core.List.{List, [], _∷_, _++_}
+use lib.Dec.{eqb, ltb}
 use lib.ListN.{length, getD, take, replicate}
 use Rattle.frame.specs.Frame.{headerBytes}
 use Rattle.reading.specs.Place.{Rules, look}
@@ -62,3 +62,8 @@ stepOf line xs =
       head = settledReader line false xs .head;
       need = decidedAt (headerBytes (line .header)) (leftOf line xs);
     }
+
+-- how many bytes at the front are not the first header byte: with nothing held, each is passed over as it comes
+unfoldable pub noiseLength : ℕ → List ℕ → ℕ
+noiseLength h1 [] = 0
+noiseLength h1 (x ∷ xs) = cond (eqb x h1) 0 (suc (noiseLength h1 xs))

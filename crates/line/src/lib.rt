@@ -8,7 +8,7 @@ ghost use Prim.Native.Nat.{_+_, _-_, _≤_, _<_};
 ghost use lib.ListN.{length, take, drop};
 ghost use Rattle.frame.specs.Frame.{headerBytes, contentOf};
 ghost use Rattle.reading.specs.Moves.{fresh};
-ghost use Rattle.line.specs.State.{padded, readerOf, opened, settledReader, leftOf, restOf, stepOf, decidedAt};
+ghost use Rattle.line.specs.State.{padded, readerOf, opened, settledReader, leftOf, restOf, stepOf, decidedAt, noiseLength};
 ghost use Rattle.place.specs.declared.Look.the-variants.{Wait};
 ghost use Rattle.line.specs.Methods.{isAnswer, takes, busy, bodyLength, span, told, givenByte, givenMark, gave, givenBytes, asked};
 
@@ -219,6 +219,20 @@ fn take_block(held: &mut [u8], n: usize, need: usize, bytes: &[u8]) -> usize
     k
 }
 
+// How many bytes at the front are not the first header byte.
+fn noise_length(h1: u8, bytes: &[u8]) -> usize
+    ensures { λ r. ⌜ r ≡ noiseLength h1 (now (bytes .entry)) ⌝ }
+{
+    let mut k = 0;
+    while k < bytes.len() {
+        if bytes[k] == h1 {
+            return k;
+        }
+        k += 1;
+    }
+    k
+}
+
 // Gives bytes to a reader that takes them, in place: a byte that nothing waits for is skipped, a block that decides nothing is copied.
 fn feed(line: Line, held: &mut [u8], count: usize, bytes: &[u8]) -> Fed
     requires { ⌜ (count ≤ 258) × (length (now held) ≡ 258) × (now held ≡ padded 258 (take count (now held))) ⌝ }
@@ -239,7 +253,7 @@ fn feed(line: Line, held: &mut [u8], count: usize, bytes: &[u8]) -> Fed
             let b = bytes[i];
             if (n == 0) & (b != line.header.h1) {
                 head = Look::Wait;
-                i += 1;
+                i += noise_length(line.header.h1, &bytes[i..]);
             } else {
                 let step = take_byte(line, held, n, b);
                 head = step.head;

@@ -1,7 +1,7 @@
 -- Laws of where going on from place to place stops.
 use mathlib.Core.Path.{_≡_, refl, sym, ap, _∙_}
-use mathlib.Core.Bool.{Bool, true, false, cond}
-use mathlib.Core.List.{List, [], _∷_, _++_}
+use mathlib.Core.Bool.{Bool, true, false}
+use mathlib.Core.List.{List, [], _∷_}
 use Prim.Native.Nat.{ℕ, suc, _+_, _-_, _≤_, _<_}
 use native.Mathlib.Omega.{arith}
 use native.Mathlib.Numerals.{add-one}
@@ -11,7 +11,7 @@ use Rattle.wire.proofs.Parts.{part-whole}
 use Rattle.reading.specs.Place.{Rules, Seen, pass, wait, bad, accepted, cutShort, afterHeader, behind, look}
 use Rattle.reading.specs.Moves.{isPass, passes, stillClosed}
 use Rattle.place.specs.declared.Look.{Look}
-use Rattle.place.specs.declared.Look.the-variants.{Pass, Wait, Bad, Good}
+use Rattle.place.specs.declared.Look.the-variants.{Wait}
 use Rattle.place.specs.declared.Stop.{Stop}
 use Rattle.place.specs.Looks.{shown, passesOver, stopOf}
 

@@ -1,7 +1,7 @@
 -- What the code answers of a place, against `look` of crate reading.
 use Prim.Native.Nat.{ℕ}
 use mathlib.Core.Bool.{Bool, true, false}
-use mathlib.Core.List.{List, [], _∷_}
+use mathlib.Core.List.{List}
 use lib.ListN.{length, getD, drop}
 use Rattle.frame.specs.Frame.{headerBytes}
 use Rattle.frame.specs.declared.Header.{Header}

@@ -1,6 +1,7 @@
 -- `line::feed` meets its contract. The loop's invariant: what the whole call gives is what is still to be given from here; and below the
 -- length `need` the bytes held decide nothing.
-use Prim.Native.Nat.{_-_, _≤_}
+use Prim.Native.Nat.{_+_, _-_, _≤_}
+use native.Mathlib.Omega.{arith}
 use mathlib.Core.Path.{_≡_}
 use borrow.Author.Needs.{needs}
 use lib.ListN.{length, take, drop}
@@ -8,14 +9,9 @@ use Rattle.place.specs.declared.Look.the-variants.{Wait}
 use Rattle.line.specs.State.{rulesFor, padded, opened}
 use Rattle.line.specs.Methods.{plus, givenBytes}
 use Rattle.line.proofs.Blindness.{Blind, blind-nothing}
-use Rattle.line.proofs.Feeding.{more-left, room-left, turn-inside, turn-less, some-left, fed-start, fed-noise, fed-byte, step-front, step-blind, block-front, block-blind, block-inside, block-less, fed-block, all-fed}
+use Rattle.line.proofs.Feeding.{more-left, room-left, turn-inside, turn-less, some-left, fed-start, noise-inside, noise-less, fed-noise, fed-byte, step-front, step-blind, block-front, block-blind, block-inside, block-less, fed-block, all-fed}
 use Rattle.line.proofs.feed.Statement.{statement}
 use Rattle.line.proofs.feed.Tie as tie
-use Rattle.line.proofs.feed.Reads as reads
-use Rattle.line.proofs.feed.Lts as lts
-use Rattle.line.proofs.can_take.Reads as can-take-reads
-use Rattle.line.proofs.take_block.Reads as take-block-reads
-use Rattle.line.proofs.take_byte.Reads as take-byte-reads
 
 abbrev Inv-loop : tie.InvT-loop
 Inv-loop line held₀ count bytes n₀ head₀ need₀ i₀ held n head need i =
@@ -26,47 +22,36 @@ Inv-loop line held₀ count bytes n₀ head₀ need₀ i₀ held n head need i =
 abbrev μ-loop : tie.MeasureT-loop
 μ-loop line held₀ count bytes n₀ head₀ need₀ i₀ held n head need i = length bytes - i
 
--- src/lib.rt:232:5
 loop-holds : tie.Need-loop-holds Inv-loop μ-loop
 loop-holds c = (search needs, search needs, search needs, search needs, search needs, search blind-nothing, search fed-start)
 
--- src/lib.rt:232:31
 can-take-requires : tie.Need-can-take-requires Inv-loop μ-loop
 can-take-requires c κs = search needs
 
--- src/lib.rt:233:12
 add-if2 : tie.Need-add-if2 Inv-loop μ-loop
 add-if2 c = search needs
 
--- src/lib.rt:234:47
 sub-take-block : tie.Need-sub-take-block Inv-loop μ-loop
 sub-take-block c = search needs
 
--- src/lib.rt:234:47
 part-take-block-start : tie.Need-part-take-block-start Inv-loop μ-loop
 part-take-block-start c = search needs
 
--- src/lib.rt:234:47
 part-take-block-end : tie.Need-part-take-block-end Inv-loop μ-loop
 part-take-block-end c = search needs
 
--- src/lib.rt:234:17
 take-block-requires : tie.Need-take-block-requires Inv-loop μ-loop
 take-block-requires c κs = (search needs, search needs, search some-left, search needs, search needs)
 
--- src/lib.rt:236:13
 add-n : tie.Need-add-n Inv-loop μ-loop
 add-n c = search needs
 
--- src/lib.rt:237:13
 add-i : tie.Need-add-i Inv-loop μ-loop
 add-i c = search needs
 
--- src/lib.rt:232:5
 loop-less : tie.Need-loop-less Inv-loop μ-loop
 loop-less c = search block-less
 
--- src/lib.rt:232:5
 loop-again : tie.Need-loop-again Inv-loop μ-loop
 loop-again c =
     let a = c .before .before .before .before .before .before .before .before .before .before .before .args in
@@ -85,43 +70,49 @@ loop-again c =
           (c .before .before .before .before .before .before .before .can-take .ensures) (inv .5) (inv .6),
     )
 
--- src/lib.rt:239:21
 shared-slice-read-b : tie.Need-shared-slice-read-b Inv-loop μ-loop
 shared-slice-read-b c = search more-left
 
--- src/lib.rt:242:17
+sub-noise-length : tie.Need-sub-noise-length Inv-loop μ-loop
+sub-noise-length c = search needs
+
+part-noise-length-start : tie.Need-part-noise-length-start Inv-loop μ-loop
+part-noise-length-start c = search needs
+
+part-noise-length-end : tie.Need-part-noise-length-end Inv-loop μ-loop
+part-noise-length-end c = search needs
+
+noise-length-requires : tie.Need-noise-length-requires Inv-loop μ-loop
+noise-length-requires c κs = search needs
+
 add-i-2 : tie.Need-add-i-2 Inv-loop μ-loop
-add-i-2 c = search needs
+add-i-2 c =
+    let a = c .before .before .before .before .before .before .before .before .before .before .before .args in
+    let at = c .before .before .before .before .before .before .before .before .loop in
+    let inside : at .i + c .noise-length .result ≤ length (a .bytes .now) = search noise-inside in
+    omega arith
 
--- src/lib.rt:232:5
 loop-less-2 : tie.Need-loop-less-2 Inv-loop μ-loop
-loop-less-2 c = search turn-less
+loop-less-2 c = search noise-less
 
--- src/lib.rt:232:5
 loop-again-2 : tie.Need-loop-again-2 Inv-loop μ-loop
-loop-again-2 c = (search turn-inside, search needs, search needs, search needs, search needs, search needs, search fed-noise)
+loop-again-2 c = (search noise-inside, search needs, search needs, search needs, search needs, search needs, search fed-noise)
 
--- src/lib.rt:244:21
 take-byte-requires : tie.Need-take-byte-requires Inv-loop μ-loop
 take-byte-requires c κs = (search room-left, search needs, search needs)
 
--- src/lib.rt:248:17
 add-i-3 : tie.Need-add-i-3 Inv-loop μ-loop
 add-i-3 c = search needs
 
--- src/lib.rt:232:5
 loop-less-3 : tie.Need-loop-less-3 Inv-loop μ-loop
 loop-less-3 c = search turn-less
 
--- src/lib.rt:232:5
 loop-again-3 : tie.Need-loop-again-3 Inv-loop μ-loop
 loop-again-3 c = (search turn-inside, search needs, search needs, search needs, search step-front, search step-blind, search fed-byte)
 
--- src/lib.rt:223:1
 same-length : tie.Need-same-length Inv-loop μ-loop
 same-length c = search needs
 
--- src/lib.rt:223:1
 returns : tie.Need-returns Inv-loop μ-loop
 returns c = search all-fed
 
@@ -143,6 +134,10 @@ feed-spec =
     loop-less
     loop-again
     shared-slice-read-b
+    sub-noise-length
+    part-noise-length-start
+    part-noise-length-end
+    noise-length-requires
     add-i-2
     loop-less-2
     loop-again-2

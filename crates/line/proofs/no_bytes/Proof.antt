@@ -3,10 +3,7 @@ use mathlib.Core.Path.{refl}
 use Rattle.line.specs.State.{padded}
 use Rattle.line.proofs.no_bytes.Statement.{statement}
 use Rattle.line.proofs.no_bytes.Tie as tie
-use Rattle.line.proofs.no_bytes.Reads as reads
-use Rattle.line.proofs.no_bytes.Lts as lts
 
--- src/lib.rt:139:1
 returns : tie.Need-returns
 unfolding padded
 returns c = refl

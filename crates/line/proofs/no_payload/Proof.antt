@@ -3,10 +3,7 @@ use mathlib.Core.Path.{refl}
 use Rattle.line.specs.State.{padded}
 use Rattle.line.proofs.no_payload.Statement.{statement}
 use Rattle.line.proofs.no_payload.Tie as tie
-use Rattle.line.proofs.no_payload.Reads as reads
-use Rattle.line.proofs.no_payload.Lts as lts
 
--- src/lib.rt:146:1
 returns : tie.Need-returns
 unfolding padded
 returns c = refl
