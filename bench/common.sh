@@ -20,7 +20,7 @@ bench_build() {
         objects="$objects $object"
     done
     # shellcheck disable=SC2086
-    "$kit/on/$machine/bin/rattle-link" --target x86_64-unknown-linux-gnu --toolchain "$tools" -o "$out/$name" $objects "target/staticlib/lib$library.a" >>"$out/$name.log"
+    "$kit/on/$machine/bin/rattle-link" --target x86_64-unknown-linux-gnu --toolchain "$tools" -o "$out/$name" $objects "target/staticlib/lib$library.a" >>"$out/$name.log" 2>&1
 }
 
 bench_run() {
