@@ -28,6 +28,8 @@ use Rattle.panel.proofs.Panel.buzzer.Reads as buzzer
 use Rattle.panel.proofs.Panel.buzzer.Kinds as buzzer-kinds
 use Rattle.panel.proofs.Panel.lift.Reads as lift
 use Rattle.panel.proofs.Panel.lift.Kinds as lift-kinds
+use Rattle.panel.proofs.Panel.is_waiting.Reads as is-waiting
+use Rattle.panel.proofs.Panel.is_waiting.Kinds as is-waiting-kinds
 
 pub report-determined :
     OneAnswerLeft 2 report-kinds.ps report-kinds.r report.Post {B = List ℕ × List ℕ} (λ κs s. (now (s .1 .0), now (s .1 .1 .0)))
@@ -63,3 +65,6 @@ buzzer-determined κs a x y s t p q = p ∙ sym q
 
 pub lift-determined : OneAnswer 0 lift-kinds.ps lift-kinds.r lift.Post
 lift-determined κs a x y s t p q = p ∙ sym q
+
+pub is-waiting-determined : OneAnswer 0 is-waiting-kinds.ps is-waiting-kinds.r is-waiting.Post
+is-waiting-determined κs a x y s t p q = p ∙ sym q

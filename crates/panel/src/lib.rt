@@ -3,7 +3,7 @@ ghost use mathlib.Core.Path.{_≡_};
 ghost use mathlib.Core.List.{[]};
 ghost use Prim.Native.Nat.{min};
 ghost use Rattle.line.specs.State.{padded};
-ghost use Rattle.line.specs.Methods.{asked};
+ghost use Rattle.line.specs.Methods.{busy, asked};
 ghost use Rattle.registers.specs.Touched.{pageOf};
 ghost use Rattle.touch.specs.Judge.{judged};
 ghost use Rattle.wire.specs.Room.{lays};
@@ -233,6 +233,14 @@ impl Panel {
                 ..self
             },
         }
+    }
+
+    // Whether a report waits, so that inputs are refused.
+    pub fn is_waiting(self) -> bool
+        ensures { λ r. ⌜ r ≡ busy (self .reader) ⌝ }
+    {
+        let reader = self.reader;
+        reader.is_waiting()
     }
 
     // ---- What the display board reads
