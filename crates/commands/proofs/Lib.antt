@@ -4,3 +4,6 @@ pub mod Replies
 pub mod Reading
 pub mod Performing
 pub mod Determined
+pub mod Refusals
+pub mod DoneWrites
+pub mod Named
