@@ -7,3 +7,5 @@ pub mod Determined
 pub mod Refusals
 pub mod DoneWrites
 pub mod Named
+pub mod ReadBack
+pub mod ExampleF
