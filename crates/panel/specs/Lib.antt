@@ -4,3 +4,4 @@ pub mod Start
 pub mod Inputs
 pub mod Reporting
 pub mod Contacts
+pub mod Sound
