@@ -6,3 +6,4 @@ pub mod Ways
 pub mod Refusals
 pub mod Named
 pub mod Soundness
+pub mod Invariant

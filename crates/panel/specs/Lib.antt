@@ -5,3 +5,4 @@ pub mod Inputs
 pub mod Reporting
 pub mod Contacts
 pub mod Sound
+pub mod Reachable
