@@ -7,3 +7,4 @@ pub mod Refusals
 pub mod Named
 pub mod Soundness
 pub mod Invariant
+pub mod ExampleF
