@@ -10,6 +10,7 @@ use lib.ListN.{length, drop}
 use Rattle.wire.specs.ByteOrder.{byteAt, wordAt}
 use Rattle.registers.specs.Table.{registerCount}
 use Rattle.registers.specs.Run.{unwritableRun, wrongValue}
+use Rattle.registers.proofs.Allowed.{neither}
 use Rattle.words.specs.Words.{wordsOf}
 use Rattle.commands.specs.declared.Outcome.the-variants.{Done, WrongData, PastEnd, Unwritable, WrongValue}
 use Rattle.commands.specs.Outcome.{writeRegistersOutcome, writeWordsOutcome}
@@ -45,10 +46,6 @@ pub record WordsPassed (end : ℕ) (content : List ℕ) : Type 0 where
   pub long : 4 ≤ length content
   pub even : length content % 2 ≡ 0
   pub fits : wordAt content 0 + length (wordsOf (drop 2 content)) ≤ end
-
-neither : (a b : Bool) → (a || b) ≡ false → (a ≡ false) × (b ≡ false)
-neither true b is = absurd (let z : _≡_ {A = ℕ} 0 1 = cc in omega arith)
-neither false b is = (refl, is)
 
 not-odd : (n : ℕ) → (n % 2 ≡ 1 → ⊥) → n % 2 ≡ 0
 not-odd n not = go (eqb (n % 2) 0) refl

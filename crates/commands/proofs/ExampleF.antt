@@ -1,13 +1,12 @@
 -- 01, "Proved examples": "f. Checking off, 5A A5 05 82 00 10 01 F4: word 0010 becomes 500."
-use mathlib.Core.Path.{_≡_, refl, ap, _∙_}
+use mathlib.Core.Path.{_≡_, refl}
 use mathlib.Core.Bool.{true, false}
 use mathlib.Core.List.{List, [], _∷_}
-use Prim.Native.Nat.{ℕ, _+_, _≤_, _<_}
+use Prim.Native.Nat.{ℕ, _<_}
 use native.Mathlib.Omega.{arith}
 use borrow.Author.Tests.{le-ltb}
-use lib.ListN.{length, getD}
+use lib.ListN.{length}
 use Rattle.wire.proofs.LaidAt.{laid-inside}
-use Rattle.wire.specs.Room.{laidAt}
 use borrow.Author.Tests.{le-leb}
 use Rattle.registers.specs.declared.Registers.{Registers}
 use Rattle.words.specs.Words.{wordAtAddress, wordsOf, wordsWritten}

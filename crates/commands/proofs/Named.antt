@@ -15,7 +15,7 @@ use Rattle.registers.proofs.Written.{others-stay}
 use Rattle.words.specs.Words.{wordAtAddress, wordsOf, wordsWritten}
 use Rattle.words.proofs.Written.{other-words-stay}
 use Rattle.commands.specs.Outcome.{writeRegistersOutcome, writeWordsOutcome}
-use Rattle.commands.specs.Effect.{isDone, registersWritten, wordsWriting, registersReplying, wordsReplying}
+use Rattle.commands.specs.Effect.{isDone, registersWritten, wordsWriting}
 use Rattle.commands.specs.Perform.{Performance, performance}
 use Rattle.commands.proofs.DoneWrites.{registers-passed, words-passed}
 

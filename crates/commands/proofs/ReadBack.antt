@@ -1,8 +1,8 @@
 -- What 0x80 wrote 0x81 reads back, and what 0x82 wrote 0x83.
-use mathlib.Core.Path.{_≡_, refl, ap, _∙_}
-use mathlib.Core.Bool.{Bool, true, false, cond}
+use mathlib.Core.Path.{_≡_, refl}
+use mathlib.Core.Bool.{Bool, true}
 use mathlib.Core.List.{List, [], _∷_}
-use Prim.Native.Nat.{ℕ, _+_, _%_, _≤_, _<_}
+use Prim.Native.Nat.{ℕ, _+_, _%_, _<_}
 use native.Mathlib.Omega.{arith}
 use lib.ListN.{length, drop, length-drop}
 use lib.Seq.{getD-drop}
@@ -10,9 +10,8 @@ use Rattle.wire.specs.Bytes.{Bytes}
 use Rattle.wire.specs.ByteOrder.{byteAt, wordAt, word, highByte, lowByte}
 use Rattle.frame.specs.Writer.{frameLaid}
 use Rattle.registers.specs.declared.Registers.{Registers}
-use Rattle.registers.specs.Run.{written}
 use Rattle.registers.proofs.Written.{written-reads-back}
-use Rattle.words.specs.Words.{wordsOf, bytesOf, wordsWritten}
+use Rattle.words.specs.Words.{wordsOf}
 use Rattle.words.proofs.Written.{words-read-back}
 use Rattle.words.proofs.Carried.{bytesOf-wordsOf}
 use Rattle.commands.specs.declared.Outcome.{Outcome}

@@ -3,7 +3,7 @@
 use mathlib.Core.Path.{_≡_, refl, sym, ap}
 use mathlib.Core.Bool.{Bool, true, false, cond}
 use mathlib.Core.List.{List}
-use Prim.Native.Nat.{ℕ, _<_}
+use Prim.Native.Nat.{ℕ, _≤_, _<_}
 use native.Mathlib.Omega.{arith}
 use lib.Dec.{eqb}
 use lib.ListN.{length}
@@ -27,6 +27,17 @@ number-refuses PastEnd above = refl
 number-refuses Unwritable above = refl
 number-refuses WrongValue above = refl
 number-refuses ReplyTooLong above = refl
+
+-- "Numbers 2 to 7 are answers beside a frame's report"
+pub number-at-most-7 : (o : Outcome) → numberOf o ≤ 7
+unfolding numberOf
+number-at-most-7 Done = omega arith
+number-at-most-7 UnknownCommand = omega arith
+number-at-most-7 WrongData = omega arith
+number-at-most-7 PastEnd = omega arith
+number-at-most-7 Unwritable = omega arith
+number-at-most-7 WrongValue = omega arith
+number-at-most-7 ReplyTooLong = omega arith
 
 module _ (registers : Registers) (pages : ℕ) (checking : Bool) (header content words room : List ℕ) where
   -- by command: 0x80, 0x81, 0x82, 0x83 or another

@@ -1,9 +1,9 @@
 -- Demand 2: "No word or register changes but those the .. touch rule names."
-use mathlib.Core.Path.{_≡_, refl, sym, ap, _∙_}
+use mathlib.Core.Path.{_≡_, refl, _∙_}
 use mathlib.Core.Logic.{_⊎_, _≢_, inl, inr, ⊎-elim}
 use mathlib.Core.Bool.{Bool, true, false, cond}
 use mathlib.Core.List.{List}
-use Prim.Native.Nat.{ℕ, _+_, _≤_, _<_}
+use Prim.Native.Nat.{ℕ, _≤_, _<_}
 use native.Mathlib.Omega.{arith}
 use borrow.Author.Tests.{eqb-true, eqb-false}
 use lib.Dec.{eqb}
@@ -11,9 +11,9 @@ use lib.ListN.{length}
 use Rattle.registers.specs.declared.Registers.{Registers}
 use Rattle.registers.specs.Table.{registerAt}
 use Rattle.registers.specs.Touched.{pageOf, withPage, isDown, withStatus, withPlace}
-use Rattle.registers.proofs.Touched.{length-withStatus, status-now, status-only, length-withPage, page-only, length-withPlace, place-only}
+use Rattle.registers.proofs.Touched.{length-withStatus, status-now, status-only, page-only, length-withPlace, place-only}
 use Rattle.words.specs.Words.{wordAtAddress, wordSet}
-use Rattle.words.proofs.OneWord.{other-word-stays, length-wordSet}
+use Rattle.words.proofs.OneWord.{other-word-stays}
 use Rattle.touch.specs.declared.Record.{Record}
 use Rattle.touch.specs.declared.Found.{Found}
 use Rattle.touch.specs.declared.Found.the-variants.{Nothing, At}
@@ -23,7 +23,7 @@ use Rattle.touch.specs.Act.{actedOf, draggedOf}
 use Rattle.contact.specs.declared.Catch.{Catch}
 use Rattle.contact.specs.declared.Catch.the-variants.{Free, Caught}
 use Rattle.contact.specs.declared.Pad.{Pad}
-use Rattle.contact.specs.Contact.{padOf, Touching, showing, catching, acting, pressed, dragging, kept, touched, lifted}
+use Rattle.contact.specs.Contact.{padOf, showing, catching, acting, pressed, dragging, kept, touched, lifted}
 
 -- the word that a touch names: that of the record which acts, or of the caught one
 pub data NamesWord (pad : Pad) (table : List ℕ) (x y k : ℕ) : Type 0 where

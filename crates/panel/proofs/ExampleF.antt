@@ -1,6 +1,6 @@
 -- 01, "Proved examples": "f. Checking off, 5A A5 05 82 00 10 01 F4: word 0010 becomes 500."
-use mathlib.Core.Path.{_≡_, refl, sym, ap, _∙_}
-use mathlib.Core.Bool.{Bool, true, false}
+use mathlib.Core.Path.{_≡_, refl}
+use mathlib.Core.Bool.{true}
 use mathlib.Core.List.{List, [], _∷_}
 use Prim.Native.Nat.{ℕ, _≤_, _<_}
 use native.Mathlib.Omega.{arith}
@@ -11,17 +11,14 @@ use Rattle.frame.specs.Writer.{leastRoom}
 use Rattle.reading.specs.Place.{look, behind, afterHeader, judged, cutShort}
 use Rattle.reading.specs.Moves.{isPass, passes, stillClosed, settled, withByte}
 use Rattle.line.specs.declared.Asked.{Asked}
-use Rattle.line.specs.declared.Report.{Report}
 use Rattle.line.specs.declared.Report.the-variants as line
 use Rattle.line.specs.State.{padded}
 use Rattle.line.specs.Methods.{givenByte, givenBytes, asked}
 use Rattle.words.specs.Words.{wordCount, wordAtAddress}
-use Rattle.commands.specs.Perform.{performance}
 use Rattle.commands.proofs.ExampleF.{exampleData, example-f}
 use Rattle.touch.specs.declared.Setup.{Setup}
-use Rattle.touch.specs.Setup.{checkingOf}
 use Rattle.panel.specs.declared.Panel.{Panel}
-use Rattle.panel.specs.State.{headerOf, answering}
+use Rattle.panel.specs.State.{headerOf}
 use Rattle.panel.specs.Start.{newPanel}
 use Rattle.panel.specs.Inputs.{fedBytes}
 use Rattle.panel.specs.Reporting.{lent, acknowledged, accepting, handing, reporting}

@@ -7,19 +7,15 @@ use Prim.Native.Nat.{ℕ, _≤_, _<_}
 use lib.ListN.{length, take, drop}
 use Rattle.line.specs.declared.Report.the-variants as line
 use Rattle.line.specs.Methods.{asked}
-use Rattle.registers.specs.Table.{registerAt}
 use Rattle.words.specs.Words.{wordAtAddress}
-use Rattle.commands.specs.Perform.{performance}
 use Rattle.commands.proofs.Named as Command
 use Rattle.touch.specs.Setup.{checkingOf}
-use Rattle.contact.specs.Contact.{touched}
 use Rattle.contact.proofs.Named as Touch
 use Rattle.panel.specs.declared.Panel.{Panel}
-use Rattle.panel.specs.declared.Lifted.{Lifted}
 use Rattle.panel.specs.State.{headerOf, padOf, panelRegister}
 use Rattle.panel.specs.Inputs.{fedByte, fedMark, fedBytes}
-use Rattle.panel.specs.Reporting.{acknowledged, accepting, Reporting, handing, reporting}
-use Rattle.panel.specs.Contacts.{Contacting, contacting, lifting}
+use Rattle.panel.specs.Reporting.{acknowledged, accepting, handing, reporting}
+use Rattle.panel.specs.Contacts.{contacting, lifting}
 use Rattle.panel.proofs.Ways.{contact-ways, lift-ways, report-ways}
 
 -- the frame that is handed over names the word or the register

@@ -1,50 +1,37 @@
 -- Demand 1: "A refused command is still handed over and acknowledged as printed; beyond that a refusal leaves the panel, the variable words and the
 -- reply room as they stood."
-use mathlib.Core.Path.{_≡_, refl, sym, ap, _∙_}
+use mathlib.Core.Path.{_≡_, refl, ap}
 use mathlib.Core.Bool.{Bool, true, false, cond, not}
-use mathlib.Core.List.{List, [], _∷_, _++_}
-use Prim.Native.Nat.{ℕ, _≤_, _<_}
+use mathlib.Core.List.{List, [], _∷_}
+use Prim.Native.Nat.{ℕ, _<_}
 use native.Mathlib.Omega.{arith}
-use lib.Dec.{eqb}
 use lib.ListN.{length, take, drop, take-append-drop}
-use Rattle.wire.specs.Room.{Laid}
 use Rattle.line.specs.declared.Reader.{Reader}
 use Rattle.line.specs.declared.Given.{Given}
 use Rattle.line.specs.declared.Answer.{Answer}
 use Rattle.line.specs.declared.Answer.the-variants as line-answer
-use Rattle.line.specs.declared.Report.{Report}
 use Rattle.line.specs.declared.Report.the-variants as line
 use Rattle.line.specs.declared.Asked.{Asked}
 use Rattle.line.specs.State.{padded}
 use Rattle.line.specs.Methods.{busy, givenByte, givenMark, givenBytes, asked}
-use Rattle.registers.specs.declared.Registers.{Registers}
-use Rattle.registers.specs.Touched.{isDown, isTouchOff}
-use Rattle.words.specs.Words.{wordCount}
 use Rattle.commands.specs.declared.Outcome.{Outcome}
 use Rattle.commands.specs.Outcome as Outcome
 use Rattle.commands.specs.Outcome.{outcome}
-use Rattle.commands.specs.Effect.{isDone}
-use Rattle.commands.specs.Perform.{Performance, performs, besideReply, noReply, performance}
 use Rattle.commands.proofs.Performing.{performs-outcome}
-use Rattle.commands.proofs.Refusals.{number-refuses, refusal-changes-nothing}
+use Rattle.commands.proofs.Refusals.{number-refuses, number-at-most-7, refusal-changes-nothing}
 use Rattle.touch.specs.declared.Setup.{Setup}
 use Rattle.touch.specs.declared.Verdict.{Verdict}
 use Rattle.touch.specs.declared.Verdict.the-variants.{Good, NotRecords, Wrong}
 use Rattle.touch.specs.Setup.{checkingOf, goodSetup}
 use Rattle.touch.specs.Judge.{judged}
-use Rattle.contact.specs.Contact.{lifted}
 use Rattle.panel.specs.declared.Panel.{Panel}
-use Rattle.panel.specs.declared.Start.{Start}
 use Rattle.panel.specs.declared.StartAnswer.the-variants as start
-use Rattle.panel.specs.declared.Lifted.{Lifted}
 use Rattle.panel.specs.declared.Handed.the-variants as handed
-use Rattle.panel.specs.declared.ContactAnswer.the-variants as contact
-use Rattle.panel.specs.declared.LiftAnswer.the-variants as lift
-use Rattle.panel.specs.State.{headerOf, padOf, withPad, withReader}
+use Rattle.panel.specs.State.{headerOf, withReader}
 use Rattle.panel.specs.Numbers.{startNumber, reportNumber, contactNumber, liftNumber}
 use Rattle.panel.specs.Start.{noPanel, refuses, startJudged, started}
 use Rattle.panel.specs.Inputs.{fedByte, fedMark, fedBytes}
-use Rattle.panel.specs.Reporting.{lent, acknowledged, Effects, effects, accepting, Reporting, reports, handing, reporting}
+use Rattle.panel.specs.Reporting.{lent, acknowledged, accepting, Reporting, reports, handing, reporting}
 use Rattle.panel.specs.Contacts.{contacts, contacting, lifting}
 use Rattle.panel.proofs.Ways.{contact-ways, lift-ways, report-ways}
 
@@ -179,9 +166,24 @@ refused-report-only-handed panel words room =
         → RefusedReport panel words room (handing (asked (panel .reader)) (line.BadCheck command) panel words room)
     bad-has-none command above = absurd (bad-number panel words room command above)
 
+-- what stands as it stood
+abbrev pub AsItStood : Panel → List ℕ → List ℕ → Reporting → Type 0
+AsItStood panel words room after = (after .reported .panel ≡ panel) × ((after .words ≡ words) × (after .room ≡ room))
+
 -- "'Nothing' changes nothing, the reply room included."
 pub nothing-changes-nothing : (panel : Panel) (words room : List ℕ) → asked (panel .reader) .report ≡ line.Nothing
-    → (reporting panel words room .reported .panel ≡ panel) × ((reporting panel words room .words ≡ words) × (reporting panel words room .room ≡ room))
+    → AsItStood panel words room (reporting panel words room)
 nothing-changes-nothing panel words room none =
-    report-ways panel words room (λ r. (r .reported .panel ≡ panel) × ((r .words ≡ words) × (r .room ≡ room))) (λ h payload. (refl, (refl, refl)))
+    report-ways panel words room (λ r. AsItStood panel words room r) (λ h payload. (refl, (refl, refl)))
     (λ command is. absurd (let z : _≡_ {A = ℕ} 0 1 = cc in omega arith)) (λ command count is. absurd (let z : _≡_ {A = ℕ} 0 1 = cc in omega arith))
+
+-- 14, by its number
+pub fourteen-changes-nothing : (panel : Panel) (words room : List ℕ) → reportNumber (reporting panel words room .reported .handed) ≡ 14
+    → AsItStood panel words room (reporting panel words room)
+unfolding reportNumber handing
+fourteen-changes-nothing panel words room =
+    report-ways panel words room (λ r. reportNumber (r .reported .handed) ≡ 14 → AsItStood panel words room r) (λ h payload is. (refl, (refl, refl)))
+    (λ command is none. absurd (omega arith))
+    (λ command count is none.
+    let o = accepting (panel .setup) (panel .registers) command (take count (asked (panel .reader) .payload)) words room .effected .performed .outcome in
+    absurd (omega (arith, number-at-most-7 o)))

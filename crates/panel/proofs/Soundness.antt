@@ -1,6 +1,6 @@
 -- A new panel is sound, and every call keeps a panel sound.
 use mathlib.Core.Path.{_≡_, refl, sym, ap, _∙_}
-use mathlib.Core.Logic.{_⊎_, _≢_, inl, inr, ⊎-elim}
+use mathlib.Core.Logic.{_⊎_, _≢_, inl, inr}
 use mathlib.Core.Bool.{Bool, true, false, cond, _&&_}
 use mathlib.Core.List.{List, [], _∷_}
 use Prim.Native.Nat.{ℕ, suc, _≤_, _<_}
@@ -19,13 +19,11 @@ use Rattle.line.specs.declared.Asked.{Asked}
 use Rattle.line.specs.declared.Report.the-variants as line
 use Rattle.line.specs.State.{rulesFor, readerOf}
 use Rattle.line.specs.Methods.{busy, gave, plus, givenByte, givenMark, givenBytes, asked}
-use Rattle.line.specs.Reached.{Reached}
 use Rattle.line.proofs.Carried.{waiting-is, held-waiting, byte-carried, mark-carried, ask-carried, reached-new, reached-byte, reached-mark, reached-report}
-use Rattle.reading.specs.Moves.{Kept, fresh, waiting, withByte, withMark, afterReport}
+use Rattle.reading.specs.Moves.{fresh, waiting, withByte, withMark, afterReport}
 use Rattle.registers.specs.declared.Registers.{Registers}
 use Rattle.registers.specs.Table.{startRegisters, registerAt, writable}
-use Rattle.registers.specs.Run.{written}
-use Rattle.registers.specs.Touched.{pageOf, isDown}
+use Rattle.registers.specs.Touched.{pageOf}
 use Rattle.registers.proofs.Touched.{same-status}
 use Rattle.registers.proofs.Allowed.{length-written, unwritable-stays, page-stays-below}
 use Rattle.commands.specs.Outcome.{writeRegistersOutcome}
@@ -37,22 +35,21 @@ use Rattle.touch.specs.declared.Setup.{Setup}
 use Rattle.touch.specs.declared.Record.{Record}
 use Rattle.touch.specs.Record.{slides}
 use Rattle.touch.specs.Judge.{goodRecord}
-use Rattle.touch.specs.Setup.{checkingOf, acknowledgingOf, goodSetup}
+use Rattle.touch.specs.Setup.{checkingOf, goodSetup}
 use Rattle.touch.proofs.GoodFields.{left, right}
 use Rattle.contact.specs.declared.Catch.{Catch}
 use Rattle.contact.specs.declared.Catch.the-variants.{Free, Caught}
-use Rattle.contact.specs.Contact.{padOf, touched, lifted}
+use Rattle.contact.specs.Contact.{padOf}
 use Rattle.contact.specs.Sound as Pad
 use Rattle.contact.proofs.Named.{other-register-stays, lift-only-status}
 use Rattle.contact.proofs.Soundness.{touched-sound, lifted-sound}
 use Rattle.panel.specs.declared.Panel.{Panel}
-use Rattle.panel.specs.declared.Lifted.{Lifted}
 use Rattle.panel.specs.State as State
-use Rattle.panel.specs.State.{headerOf, withReader, withPad}
+use Rattle.panel.specs.State.{headerOf, withReader}
 use Rattle.panel.specs.Start.{newPanel}
 use Rattle.panel.specs.Inputs.{fedByte, fedMark, fedBytes}
-use Rattle.panel.specs.Reporting.{acknowledged, accepting, catchAfter, Reporting, handing, reporting}
-use Rattle.panel.specs.Contacts.{Contacting, contacting, lifting}
+use Rattle.panel.specs.Reporting.{acknowledged, accepting, catchAfter, handing, reporting}
+use Rattle.panel.specs.Contacts.{contacting, lifting}
 use Rattle.panel.specs.Sound.{lineOf, Reads, Sound}
 use Rattle.panel.proofs.Ways.{contact-ways, lift-ways, report-ways}
 

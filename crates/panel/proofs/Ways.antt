@@ -14,7 +14,7 @@ use Rattle.words.specs.Words.{wordCount}
 use Rattle.touch.specs.declared.Verdict.{Verdict}
 use Rattle.touch.specs.declared.Verdict.the-variants.{Good, NotRecords, Wrong}
 use Rattle.touch.specs.Judge.{judged}
-use Rattle.contact.specs.Contact.{Touching, touched, lifted}
+use Rattle.contact.specs.Contact.{touched, lifted}
 use Rattle.panel.specs.declared.Panel.{Panel}
 use Rattle.panel.specs.declared.Handed.{Handed}
 use Rattle.panel.specs.declared.Handed.the-variants as handed

@@ -1,13 +1,13 @@
 -- 01, "Registers", the columns "Meaning" and "Writable": what a write that is not refused with 5 or 6 leaves.
 use mathlib.Core.Path.{_≡_, refl, sym, ap, _∙_}
 use mathlib.Core.Logic.{_⊎_, inl, inr}
-use mathlib.Core.Bool.{Bool, true, false, cond, _&&_, _||_, not}
+use mathlib.Core.Bool.{Bool, true, false, _&&_, _||_, not}
 use mathlib.Core.List.{List}
 use Prim.Native.Nat.{ℕ, zero, suc, _+_, _-_, _≤_, _<_}
 use native.Mathlib.Omega.{arith}
-use borrow.Author.Tests.{leb-true, leb-false, ltb-true, ltb-false, le-leb, lt-ltb, eqb-true, eqb-false, not-false}
+use borrow.Author.Tests.{leb-true, leb-false, ltb-true, ltb-false, le-leb, eqb-true, eqb-false, not-false}
 use lib.Dec.{eqb, leb, ltb}
-use lib.ListN.{length, getD}
+use lib.ListN.{length}
 use Rattle.wire.specs.ByteOrder.{word}
 use Rattle.wire.proofs.LaidAt.{length-laidAt}
 use Rattle.registers.specs.declared.Registers.{Registers}
@@ -20,7 +20,7 @@ use Rattle.registers.proofs.Touched.{same-page}
 no : {A : Type 0} → _≡_ {A = Bool} true false → A
 no e = absurd (let z : _≡_ {A = ℕ} 0 1 = cc in omega arith)
 
-neither : (a b : Bool) → (a || b) ≡ false → (a ≡ false) × (b ≡ false)
+pub neither : (a b : Bool) → (a || b) ≡ false → (a ≡ false) × (b ≡ false)
 neither true b is = no is
 neither false b is = (refl, is)
 

@@ -1,14 +1,14 @@
 -- 01, "Contact and lift": which registers a touch sets, and that no other changes.
-use mathlib.Core.Path.{_≡_, refl, sym, ap, _∙_}
-use mathlib.Core.Logic.{_⊎_, _≢_, inl, inr, ⊎-elim}
-use mathlib.Core.Bool.{Bool, true, false, cond, _||_}
-use mathlib.Core.List.{List, [], _∷_, _++_}
-use Prim.Native.Nat.{ℕ, _+_, _/_, _%_, _≤_, _<_}
+use mathlib.Core.Path.{_≡_, refl, _∙_}
+use mathlib.Core.Logic.{_⊎_, _≢_, ⊎-elim}
+use mathlib.Core.Bool.{Bool, true, false, cond}
+use mathlib.Core.List.{List, _++_}
+use Prim.Native.Nat.{ℕ, _+_, _≤_, _<_}
 use native.Mathlib.Omega.{arith}
 use lib.Dec.{eqb}
 use lib.ListN.{length, getD, set, length-set}
 use lib.Seq.{getD-set-same, getD-set-other}
-use Rattle.wire.specs.ByteOrder.{word, highByte, lowByte, highFirst}
+use Rattle.wire.specs.ByteOrder.{highByte, lowByte, highFirst}
 use Rattle.wire.specs.Room.{laidAt}
 use Rattle.wire.proofs.LaidAt.{laid-inside, laid-before, laid-behind, length-laidAt}
 use Rattle.registers.specs.declared.Registers.{Registers}
