@@ -1,11 +1,12 @@
 -- Every panel reached from a start by any calls is sound; what that says, sentence by sentence.
-use mathlib.Core.Path.{_≡_, refl}
-use mathlib.Core.Logic.{inl, inr}
+use mathlib.Core.Path.{_≡_, refl, sym, ap, _∙_}
+use mathlib.Core.Logic.{_⊎_, _≢_, inl, inr}
 use mathlib.Core.Bool.{Bool, true, false, cond, not}
 use mathlib.Core.List.{List}
-use Prim.Native.Nat.{ℕ, _≤_, _<_}
+use Prim.Native.Nat.{ℕ, zero, suc, _≤_, _<_}
 use native.Mathlib.Omega.{arith}
-use lib.ListN.{length}
+use lib.ListN.{length, getD, set, replicate}
+use lib.Seq.{getD-set-other}
 use Rattle.line.specs.Methods.{busy}
 use Rattle.registers.specs.Table.{startRegisters, registerAt, writable}
 use Rattle.registers.specs.Touched.{pageOf, isDown}
@@ -48,6 +49,29 @@ reachable-sound _ (by-report panel words room before) = report-sound panel (reac
 reachable-sound _ (by-contact panel table words x y before) = contact-sound panel (reachable-sound panel before) table words x y
 reachable-sound _ (by-lift panel before) = lift-sound panel (reachable-sound panel before)
 
+true-false : _≡_ {A = Bool} true false → ⊥
+true-false is = let z : _≡_ {A = ℕ} 0 1 = cc in omega arith
+
+none-of-zeros : (n i : ℕ) → _≡_ {A = ℕ} (getD (replicate n 0) i 0) 0
+none-of-zeros zero i = refl
+none-of-zeros (suc n) zero = refl
+none-of-zeros (suc n) (suc i) = none-of-zeros n i
+
+sets-elsewhere : (z : List ℕ) (address p q r s t u v : ℕ) → address ≢ 0x00 → address ≢ 0x01 → address ≢ 0x0B → address ≢ 0x12 → address ≢ 0x13 → address ≢ 0x1A → address ≢ 0x1C
+    → getD (set (set (set (set (set (set (set z 0x00 p) 0x01 q) 0x0B r) 0x12 s) 0x13 t) 0x1A u) 0x1C v) address 0 ≡ getD z address 0
+sets-elsewhere z address p q r s t u v a b c d e f g =
+    rw (getD-set-other, getD-set-other, getD-set-other, getD-set-other, getD-set-other, getD-set-other, getD-set-other)
+
+-- what the table prints no start for reads 00 at the start
+start-reads-00 : (h1 h2 : ℕ) (checking acknowledging : Bool) (address : ℕ) → writable address ≡ false → address ≢ 0x00 → address ≢ 0x12 → address ≢ 0x13
+    → address ≢ 0x1A → address ≢ 0x1C → registerAt (startRegisters h1 h2 checking acknowledging) address ≡ 0
+unfolding startRegisters registerAt writable
+start-reads-00 h1 h2 checking acknowledging address never a b c d e =
+    let light : address ≢ 0x01 = λ is. true-false (ap writable (sym is) ∙ never) in
+    let enable : address ≢ 0x0B = λ is. true-false (ap writable (sym is) ∙ never) in
+    sets-elsewhere (replicate 256 0) address 0x10 0x3F 0xFF (cond checking 0x10 0x00) h1 h2 (cond acknowledging 0x08 0x00) a light enable b c d e
+    ∙ none-of-zeros 256 address
+
 module _ (panel : Panel) (reachable : Reachable panel) where
   sound : Sound panel
   sound = reachable-sound panel reachable
@@ -84,3 +108,10 @@ module _ (panel : Panel) (reachable : Reachable panel) where
   pub acknowledging-always-told : panelRegister panel 0x1C ≡ cond (acknowledgingOf (panel .setup)) 0x08 0x00
   unfolding startRegisters registerAt writable
   acknowledging-always-told = sound .fixed 0x1C refl (inr (omega arith))
+
+  -- "Every other register reads 00"
+  pub other-always-00 : (address : ℕ) → writable address ≡ false → (address < 0x03) ⊎ (0x0B ≤ address) → address ≢ 0x00 → address ≢ 0x12 → address ≢ 0x13
+      → address ≢ 0x1A → address ≢ 0x1C → panelRegister panel address ≡ 0
+  other-always-00 address never outside a b c d e =
+      sound .fixed address never outside
+      ∙ start-reads-00 (panel .setup .h1) (panel .setup .h2) (checkingOf (panel .setup)) (acknowledgingOf (panel .setup)) address never a b c d e
