@@ -4,3 +4,8 @@ pub mod Replies
 pub mod Reading
 pub mod Performing
 pub mod Determined
+pub mod Refusals
+pub mod DoneWrites
+pub mod Named
+pub mod ReadBack
+pub mod ExampleF

@@ -21,7 +21,7 @@ use Rattle.commands.specs.Reply.{registersReply, wordsReply}
 use Rattle.commands.specs.Effect.{isDone, replies, replying, registersReplying, wordsReplying}
 
 -- what is done has passed the first test
-peel : (c : Bool) (refusal rest : Outcome) → isDone refusal ≡ false → isDone (cond c refusal rest) ≡ true → (c ≡ false) × (isDone rest ≡ true)
+pub peel : (c : Bool) (refusal rest : Outcome) → isDone refusal ≡ false → isDone (cond c refusal rest) ≡ true → (c ≡ false) × (isDone rest ≡ true)
 peel true refusal rest none done = absurd (let z : _≡_ {A = ℕ} 0 1 = cc in omega arith)
 peel false refusal rest none done = (refl, done)
 

@@ -1,2 +1,4 @@
 pub mod Touches
 pub mod Determined
+pub mod Named
+pub mod Soundness

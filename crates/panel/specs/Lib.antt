@@ -4,3 +4,5 @@ pub mod Start
 pub mod Inputs
 pub mod Reporting
 pub mod Contacts
+pub mod Sound
+pub mod Reachable

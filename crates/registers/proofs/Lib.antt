@@ -3,3 +3,5 @@ pub mod Copying
 pub mod Written
 pub mod Determined
 pub mod Touching
+pub mod Touched
+pub mod Allowed

@@ -1,0 +1,159 @@
+-- Demand 2: "No word or register changes but those the command .. rule names."
+use mathlib.Core.Path.{_≡_, refl, ap, _∙_}
+use mathlib.Core.Logic.{_⊎_, inl, inr}
+use mathlib.Core.Bool.{Bool, true, false, cond, _&&_}
+use mathlib.Core.List.{List}
+use Prim.Native.Nat.{ℕ, _+_, _≤_, _<_}
+use borrow.Author.Tests.{ltb-true, ltb-false, eqb-true}
+use lib.Dec.{eqb, ltb}
+use lib.ListN.{length, getD, drop}
+use Rattle.wire.specs.ByteOrder.{byteAt, wordAt}
+use Rattle.registers.specs.declared.Registers.{Registers}
+use Rattle.registers.specs.Table.{registerAt}
+use Rattle.registers.specs.Run.{covers, written}
+use Rattle.registers.proofs.Written.{others-stay}
+use Rattle.words.specs.Words.{wordAtAddress, wordsOf, wordsWritten}
+use Rattle.words.proofs.Written.{other-words-stay}
+use Rattle.commands.specs.Outcome.{writeRegistersOutcome, writeWordsOutcome}
+use Rattle.commands.specs.Effect.{isDone, registersWritten, wordsWriting}
+use Rattle.commands.specs.Perform.{Performance, performance}
+use Rattle.commands.proofs.DoneWrites.{registers-passed, words-passed}
+
+-- a place lies before a run, in it or behind it
+data Placed (k first n : ℕ) : Type 0 where
+  outside : (k < first) ⊎ (first + n ≤ k) → Placed k first n
+  inside : first ≤ k → k < first + n → Placed k first n
+
+placed : (k first n : ℕ) → Placed k first n
+placed k first n = go (ltb k first) refl (ltb k (first + n)) refl
+  where
+    go : (a : Bool) → ltb k first ≡ a → (b : Bool) → ltb k (first + n) ≡ b → Placed k first n
+    go true p b q = outside (inl (ltb-true k first p))
+    go false p true q = inside (ltb-false k first p) (ltb-true k (first + n) q)
+    go false p false q = outside (inr (ltb-false k (first + n) q))
+
+-- what 0x82 names: the words of its run, where it is done
+pub record NamesWord (command : ℕ) (content : List ℕ) (end k : ℕ) : Type 0 where
+  pub writes : command ≡ 0x82
+  pub done : isDone (writeWordsOutcome end content) ≡ true
+  pub from : wordAt content 0 ≤ k
+  pub below : k < wordAt content 0 + length (wordsOf (drop 2 content))
+
+-- what 0x80 names: the registers of its run, where it is done
+pub record NamesRegister (command : ℕ) (content : List ℕ) (pages address : ℕ) : Type 0 where
+  pub writes : command ≡ 0x80
+  pub done : isDone (writeRegistersOutcome pages content) ≡ true
+  pub from : byteAt content 0 ≤ address
+  pub below : address < byteAt content 0 + length (drop 1 content)
+
+-- of four ways that leave the same
+of-four : {B : Type 0} (f : Performance → B) (r : B) (a b c : Bool) (v w x y : Performance) → f v ≡ r → f w ≡ r → f x ≡ r → f y ≡ r
+    → f (cond a v (cond b w (cond c x y))) ≡ r
+of-four f r true b c v w x y p q s t = p
+of-four f r false true c v w x y p q s t = q
+of-four f r false false true v w x y p q s t = s
+of-four f r false false false v w x y p q s t = t
+
+abbrev writesRegisters : ℕ → List ℕ → Bool
+writesRegisters pages content = isDone (writeRegistersOutcome pages content)
+
+abbrev writesWords : List ℕ → List ℕ → Bool
+writesWords words content = isDone (writeWordsOutcome (length words) content)
+
+module _ (registers : Registers) (pages : ℕ) (checking : Bool) (header content words room : List ℕ) where
+  written-by-80 : performance registers pages checking header 0x80 content words room .performed .registers
+      ≡ cond (writesRegisters pages content) (written registers (byteAt content 0) (drop 1 content)) registers
+  unfolding performance registersWritten
+  written-by-80 = refl
+
+  paged-by-80 : performance registers pages checking header 0x80 content words room .performed .paged
+      ≡ (writesRegisters pages content && covers (byteAt content 0) (length (drop 1 content)) 0x03)
+  unfolding performance registersWritten
+  paged-by-80 = refl
+
+  written-by-82 : performance registers pages checking header 0x82 content words room .words
+      ≡ cond (writesWords words content) (wordsWritten words (wordAt content 0) (drop 2 content)) words
+  unfolding performance wordsWriting
+  written-by-82 = refl
+
+  module _ (command : ℕ) where
+    -- only 0x80 writes registers and the page
+    pub registers-stay : eqb command 0x80 ≡ false → performance registers pages checking header command content words room .performed .registers ≡ registers
+    unfolding performance
+    registers-stay not =
+        rw not
+        (of-four (λ (d : Performance). d .performed .registers) registers (eqb command 0x81) (eqb command 0x82) (eqb command 0x83) _ _ _ _ refl refl refl refl)
+
+    pub page-stays : eqb command 0x80 ≡ false → performance registers pages checking header command content words room .performed .paged ≡ false
+    unfolding performance
+    page-stays not =
+        rw not
+        (of-four (λ (d : Performance). d .performed .paged) false (eqb command 0x81) (eqb command 0x82) (eqb command 0x83) _ _ _ _ refl refl refl refl)
+
+    -- only 0x82 writes words
+    pub words-stay : eqb command 0x82 ≡ false → performance registers pages checking header command content words room .words ≡ words
+    unfolding performance
+    words-stay not =
+        rw not
+        (of-four (λ (d : Performance). d .words) words (eqb command 0x80) (eqb command 0x81) (eqb command 0x83) _ _ _ _ refl refl refl refl)
+
+    -- an 0x80 and an 0x82 that are done write their run; one that is refused writes nothing
+    pub registers-as-done : (b : Bool) → command ≡ 0x80 → writesRegisters pages content ≡ b
+        → performance registers pages checking header command content words room .performed .registers
+        ≡ cond b (written registers (byteAt content 0) (drop 1 content)) registers
+    registers-as-done b is done = rw (is, written-by-80, done)
+
+    pub page-as-done : command ≡ 0x80
+        → performance registers pages checking header command content words room .performed .paged
+        ≡ (writesRegisters pages content && covers (byteAt content 0) (length (drop 1 content)) 0x03)
+    page-as-done is = rw (is, paged-by-80)
+
+    pub words-as-done : (b : Bool) → command ≡ 0x82 → writesWords words content ≡ b
+        → performance registers pages checking header command content words room .words
+        ≡ cond b (wordsWritten words (wordAt content 0) (drop 2 content)) words
+    words-as-done b is done = rw (is, written-by-82, done)
+
+    -- a register stays, or an 0x80 that is done has it in its run
+    pub register-named : length (registers .bytes) ≡ 256 → (address : ℕ)
+        → (registerAt (performance registers pages checking header command content words room .performed .registers) address ≡ registerAt registers address)
+        ⊎ NamesRegister command content pages address
+    register-named whole address = go (eqb command 0x80) refl (writesRegisters pages content) refl
+      where
+        after : Registers
+        after = performance registers pages checking header command content words room .performed .registers
+
+        wrote : command ≡ 0x80 → writesRegisters pages content ≡ true → Placed address (byteAt content 0) (length (drop 1 content))
+            → (registerAt after address ≡ registerAt registers address) ⊎ NamesRegister command content pages address
+        wrote is done (inside from below) = inr (record { writes = is; done = done; from = from; below = below })
+        wrote is done (outside out) =
+            inl (ap (λ (r : Registers). registerAt r address) (registers-as-done true is done)
+            ∙ others-stay registers whole (byteAt content 0) (drop 1 content) (registers-passed pages content done .fits) address out)
+
+        go : (a : Bool) → eqb command 0x80 ≡ a → (b : Bool) → writesRegisters pages content ≡ b
+            → (registerAt after address ≡ registerAt registers address) ⊎ NamesRegister command content pages address
+        go false is b done = inl (ap (λ (r : Registers). registerAt r address) (registers-stay is))
+        go true is false done =
+            inl (ap (λ (r : Registers). registerAt r address) (registers-as-done false (eqb-true command 0x80 is) done))
+        go true is true done = wrote (eqb-true command 0x80 is) done (placed address (byteAt content 0) (length (drop 1 content)))
+
+    -- a word stays, or an 0x82 that is done has it in its run
+    pub word-named : (k : ℕ) → (wordAtAddress (performance registers pages checking header command content words room .words) k ≡ wordAtAddress words k)
+        ⊎ NamesWord command content (length words) k
+    unfolding wordAtAddress
+    word-named k = go (eqb command 0x82) refl (writesWords words content) refl
+      where
+        after : List ℕ
+        after = performance registers pages checking header command content words room .words
+
+        wrote : command ≡ 0x82 → writesWords words content ≡ true → Placed k (wordAt content 0) (length (wordsOf (drop 2 content)))
+            → (getD after k 0 ≡ getD words k 0) ⊎ NamesWord command content (length words) k
+        wrote is done (inside from below) = inr (record { writes = is; done = done; from = from; below = below })
+        wrote is done (outside out) =
+            inl (ap (λ (l : List ℕ). getD l k 0) (words-as-done true is done)
+            ∙ other-words-stay words (drop 2 content) (wordAt content 0) (words-passed (length words) content done .fits) k out)
+
+        go : (a : Bool) → eqb command 0x82 ≡ a → (b : Bool) → writesWords words content ≡ b
+            → (getD after k 0 ≡ getD words k 0) ⊎ NamesWord command content (length words) k
+        go false is b done = inl (ap (λ (l : List ℕ). getD l k 0) (words-stay is))
+        go true is false done = inl (ap (λ (l : List ℕ). getD l k 0) (words-as-done false (eqb-true command 0x82 is) done))
+        go true is true done = wrote (eqb-true command 0x82 is) done (placed k (wordAt content 0) (length (wordsOf (drop 2 content))))

@@ -1,0 +1,87 @@
+-- Demand 2: "No word or register changes but those the command or touch rule names."
+use mathlib.Core.Path.{_≡_, refl}
+use mathlib.Core.Logic.{_⊎_, _≢_, inl, inr, ⊎-elim}
+use mathlib.Core.Bool.{true}
+use mathlib.Core.List.{List}
+use Prim.Native.Nat.{ℕ, _≤_, _<_}
+use lib.ListN.{length, take, drop}
+use Rattle.line.specs.declared.Report.the-variants as line
+use Rattle.line.specs.Methods.{asked}
+use Rattle.words.specs.Words.{wordAtAddress}
+use Rattle.commands.proofs.Named as Command
+use Rattle.touch.specs.Setup.{checkingOf}
+use Rattle.contact.proofs.Named as Touch
+use Rattle.panel.specs.declared.Panel.{Panel}
+use Rattle.panel.specs.State.{headerOf, padOf, panelRegister}
+use Rattle.panel.specs.Inputs.{fedByte, fedMark, fedBytes}
+use Rattle.panel.specs.Reporting.{acknowledged, accepting, handing, reporting}
+use Rattle.panel.specs.Contacts.{contacting, lifting}
+use Rattle.panel.proofs.Ways.{contact-ways, lift-ways, report-ways}
+
+-- the frame that is handed over names the word or the register
+pub data ReportNamesWord (panel : Panel) (words : List ℕ) (k : ℕ) : Type 0 where
+  accepted : (command count : ℕ) → asked (panel .reader) .report ≡ line.Accepted command count
+      → Command.NamesWord command (take count (asked (panel .reader) .payload)) (length words) k → ReportNamesWord panel words k
+
+pub data ReportNamesRegister (panel : Panel) (address : ℕ) : Type 0 where
+  accepted : (command count : ℕ) → asked (panel .reader) .report ≡ line.Accepted command count
+      → Command.NamesRegister command (take count (asked (panel .reader) .payload)) (panel .setup .pages) address → ReportNamesRegister panel address
+
+module _ (panel : Panel) (words room : List ℕ) where
+  pub reported-word : (k : ℕ) → (wordAtAddress (reporting panel words room .words) k ≡ wordAtAddress words k) ⊎ ReportNamesWord panel words k
+  unfolding handing accepting
+  reported-word k =
+      report-ways panel words room (λ r. (wordAtAddress (r .words) k ≡ wordAtAddress words k) ⊎ ReportNamesWord panel words k) (λ h payload. inl refl)
+      (λ command is. inl refl)
+      (λ command count is.
+      let setup = panel .setup in
+      let answer = acknowledged setup command true room in
+      ⊎-elim inl (λ named. inr (accepted command count is named))
+      (Command.word-named (panel .registers) (setup .pages) (checkingOf setup) (headerOf setup) (take count (asked (panel .reader) .payload)) words
+      (drop (answer .count) (answer .room)) command k))
+
+  pub reported-register : length (panel .registers .bytes) ≡ 256 → (address : ℕ)
+      → (panelRegister (reporting panel words room .reported .panel) address ≡ panelRegister panel address) ⊎ ReportNamesRegister panel address
+  unfolding handing accepting
+  reported-register whole address =
+      report-ways panel words room (λ r. (panelRegister (r .reported .panel) address ≡ panelRegister panel address) ⊎ ReportNamesRegister panel address)
+      (λ h payload. inl refl) (λ command is. inl refl)
+      (λ command count is.
+      let setup = panel .setup in
+      let answer = acknowledged setup command true room in
+      ⊎-elim inl (λ named. inr (accepted command count is named))
+      (Command.register-named (panel .registers) (setup .pages) (checkingOf setup) (headerOf setup) (take count (asked (panel .reader) .payload)) words
+      (drop (answer .count) (answer .room)) command whole address))
+
+module _ (panel : Panel) (table words : List ℕ) (x y : ℕ) where
+  -- the word of the record that acts, or of the caught one
+  pub contacted-word : (k : ℕ) → (wordAtAddress (contacting panel table words x y .words) k ≡ wordAtAddress words k) ⊎ Touch.NamesWord (padOf panel) table x y k
+  contacted-word k =
+      contact-ways panel table words x y (λ c. (wordAtAddress (c .words) k ≡ wordAtAddress words k) ⊎ Touch.NamesWord (padOf panel) table x y k)
+      (λ answer. inl refl) (λ good. Touch.word-named (padOf panel) table words x y k)
+
+  -- 03-04 for a next page, 05 the flag, 06 the status, 07-0A the place
+  pub contacted-register : length (panel .registers .bytes) ≡ 256 → (address : ℕ) → (address < 0x03) ⊎ (0x0B ≤ address)
+      → panelRegister (contacting panel table words x y .contacted .panel) address ≡ panelRegister panel address
+  contacted-register whole address outside =
+      contact-ways panel table words x y (λ c. panelRegister (c .contacted .panel) address ≡ panelRegister panel address)
+      (λ answer. refl) (λ good. Touch.other-register-stays (padOf panel) whole table words x y address outside)
+
+-- "Lift: status 02"
+pub lifted-register : (panel : Panel) → length (panel .registers .bytes) ≡ 256 → (address : ℕ) → address ≢ 0x06
+    → panelRegister (lifting panel .panel) address ≡ panelRegister panel address
+lifted-register panel whole address other =
+    lift-ways panel (λ l. panelRegister (l .panel) address ≡ panelRegister panel address) refl refl (Touch.lift-only-status (padOf panel) whole address other)
+
+-- inputs change the reader alone
+pub byte-keeps-registers : (panel : Panel) (b : ℕ) → fedByte panel b .panel .registers ≡ panel .registers
+unfolding fedByte
+byte-keeps-registers panel b = refl
+
+pub mark-keeps-registers : (panel : Panel) → fedMark panel .panel .registers ≡ panel .registers
+unfolding fedMark
+mark-keeps-registers panel = refl
+
+pub bytes-keep-registers : (panel : Panel) (bytes : List ℕ) → fedBytes panel bytes .panel .registers ≡ panel .registers
+unfolding fedBytes
+bytes-keep-registers panel bytes = refl

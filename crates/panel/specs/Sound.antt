@@ -1,0 +1,35 @@
+-- What every panel keeps that is reached from a start by any calls.
+use mathlib.Core.Path.{_≡_}
+use mathlib.Core.Logic.{_⊎_}
+use mathlib.Core.Bool.{false}
+use Prim.Native.Nat.{ℕ, _≤_, _<_}
+use Rattle.line.specs.declared.Line.{Line}
+use Rattle.line.specs.declared.Reader.{Reader}
+use Rattle.line.specs.State.{readerOf}
+use Rattle.line.specs.Reached.{Reached}
+use Rattle.reading.specs.Moves.{Kept}
+use Rattle.registers.specs.Table.{startRegisters, registerAt, writable}
+use Rattle.touch.specs.declared.Setup.{Setup}
+use Rattle.touch.specs.Setup.{checkingOf, acknowledgingOf}
+use Rattle.contact.specs.Sound as Pad
+use Rattle.panel.specs.declared.Panel.{Panel}
+use Rattle.panel.specs.State.{headerFor, padOf}
+
+-- the line as it was set up
+abbrev pub lineOf : Setup → Line
+lineOf setup = record { header = headerFor setup; checking = checkingOf setup }
+
+-- a reader that keeps what a reading keeps: bytes, at most 257 of them where no report waits
+pub record Reads (line : Line) (reader : Reader) : Type 0 where
+  pub kept : Kept
+  pub reached : Reached line kept
+  pub is : reader ≡ readerOf line kept
+
+pub record Sound (panel : Panel) : Type 0 where
+  -- 256 register bytes, the page below P, a catch only while down and of a good slider
+  pub pad : Pad.Sound (panel .setup) (padOf panel)
+  -- "isn't writable": version, 12, 13, 1A and 1C read what the setup says, and every register that is not printed reads 00
+  pub fixed : (address : ℕ) → writable address ≡ false → (address < 0x03) ⊎ (0x0B ≤ address)
+      → registerAt (panel .registers) address
+      ≡ registerAt (startRegisters (panel .setup .h1) (panel .setup .h2) (checkingOf (panel .setup)) (acknowledgingOf (panel .setup))) address
+  pub reads : Reads (lineOf (panel .setup)) (panel .reader)

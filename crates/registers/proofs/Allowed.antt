@@ -1,0 +1,113 @@
+-- 01, "Registers", the columns "Meaning" and "Writable": what a write that is not refused with 5 or 6 leaves.
+use mathlib.Core.Path.{_≡_, refl, sym, ap, _∙_}
+use mathlib.Core.Logic.{_⊎_, inl, inr}
+use mathlib.Core.Bool.{Bool, true, false, _&&_, _||_, not}
+use mathlib.Core.List.{List}
+use Prim.Native.Nat.{ℕ, zero, suc, _+_, _-_, _≤_, _<_}
+use native.Mathlib.Omega.{arith}
+use borrow.Author.Tests.{leb-true, leb-false, ltb-true, ltb-false, le-leb, eqb-true, eqb-false, not-false}
+use lib.Dec.{eqb, leb, ltb}
+use lib.ListN.{length}
+use Rattle.wire.specs.ByteOrder.{word}
+use Rattle.wire.proofs.LaidAt.{length-laidAt}
+use Rattle.registers.specs.declared.Registers.{Registers}
+use Rattle.registers.specs.Table.{registerCount, registerAt, writable}
+use Rattle.registers.specs.Run.{covers, allWritable, halfPage, unwritableRun, given, wrongValue, written}
+use Rattle.registers.specs.Touched.{pageOf}
+use Rattle.registers.proofs.Written.{written-at, others-stay}
+use Rattle.registers.proofs.Touched.{same-page}
+
+no : {A : Type 0} → _≡_ {A = Bool} true false → A
+no e = absurd (let z : _≡_ {A = ℕ} 0 1 = cc in omega arith)
+
+pub neither : (a b : Bool) → (a || b) ≡ false → (a ≡ false) × (b ≡ false)
+neither true b is = no is
+neither false b is = (refl, is)
+
+both : (a b : Bool) → (a && b) ≡ true → (a ≡ true) × (b ≡ true)
+both true b is = (refl, is)
+both false b is = no (sym is)
+
+right-not : (a b : Bool) → a ≡ true → (a && b) ≡ false → b ≡ false
+right-not true b is not = not
+right-not false b is not = no (sym is)
+
+-- a run covers a register or leaves it out
+in-run : (address n register : ℕ) → covers address n register ≡ true → (address ≤ register) × (register < address + n)
+unfolding covers
+in-run address n register is =
+    let two = both (leb address register) (ltb register (address + n)) is in
+    (leb-true address register (two .0), ltb-true register (address + n) (two .1))
+
+out-of-run : (address n register : ℕ) → covers address n register ≡ false → (register < address) ⊎ (address + n ≤ register)
+unfolding covers
+out-of-run address n register is = go (leb address register) refl is
+  where
+    go : (b : Bool) → leb address register ≡ b → (b && ltb register (address + n)) ≡ false → (register < address) ⊎ (address + n ≤ register)
+    go true t is = inr (ltb-false register (address + n) is)
+    go false t is = inl (leb-false address register t)
+
+-- every register of the run is writable
+all-writable : (address n : ℕ) → allWritable address n ≡ true → (register : ℕ) → address ≤ register → register < address + n → writable register ≡ true
+unfolding allWritable
+all-writable address zero all register from below = absurd (omega arith)
+all-writable address (suc n) all register from below =
+    let two = both (writable address) (allWritable (suc address) n) all in
+    go (eqb address register) refl (two .0) (all-writable (suc address) n (two .1) register)
+  where
+    go : (b : Bool) → eqb address register ≡ b → writable address ≡ true → (suc address ≤ register → register < suc address + n → writable register ≡ true)
+        → writable register ≡ true
+    go true t here there = ap writable (sym (eqb-true address register t)) ∙ here
+    go false t here there =
+        let other : address ≡ register → ⊥ = eqb-false address register t in
+        there (omega arith) (omega arith)
+
+module _ (registers : Registers) (whole : length (registers .bytes) ≡ 256) (address : ℕ) (bytes : List ℕ) (fits : address + length bytes ≤ 256) where
+  pub length-written : length (written registers address bytes .bytes) ≡ 256
+  unfolding written registerCount
+  length-written = rw (le-leb (address + length bytes) 256 fits) (length-laidAt (registers .bytes) bytes address (omega arith) ∙ whole)
+
+  -- what the run covers is the byte given to it
+  given-now : (register : ℕ) → covers address (length bytes) register ≡ true → registerAt (written registers address bytes) register ≡ given address bytes register
+  unfolding given
+  given-now register is =
+      let two = in-run address (length bytes) register is in
+      let place : address + (register - address) ≡ register = omega arith in
+      ap (registerAt (written registers address bytes)) (sym place) ∙ written-at registers whole address bytes fits (register - address) (omega arith)
+
+  stays-out : (register : ℕ) → covers address (length bytes) register ≡ false → registerAt (written registers address bytes) register ≡ registerAt registers register
+  stays-out register is = others-stay registers whole address bytes fits register (out-of-run address (length bytes) register is)
+
+  module _ (may : unwritableRun address (length bytes) ≡ false) where
+    -- "isn't writable": what is not stays, whatever is written
+    pub unwritable-stays : (register : ℕ) → writable register ≡ false → registerAt (written registers address bytes) register ≡ registerAt registers register
+    unfolding unwritableRun
+    unwritable-stays register never = go (covers address (length bytes) register) refl
+      where
+        go : (b : Bool) → covers address (length bytes) register ≡ b → registerAt (written registers address bytes) register ≡ registerAt registers register
+        go false is = stays-out register is
+        go true is =
+            let two = in-run address (length bytes) register is in
+            let all : allWritable address (length bytes) ≡ true =
+            not-false (allWritable address (length bytes)) (neither (not (allWritable address (length bytes))) (halfPage address (length bytes)) may .0) in
+            no (sym (all-writable address (length bytes) all register (two .0) (two .1)) ∙ never)
+
+    -- "page, below P", "both bytes together"
+    pub page-stays-below : (pages : ℕ) → wrongValue address bytes pages ≡ false → pageOf registers < pages → pageOf (written registers address bytes) < pages
+    unfolding unwritableRun halfPage wrongValue
+    page-stays-below pages right below =
+        go (covers address (length bytes) 0x03) refl (covers address (length bytes) 0x04) refl
+        (neither (not (allWritable address (length bytes))) _ may .1)
+        (neither (covers address (length bytes) 0x01 && ltb 0x3F (given address bytes 0x01)) _ right .1)
+      where
+        go : (high : Bool) → covers address (length bytes) 0x03 ≡ high → (low : Bool) → covers address (length bytes) 0x04 ≡ low
+            → (high && not low || not high && low) ≡ false
+            → (high && leb pages (word (given address bytes 0x03) (given address bytes 0x04))) ≡ false
+            → pageOf (written registers address bytes) < pages
+        go true p true q half value =
+            let least : word (given address bytes 0x03) (given address bytes 0x04) < pages =
+            leb-false pages (word (given address bytes 0x03) (given address bytes 0x04)) value in
+            unfold pageOf in rw (given-now 0x03 p, given-now 0x04 q) least
+        go true p false q half value = no half
+        go false p true q half value = no half
+        go false p false q half value = rw (same-page (written registers address bytes) registers (stays-out 0x03 p) (stays-out 0x04 q)) below
