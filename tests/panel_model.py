@@ -34,6 +34,22 @@ class Script:
     def count(self, call, number):
         self.reached[f"{call} {number}"] += 1
 
+    def count_waiting(self):
+        if len(self.panel.line.waiting) > 1:
+            self.count("inputs after which", "several reports wait")
+
+    def count_contact(self, was_down, page, caught, x, y):
+        """What a contact that was not refused did."""
+        if was_down:
+            self.count("contact while down:", "a slider caught" if caught else "none caught")
+            return
+        acted = next((r for r in model.records(self.table) if r.page == page and r.holds(x, y)), None)
+        if acted is None:
+            self.count("contact while up:", "no record")
+            return
+        kind = {0xFE05: "key", 0xFE02: "step", 0xFE03: "slider"}[acted.code]
+        self.count(f"contact while up: {kind} mode", f"{acted.mode:02X}{', next page' if acted.has_next else ''}")
+
     def title(self, text):
         self.call("#", bytes([len(text)]) + text.encode(), f"# {text}")
 
@@ -61,23 +77,28 @@ class Script:
     def byte(self, b):
         number = self.panel.give_byte(b)
         self.count("byte", number)
+        self.count_waiting()
         self.call("B", [b], f"B {number}")
 
     def bytes(self, given):
         used = 0
         while used < len(given) and self.panel.give_byte(given[used]) == 0:
             used += 1
+        self.count_waiting()
         self.call("G", two(len(given)) + bytes(given), f"G {used}")
         return used
 
     def mark(self):
         number = self.panel.give_mark()
         self.count("mark", number)
+        self.count_waiting()
         self.call("M", b"", f"M {number}")
 
     def ask(self):
-        words, room = self.words[:self.n_words], self.room[:self.n_room]
+        words, room, caught = self.words[:self.n_words], self.room[:self.n_room], self.panel.caught
         h = self.panel.report(words, room)
+        if caught:
+            self.count("ask while a slider is caught:", "kept" if self.panel.caught else "dropped")
         self.words[:self.n_words], self.room[:self.n_room] = words, room
         line, end = h.what, h.acknowledged + h.replied
         acknowledgement, reply = spelled(room[:h.acknowledged]), spelled(room[h.acknowledged:end])
@@ -96,9 +117,12 @@ class Script:
 
     def contact(self, x, y):
         words = self.words[:self.n_words]
+        before = self.panel.is_down, self.panel.registers.page, self.panel.caught
         number, wrong = self.panel.contact(self.table, words, x, y)
         self.words[:self.n_words] = words
         self.count("contact", number)
+        if number == 0:
+            self.count_contact(*before, x, y)
         self.call("C", two(x) + two(y), f"C {number}" + (f" {wrong}" if number == 13 else ""))
 
     def lift(self):
@@ -633,6 +657,17 @@ def some_frame(s, r):
     return bytes(b)
 
 
+def some_point(s, r):
+    """Mostly in or beside a record of the page that is shown, where the table has one."""
+    whole = s.table if len(s.table) % RECORD == 0 else b""
+    here = [b.area for b in model.records(whole) if b.page == s.panel.registers.page]
+    if here and r.random() < 0.7:
+        xs, ys, xe, ye = r.choice(here)
+        beside = r.choice((0, 0, 0, 1))
+        return tuple(min(max(r.randint(*sorted(ends)) + r.randint(-beside, beside), 0), 65535) for ends in ((xs, xe), (ys, ye)))
+    return r.choice((0, 1, 99, 100, 101, r.randrange(310), 319, 320)), r.choice((0, 49, 50, 51, r.randrange(260), 269, 270))
+
+
 def draw_session(s, r):
     pairs = ((0x5A, 0xA5), (0x5A, 0xA5), (0xFF, 0xFF), (0x80, 0x03), (0, 0))
     s.start(Setup(*r.choice(pairs), r.choice((0, 1, 1, 2, 3, 3, 3)), 3, 320, 270), b"")
@@ -647,8 +682,12 @@ def draw_session(s, r):
                     break
                 if r.random() < 0.9:
                     s.ask()
+            if r.random() < 0.85:
+                s.ask_all()
         elif what < 0.65:
-            s.contact(r.choice((0, 1, 99, 100, 101, 107, 108, r.randrange(310), 319, 320)), r.choice((0, 49, 50, 51, 57, r.randrange(260), 269, 270)))
+            if r.random() < 0.7:
+                s.ask_all()
+            s.contact(*some_point(s, r))
         elif what < 0.75:
             s.lift()
         elif what < 0.80:
