@@ -11,7 +11,6 @@ import random
 import sys
 
 import model
-from check_value import check_value
 from model import RECORD, Setup, two
 
 ALL_WORDS, ALL_ROOM = 28700, 300
@@ -24,7 +23,7 @@ class Script:
     def __init__(self):
         self.input, self.lines, self.reached = bytearray(), [], collections.Counter()
         self.panel, self.table, self.n_words, self.n_room = None, b"", 28672, 265
-        self.words, self.room = [0] * ALL_WORDS, bytearray(ALL_ROOM)
+        self.words, self.room = [0] * ALL_WORDS, bytearray(b"\xEE" * ALL_ROOM)
 
     def call(self, letter, arguments, line=None):
         self.input += letter.encode() + bytes(arguments)
@@ -108,7 +107,7 @@ class Script:
         elif h.what == "B":
             line = f"B {h.report.command:02x} acknowledgement{acknowledgement}"
         self.count("ask", h.what)
-        self.call("?", b"", f"? {line} room {check_value(self.room):04x}")
+        self.call("?", b"", f"? {line} room {sum_of(self.room)}")
         return h.what not in ("14", "nothing")
 
     def ask_all(self):
@@ -137,10 +136,8 @@ class Script:
         self.call("V", two(address), f"V {address:04x} {self.words[address]:04x}")
 
     def all(self):
-        r, total = self.panel.registers, 1
-        for w in self.words:
-            total = (total * 31 + w) % 65521
-        self.call("D", b"", f"D{spelled(r.all())} page {r.page:04x} backlight {r.backlight:02x} buzzer {r.buzzer:02x} words {total}")
+        r = self.panel.registers
+        self.call("D", b"", f"D{spelled(r.all())} page {r.page:04x} backlight {r.backlight:02x} buzzer {r.buzzer:02x} words {sum_of(self.words)}")
 
     # Calls that belong together
 
@@ -158,6 +155,14 @@ class Script:
             self.ask_all()
             self.mark()
             self.ask_all()
+
+
+def sum_of(numbers):
+    """As the program sums up what it does not print."""
+    total = 1
+    for n in numbers:
+        total = (total * 31 + n) % 65521
+    return total
 
 
 def spelled(b):
@@ -580,7 +585,32 @@ def reading(s):
         s.all()
 
 
-GROUPS = (starts, commands, lent, waiting, refused_contacts, acting, catching, reading)
+def limits(s):
+    s.title("the largest page number, and the only one")
+    for pages, numbers in ((65280, (0xFEFF, 0xFF00, 0xFFFF)), (1, (0, 1, 0x0100)), (257, (0x00FF, 0x0100, 0x0101))):
+        s.start(NOTHING_WRONG._replace(pages=pages), b"")
+        for n in numbers:
+            s.send(0x80, b"\x03" + two(n))
+            s.send(0x81, [0x03, 0x02])
+    s.title("the largest screen and the smallest")
+    for width, height in ((1024, 768), (1, 1), (1024, 1), (1, 768)):
+        s.start(NOTHING_WRONG._replace(width=width, height=height), key(area=(0, 0, width - 1, height - 1), code=width))
+        for x, y in ((width - 1, height - 1), (width, height - 1), (width - 1, height), (0, 0)):
+            s.set_word(0x10, 0)
+            s.contact(x, y)
+            s.send(0x81, [0x05, 0x06])
+            s.send(0x80, [0x05, 0x00])
+            s.lift()
+            s.word(0x10)
+    s.title("no bytes, and bytes after which a report waits at once")
+    s.bytes(b"")
+    s.send(0x81, [0x00, 0x01], ask=False)
+    s.bytes(b"")
+    s.bytes(b"\x00")
+    s.ask_all()
+
+
+GROUPS = (limits, starts, commands, lent, waiting, refused_contacts, acting, catching, reading)
 
 
 def fixed():

@@ -9,7 +9,7 @@
 //   B byte                          gives a byte
 //   G count (2), bytes              gives bytes
 //   M                               gives a mark
-//   ?                               asks for a report: command, number, data, acknowledgement and reply, then the check value of the whole room
+//   ?                               asks for a report: command, number, data, acknowledgement and reply, then a sum over the whole room
 //   C x (2), y (2)                  a contact
 //   U                               a lift
 //   R address (1)                   a register
@@ -115,6 +115,37 @@ fn say_part(s: &[u8], from: usize, n: usize) {
             say_bytes(&rest[0..n]);
         }
     }
+}
+
+// ---- A number below 65,521 that nearly every change of a list changes
+
+fn mixed(sum: u64, w: u16) -> u64 {
+    (sum % 65521 * 31 + w as u64) % 65521
+}
+
+fn sum_of_bytes(bytes: &[u8]) -> u64 {
+    let mut sum: u64 = 1;
+    let mut i = 0;
+    while i < bytes.len() {
+        sum = mixed(sum, wire::word(0, bytes[i]));
+        i += 1;
+    }
+    sum
+}
+
+fn sum_of_words(words: &[u16]) -> u64 {
+    let mut sum: u64 = 1;
+    let mut i = 0;
+    while i < words.len() {
+        sum = mixed(sum, words[i]);
+        i += 1;
+    }
+    sum
+}
+
+fn say_sum(sum: u64) {
+    say(b" ");
+    io::print_decimal(STDOUT_FILENO, sum);
 }
 
 // ---- The numbers of 01
@@ -258,7 +289,7 @@ fn say_handed(handed: Handed, content: &[u8], room: &[u8]) {
         }
     }
     say(b" room");
-    say_word(check_value::check_value(room));
+    say_sum(sum_of_bytes(room));
     say(b"\n");
 }
 
@@ -460,21 +491,6 @@ fn say_registers(panel: Panel) {
     }
 }
 
-fn mixed(sum: u64, w: u16) -> u64 {
-    (sum % 65521 * 31 + w as u64) % 65521
-}
-
-// A number below 65,521 that nearly every change of a list of words changes.
-fn sum_of(words: &[u16]) -> u64 {
-    let mut sum: u64 = 1;
-    let mut i = 0;
-    while i < words.len() {
-        sum = mixed(sum, words[i]);
-        i += 1;
-    }
-    sum
-}
-
 fn show_all(bench: Bench, words: &[u16]) -> Bench {
     let panel = bench.panel;
     say(b"D");
@@ -485,8 +501,8 @@ fn show_all(bench: Bench, words: &[u16]) -> Bench {
     say_byte(panel.backlight());
     say(b" buzzer");
     say_byte(panel.buzzer());
-    say(b" words ");
-    io::print_decimal(STDOUT_FILENO, sum_of(words));
+    say(b" words");
+    say_sum(sum_of_words(words));
     say(b"\n");
     bench
 }
@@ -548,7 +564,7 @@ fn first_bench() -> Bench {
 fn main() {
     let mut table = [0u8; TABLE];
     let mut words = [0u16; WORDS];
-    let mut room = [0u8; ROOM];
+    let mut room = [0xEEu8; ROOM];
     let mut bench = first_bench();
     let mut turns = u64::MAX;
     while turns > 0 {
