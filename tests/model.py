@@ -1,0 +1,563 @@
+#!/usr/bin/env python3
+"""A model of document 01, "The build and its rules", written from the document alone; to be read beside it, section by section.
+
+    model.py < TRACE       prints what the panel program must print for a trace
+    model.py --examples    runs 01's printed trace, its examples a to j and the reads and writes it wants run; exit status 0 if all are right
+
+Each part below bears the name of the section of 01 that it states. Numbers are those of 01's table "Numbers given back".
+"""
+import sys
+from typing import NamedTuple
+
+from check_value import check_value
+
+WORDS = 28672
+LEAST_ROOM = 265
+RECORD = 32
+MOST_RECORDS = 128
+
+
+def word(data, at):
+    """Multi-byte data goes high byte first."""
+    return data[at] * 256 + data[at + 1]
+
+
+def two(number):
+    return bytes((number // 256, number % 256))
+
+
+def signed(w):
+    return w - 65536 if w >= 32768 else w
+
+
+# ---- Frame
+
+def frame(setup, command, data):
+    """Header, length, command, data and, with checking on, the check value over command and data, low byte first."""
+    content = bytes([command]) + bytes(data)
+    value = check_value(content)
+    check = bytes((value % 256, value // 256)) if setup.checking else b""
+    return setup.header + bytes([len(content) + len(check)]) + content + check
+
+
+def data_limit(setup):
+    return 252 if setup.checking else 254
+
+
+# ---- Reading the line
+
+class Report(NamedTuple):
+    accepted: bool      # else a bad check
+    command: int
+    data: bytes
+
+
+class Line:
+    """What was given and not read yet, from the waiting place on, and the reports that wait."""
+
+    def __init__(self, setup):
+        self.setup, self.held, self.waiting = setup, b"", []
+
+    def give(self, byte):
+        """A byte, or a quiet mark (None)."""
+        if self.waiting:
+            return 1
+        if byte is not None:
+            self.held += bytes([byte])
+        self.read(closed=byte is None)
+        return 0
+
+    def read(self, closed):
+        stretch, p = self.held, 0
+        least = 3 if self.setup.checking else 1
+        while p < len(stretch):
+            here = stretch[p:]
+            # What has not come is not wrong.
+            wrong = (not self.setup.header.startswith(here[:2])) or (len(here) > 2 and here[2] < least)
+            if wrong:
+                p += 1
+            elif len(here) < 3 or len(here) < 3 + here[2]:
+                if not closed:
+                    break
+                p += 1
+            else:
+                content = here[3:3 + here[2]]
+                if self.setup.checking:
+                    content, check = content[:-2], content[-2:]
+                    if check_value(content) != check[0] + 256 * check[1]:
+                        self.waiting.append(Report(False, content[0], b""))
+                        p += 1
+                        continue
+                self.waiting.append(Report(True, content[0], content[1:]))
+                p += 3 + here[2]
+        self.held = b"" if closed else stretch[p:]
+
+    def hand_over(self):
+        return self.waiting.pop(0)
+
+
+# ---- Registers
+
+class Registers:
+    WRITABLE = (0x01, 0x02, 0x03, 0x04, 0x05, 0x0B)
+
+    def __init__(self, setup):
+        self.setup = setup
+        self.backlight, self.buzzer, self.page = 0x3F, 0, 0
+        self.flag, self.status, self.x, self.y, self.enable = 0, 0, 0, 0, 0xFF
+
+    def all(self):
+        """What each of the 256 reads."""
+        value = bytearray(256)
+        value[0x00] = 0x10
+        value[0x01] = self.backlight
+        value[0x02] = self.buzzer
+        value[0x03:0x05] = two(self.page)
+        value[0x05] = self.flag
+        value[0x06] = self.status
+        value[0x07:0x0B] = two(self.x) + two(self.y)
+        value[0x0B] = self.enable
+        value[0x12] = 0x10 if self.setup.checking else 0x00
+        value[0x13], value[0x1A] = self.setup.header
+        value[0x1C] = 0x08 if self.setup.acknowledging else 0x00
+        return bytes(value)
+
+    def store(self, address, data):
+        """A write that is not refused. The page comes whole."""
+        run = dict(enumerate(data, address))
+        self.backlight = run.get(0x01, self.backlight)
+        self.buzzer = run.get(0x02, self.buzzer)
+        if 0x03 in run:
+            self.page = run[0x03] * 256 + run[0x04]
+        self.flag = run.get(0x05, self.flag)
+        self.enable = run.get(0x0B, self.enable)
+
+
+# ---- Setup and touch table
+
+class Setup(NamedTuple):
+    h1: int
+    h2: int
+    flags: int
+    pages: int
+    width: int
+    height: int
+
+    @property
+    def header(self):
+        return bytes((self.h1, self.h2))
+
+    @property
+    def checking(self):
+        return self.flags & 1 == 1
+
+    @property
+    def acknowledging(self):
+        return self.flags & 2 == 2
+
+    def is_good(self):
+        return self.flags < 4 and 1 <= self.pages <= 65280 and 1 <= self.width <= 1024 and 1 <= self.height <= 768
+
+
+def setup_of(nine):
+    return Setup(nine[0], nine[1], nine[2], word(nine, 3), word(nine, 5), word(nine, 7))
+
+
+class Record:
+    """A record's fields, at the offsets that 01 prints."""
+
+    def __init__(self, b):
+        self.page = word(b, 0x00)
+        self.area = tuple(word(b, at) for at in (0x02, 0x04, 0x06, 0x08))
+        self.next = word(b, 0x0A)
+        self.code = word(b, 0x0E)
+        self.fe = b[0x10]
+        self.word = word(b, 0x11)
+        self.mode = b[0x13]
+        self.bytes = b
+
+    @property
+    def has_next(self):
+        return self.next // 256 != 0xFF
+
+    def holds(self, x, y):
+        xs, ys, xe, ye = self.area
+        return xs <= x <= xe and ys <= y <= ye
+
+    def is_good(self, setup):
+        xs, ys, xe, ye = self.area
+        common = (self.page < setup.pages and (not self.has_next or self.next < setup.pages)
+                  and xs <= xe < setup.width and ys <= ye < setup.height and self.fe == 0xFE and self.word < 0x7000)
+        kinds = {0xFE05: self.is_good_key, 0xFE02: self.is_good_step, 0xFE03: self.is_good_slider}
+        return common and self.code in kinds and kinds[self.code]()
+
+    def is_good_key(self):
+        return self.mode in (0x00, 0x01, 0x02)
+
+    def is_good_step(self):
+        b, numbers = self.bytes, (word(self.bytes, 0x18), word(self.bytes, 0x1A))
+        if self.mode not in (0x00, 0x01, 0x02) or not 1 <= word(b, 0x16) <= 32767 or b[0x1C] != 0x01:
+            return False
+        if self.mode == 0:
+            return signed(numbers[0]) <= signed(numbers[1])
+        return numbers[0] <= numbers[1] <= 255
+
+    def is_good_slider(self):
+        b = self.bytes
+        xs, ys, xe, ye = self.area
+        if self.mode not in (0x00, 0x01, 0x10, 0x11, 0x20, 0x21) or self.has_next or b[0x14:0x1C] != b[0x02:0x0A]:
+            return False
+        if self.mode >= 0x10 and (word(b, 0x1C) > 255 or word(b, 0x1E) > 255):
+            return False
+        return xe > xs if self.mode % 16 == 0 else ye > ys
+
+    # What the record stores over a word
+
+    def act(self, old, x, y):
+        part = self.mode // 16 if self.code == 0xFE03 else self.mode
+        if self.code == 0xFE05:
+            return stored(part, old, word(self.bytes, 0x14))
+        if self.code == 0xFE02:
+            return stored(part, old, self.stepped(value_of(part, old)))
+        return stored(part, old, self.slid(x, y))
+
+    def stepped(self, value):
+        b = self.bytes
+        up, around = b[0x14] != 0, b[0x15] != 0
+        step, least, greatest = word(b, 0x16), signed(word(b, 0x18)), signed(word(b, 0x1A))
+        t = value + step if up else value - step
+        if least <= t <= greatest:
+            return t
+        if around:
+            return least if up else greatest
+        return least if t < least else greatest
+
+    def slid(self, x, y):
+        xs, ys, xe, ye = self.area
+        first, last, at = (xs, xe, x) if self.mode % 16 == 0 else (ys, ye, y)
+        at = max(first, min(at, last))          # the nearest place in its area
+        begin, end = signed(word(self.bytes, 0x1C)), signed(word(self.bytes, 0x1E))
+        moved = abs(end - begin) * (at - first) // (last - first)
+        return begin + moved if end >= begin else begin - moved
+
+
+def value_of(part, w):
+    """Words are signed; bytes are 0 to 255."""
+    return {0: signed(w), 1: w // 256, 2: w % 256}[part]
+
+
+def stored(part, old, number):
+    """Part 0 whole word, 1 high byte, 2 low byte; in byte modes the other byte stays."""
+    if part == 0:
+        return number % 65536
+    return number % 256 * 256 + old % 256 if part == 1 else old // 256 * 256 + number % 256
+
+
+def records(table):
+    """A record with page FFFF ends the table."""
+    for at in range(0, len(table), RECORD):
+        b = table[at:at + RECORD]
+        if word(b, 0) == 0xFFFF:
+            return
+        yield Record(b)
+
+
+def judge_table(setup, table):
+    """0, 12 or 13; and the number of the first wrong record."""
+    if len(table) > MOST_RECORDS * RECORD or len(table) % RECORD != 0:
+        return 12, None
+    for number, record in enumerate(records(table)):
+        if not record.is_good(setup):
+            return 13, number
+    return 0, None
+
+
+# ---- The panel
+
+class Handed(NamedTuple):
+    """What asking for a report hands over: `14`, `nothing`, `B` or `F`, and how much acknowledgement and reply were written."""
+    what: str
+    report: Report = None
+    number: int = 0
+    acknowledged: int = 0
+    replied: int = 0
+
+
+def start(setup, table):
+    """The number, the record that 13 names, and the panel."""
+    if not setup.is_good():
+        return 11, None, None
+    number, wrong = judge_table(setup, table)
+    return number, wrong, Panel(setup) if number == 0 else None
+
+
+class Panel:
+    def __init__(self, setup):
+        self.setup, self.line, self.registers = setup, Line(setup), Registers(setup)
+        self.caught = None      # a copy of the slider's record
+
+    def give_byte(self, byte):
+        return self.line.give(byte)
+
+    def give_mark(self):
+        return self.line.give(None)
+
+    # ---- Commands
+
+    def report(self, words, room):
+        if len(words) != WORDS or len(room) < LEAST_ROOM:
+            return Handed("14")
+        if not self.line.waiting:
+            return Handed("nothing")
+        report = self.line.hand_over()
+        acknowledgement = b""
+        if self.setup.checking and self.setup.acknowledging:
+            acknowledgement = frame(self.setup, report.command, [0xFF if report.accepted else 0x00])
+        number, reply = 0, b""
+        if report.accepted:
+            number = self.judge(report.command, report.data)
+            if number == 0:
+                reply = self.perform(report.command, report.data, words)
+        written = acknowledgement + reply
+        room[:len(written)] = written
+        return Handed("F" if report.accepted else "B", report, number, len(acknowledgement), len(reply))
+
+    def judge(self, command, data):
+        """2 to 7: the first in order whose condition holds."""
+        if command not in (0x80, 0x81, 0x82, 0x83):
+            return 2
+        if not {0x80: len(data) >= 2, 0x81: len(data) == 2, 0x82: len(data) >= 4 and len(data) % 2 == 0, 0x83: len(data) == 3}[command]:
+            return 3
+        address = data[0] if command in (0x80, 0x81) else word(data, 0)
+        count = {0x80: len(data) - 1, 0x81: data[1], 0x82: (len(data) - 2) // 2, 0x83: data[-1]}[command]
+        if address + count > (256 if command in (0x80, 0x81) else WORDS):
+            return 4
+        if command == 0x80:
+            run = range(address, address + count)
+            if any(r not in Registers.WRITABLE for r in run) or (0x03 in run) != (0x04 in run):
+                return 5
+            value = dict(zip(run, data[1:]))
+            if value.get(0x01, 0) > 0x3F or (0x03 in run and value[0x03] * 256 + value[0x04] >= self.setup.pages):
+                return 6
+        if command in (0x81, 0x83):
+            length = 1 + len(data) + count * (1 if command == 0x81 else 2) + (2 if self.setup.checking else 0)
+            if length > 255:
+                return 7
+        return 0
+
+    def perform(self, command, data, words):
+        """A command that is not refused takes effect; its reply, if it has one."""
+        if command == 0x80:
+            self.registers.store(data[0], data[1:])
+            if data[0] <= 0x03 < data[0] + len(data) - 1:
+                self.caught = None
+            return b""
+        if command == 0x81:
+            return frame(self.setup, 0x81, data + self.registers.all()[data[0]:data[0] + data[1]])
+        address = word(data, 0)
+        if command == 0x82:
+            for i in range(2, len(data), 2):
+                words[address + i // 2 - 1] = word(data, i)
+            return b""
+        return frame(self.setup, 0x83, data + b"".join(two(w) for w in words[address:address + data[2]]))
+
+    # ---- Contact and lift
+
+    @property
+    def is_down(self):
+        return self.registers.status in (0x01, 0x03)
+
+    def contact(self, table, words, x, y):
+        """The number, and the record that 13 names. Order: 14, 1, 12, 13, 9, 8."""
+        if len(words) != WORDS:
+            return 14, None
+        if self.line.waiting:
+            return 1, None
+        number, wrong = judge_table(self.setup, table)
+        if number:
+            return number, wrong
+        if self.registers.enable == 0x00:
+            return 9, None
+        if x >= self.setup.width or y >= self.setup.height:
+            return 8, None
+        if self.is_down:
+            self.touched(0x03, x, y)
+            if self.caught:
+                words[self.caught.word] = self.caught.act(words[self.caught.word], x, y)
+        else:
+            self.touched(0x01, x, y)
+            self.press(table, words, x, y)
+        return 0, None
+
+    def touched(self, status, x, y):
+        r = self.registers
+        r.status = status
+        if r.flag != 0x5A:
+            r.x, r.y, r.flag = x, y, 0x5A
+
+    def press(self, table, words, x, y):
+        """The first record of the current page holding the point acts, then its next page is shown."""
+        for record in records(table):
+            if record.page == self.registers.page and record.holds(x, y):
+                words[record.word] = record.act(words[record.word], x, y)
+                if record.code == 0xFE03:
+                    self.caught = record
+                if record.has_next:
+                    self.registers.page = record.next
+                    self.caught = None
+                return
+
+    def lift(self):
+        if self.line.waiting:
+            return 1
+        if not self.is_down:
+            return 10
+        self.registers.status = 0x02
+        self.caught = None
+        return 0
+
+
+# ---- The trace program
+
+BODIES = {0x00: 9, 0x01: 1, 0x02: 0, 0x03: 4, 0x04: 0, 0x05: 32}
+
+
+class TraceEnds(Exception):
+    pass
+
+
+class Trace:
+    def __init__(self):
+        self.lines, self.setup, self.table, self.panel = [], None, b"", None
+        self.words, self.room = [0] * WORDS, bytearray(LEAST_ROOM)
+
+    def fail(self, *numbers):
+        self.lines.append("X " + " ".join(str(n) for n in numbers))
+        raise TraceEnds
+
+    def run(self, trace):
+        at = 0
+        while at < len(trace):
+            kind = trace[at]
+            is_setup, is_record = kind == 0x00, kind == 0x05
+            if kind not in BODIES or (self.setup is None) != is_setup or (is_record and self.panel):
+                self.fail(15)
+            body = trace[at + 1:at + 1 + BODIES[kind]]
+            if len(body) < BODIES[kind]:
+                self.fail(15)
+            at += 1 + len(body)
+            if is_setup:
+                self.setup = setup_of(body)
+            elif is_record:
+                self.table += body
+            else:
+                self.start()
+                self.event(kind, body)
+        if self.setup is None:
+            self.fail(15)
+        self.start()
+        self.lines.append(f"E {self.panel.registers.page:04X}")
+
+    def start(self):
+        if self.panel is None:
+            number, wrong, self.panel = start(self.setup, self.table)
+            if number == 13:
+                self.fail(13, wrong)
+            if number:
+                self.fail(number)
+
+    def event(self, kind, body):
+        if kind == 0x01:
+            self.panel.give_byte(body[0])
+        elif kind == 0x02:
+            self.panel.give_mark()
+        elif kind == 0x03:
+            self.lines.append(f"T {self.panel.contact(self.table, self.words, word(body, 0), word(body, 2))[0]}")
+        else:
+            self.lines.append(f"T {self.panel.lift()}")
+        while (handed := self.panel.report(self.words, self.room)).what != "nothing":
+            self.handed(handed)
+
+    def handed(self, handed):
+        command = f"{handed.report.command:02X}"
+        self.lines.append(f"F {command} {handed.number}" if handed.what == "F" else f"B {command}")
+        end = handed.acknowledged + handed.replied
+        for part in (self.room[:handed.acknowledged], self.room[handed.acknowledged:end]):
+            if part:
+                self.lines.append(f"O {part.hex(' ').upper()}")
+
+
+def trace_output(trace):
+    t = Trace()
+    try:
+        t.run(trace)
+    except TraceEnds:
+        pass
+    return "".join(line + "\n" for line in t.lines)
+
+
+# ---- Proved examples, and the printed trace
+
+PRINTED_TRACE = bytes.fromhex(
+    "00 5A A5 01 00 02 03 20 01 E0"
+    "05 00 00 00 0A 00 0A 00 64 00 32 FF 00 FF 00 FE 02 FE 00 10 00 01 00 00 05 00 00 00 64 01 00 00 00"
+    "01 5A 01 A5 01 05 01 81 01 00 01 01 01 E0 01 28 03 00 0B 00 0B 04")
+PRINTED_OUTPUT = "F 81 0\nO 5A A5 06 81 00 01 10 28 44\nT 0\nT 0\nE 0000\n"
+
+
+def given(setup, line):
+    """What a panel of this setup hands over for a line of bytes and marks (None), and its words."""
+    panel, words, room, handed = Panel(setup), [0] * WORDS, bytearray(LEAST_ROOM), []
+    for b in line:
+        panel.line.give(b)
+        while (h := panel.report(words, room)).what != "nothing":
+            handed.append((h.what, h.report.command, h.number))
+    return handed, words
+
+
+def example_step(around):
+    b = bytes(0x0E) + b"\xFE\x02\xFE\0\0\0\x01" + bytes([around]) + two(5) + two(0) + two(100) + b"\x01\0\0\0"
+    return Record(b).act(98, 0, 0)
+
+
+def example_slider(begin, end, x):
+    area = two(100) + two(0) + two(300) + two(0)
+    b = two(0) + area + two(0xFF00) + two(0xFF00) + two(0xFE03) + b"\xFE\0\0\0" + area + two(begin % 65536) + two(end % 65536)
+    return signed(Record(b).act(0, x, 0))
+
+
+def examples():
+    """Each: what, what 01 says, what the model says."""
+    on, off, acking = (Setup(0x5A, 0xA5, flags, 2, 800, 480) for flags in (1, 0, 3))
+    yield "trace", PRINTED_OUTPUT, trace_output(PRINTED_TRACE)
+    yield "a", 0xFFFF, check_value(b"")
+    yield "b", 0x28E0, check_value(b"\x81\x00\x01")
+    yield "c", "5aa50481ff21a0", frame(acking, 0x81, [0xFF]).hex()
+    yield "d", "5aa504810061e0", frame(acking, 0x81, [0x00]).hex()
+    yield "e", [("F", 0x81, 0)], given(on, [*bytes.fromhex("5AA540 5AA505810001E028"), None])[0]
+    yield "f", 500, given(off, bytes.fromhex("5AA50582001001F4"))[1][0x10]
+    yield "g", (100, 0), (example_step(0), example_step(1))
+    yield "h", (5, 995), (example_slider(0, 1000, 101), example_slider(1000, 0, 101))
+    yield "i", -5, example_slider(-10, 10, 150)
+    yield "j", (6, 7), (example_slider(0, 7, 299), example_slider(0, 7, 300))
+    for setup, count, number in ((on, 124, 0), (on, 125, 7), (off, 125, 0), (off, 126, 7)):
+        yield f"read {count}", [("F", 0x83, number)], given(setup, frame(setup, 0x83, [0, 0, count]))[0]
+    for count, number in ((1, 0), (2, 4)):
+        yield f"write {count} at 6FFF", [("F", 0x82, number)], given(on, frame(on, 0x82, [0x6F, 0xFF] + [1, 2] * count))[0]
+
+
+def check_examples():
+    wrong = [(what, printed, ours) for what, printed, ours in examples() if printed != ours]
+    for what, printed, ours in wrong:
+        print(f"example {what}: 01 says {printed!r}, the model {ours!r}")
+    if not wrong:
+        print(f"{len(list(examples()))} examples of 01: the model gives what is printed")
+    return 1 if wrong else 0
+
+
+if __name__ == "__main__":
+    if sys.argv[1:] == ["--examples"]:
+        sys.exit(check_examples())
+    if sys.argv[1:]:
+        sys.exit(__doc__)
+    sys.stdout.write(trace_output(sys.stdin.buffer.read()))

@@ -1,0 +1,758 @@
+#!/usr/bin/env python3
+"""Scripted calls of a whole panel, and what tests/model.py answers to them: the cases of the program panel_cases.
+
+    panel_model.py                       what panel_cases must print (crates/panel_cases/stdout)
+    panel_model.py --input               the script it reads (crates/panel_cases/stdin)
+    panel_model.py --reached             how often each number was given, and to what
+    panel_model.py --random SEED COUNT [--input | --reached]    the same for COUNT sessions drawn at random
+"""
+import collections
+import random
+import sys
+
+import model
+from model import RECORD, Setup, two
+
+ALL_WORDS, ALL_ROOM = 28700, 300
+NOTHING_WRONG = Setup(0x5A, 0xA5, 1, 16, 800, 480)
+
+
+class Script:
+    """Calls, as the program reads them, and the lines that the model answers. The arrays are the caller's, as in the program."""
+
+    def __init__(self):
+        self.input, self.lines, self.reached = bytearray(), [], collections.Counter()
+        self.panel, self.table, self.n_words, self.n_room = None, b"", 28672, 265
+        self.words, self.room = [0] * ALL_WORDS, bytearray(b"\xEE" * ALL_ROOM)
+
+    def call(self, letter, arguments, line=None):
+        self.input += letter.encode() + bytes(arguments)
+        if line is not None:
+            self.lines.append(line)
+
+    def count(self, call, number):
+        self.reached[f"{call} {number}"] += 1
+
+    def count_waiting(self):
+        if len(self.panel.line.waiting) > 1:
+            self.count("inputs after which", "several reports wait")
+
+    def count_contact(self, was_down, page, caught, x, y):
+        """What a contact that was not refused did."""
+        if was_down:
+            self.count("contact while down:", "a slider caught" if caught else "none caught")
+            return
+        acted = next((r for r in model.records(self.table) if r.page == page and r.holds(x, y)), None)
+        if acted is None:
+            self.count("contact while up:", "no record")
+            return
+        kind = {0xFE05: "key", 0xFE02: "step", 0xFE03: "slider"}[acted.code]
+        self.count(f"contact while up: {kind} mode", f"{acted.mode:02X}{', next page' if acted.has_next else ''}")
+
+    def title(self, text):
+        self.call("#", bytes([len(text)]) + text.encode(), f"# {text}")
+
+    def lend_table(self, table):
+        self.table = bytes(table)
+        self.call("T", two(len(self.table)) + self.table)
+
+    def lend(self, words=28672, room=265):
+        self.n_words, self.n_room = words, room
+        self.call("L", two(words) + two(room))
+
+    def set_word(self, address, value):
+        self.words[address] = value
+        self.call("K", two(address) + two(value))
+
+    def start(self, setup, table=None):
+        if table is not None:
+            self.lend_table(table)
+        number, wrong, panel = model.start(setup, self.table)
+        self.panel = panel or self.panel
+        self.count("start", number)
+        self.call("S", bytes((setup.h1, setup.h2, setup.flags)) + two(setup.pages) + two(setup.width) + two(setup.height),
+                  f"S {number}" + (f" {wrong}" if number == 13 else ""))
+
+    def byte(self, b):
+        number = self.panel.give_byte(b)
+        self.count("byte", number)
+        self.count_waiting()
+        self.call("B", [b], f"B {number}")
+
+    def bytes(self, given):
+        used = 0
+        while used < len(given) and self.panel.give_byte(given[used]) == 0:
+            used += 1
+        self.count_waiting()
+        self.call("G", two(len(given)) + bytes(given), f"G {used}")
+        return used
+
+    def mark(self):
+        number = self.panel.give_mark()
+        self.count("mark", number)
+        self.count_waiting()
+        self.call("M", b"", f"M {number}")
+
+    def ask(self):
+        words, room, caught = self.words[:self.n_words], self.room[:self.n_room], self.panel.caught
+        h = self.panel.report(words, room)
+        if caught:
+            self.count("ask while a slider is caught:", "kept" if self.panel.caught else "dropped")
+        self.words[:self.n_words], self.room[:self.n_room] = words, room
+        line, end = h.what, h.acknowledged + h.replied
+        acknowledgement, reply = spelled(room[:h.acknowledged]), spelled(room[h.acknowledged:end])
+        if h.what == "F":
+            line = f"F {h.report.command:02x} {h.number} data{spelled(h.report.data)} acknowledgement{acknowledgement} reply{reply}"
+            self.count(f"command {h.report.command:02X}" if h.number != 2 else "command", h.number)
+        elif h.what == "B":
+            line = f"B {h.report.command:02x} acknowledgement{acknowledgement}"
+        self.count("ask", h.what)
+        self.call("?", b"", f"? {line} room {sum_of(self.room)}")
+        return h.what not in ("14", "nothing")
+
+    def ask_all(self):
+        while self.ask():
+            pass
+
+    def contact(self, x, y):
+        words = self.words[:self.n_words]
+        before = self.panel.is_down, self.panel.registers.page, self.panel.caught
+        number, wrong = self.panel.contact(self.table, words, x, y)
+        self.words[:self.n_words] = words
+        self.count("contact", number)
+        if number == 0:
+            self.count_contact(*before, x, y)
+        self.call("C", two(x) + two(y), f"C {number}" + (f" {wrong}" if number == 13 else ""))
+
+    def lift(self):
+        number = self.panel.lift()
+        self.count("lift", number)
+        self.call("U", b"", f"U {number}")
+
+    def register(self, address):
+        self.call("R", [address], f"R {address:02x} {self.panel.registers.all()[address]:02x}")
+
+    def word(self, address):
+        self.call("V", two(address), f"V {address:04x} {self.words[address]:04x}")
+
+    def all(self):
+        r = self.panel.registers
+        self.call("D", b"", f"D{spelled(r.all())} page {r.page:04x} backlight {r.backlight:02x} buzzer {r.buzzer:02x} words {sum_of(self.words)}")
+
+    # Calls that belong together
+
+    def send(self, command, data, ask=True):
+        self.bytes(model.frame(self.panel.setup, command, bytes(data)))
+        if ask:
+            self.ask_all()
+
+    def send_bad(self, command, data, ask=True):
+        """With a wrong check value, and a mark, so that nothing of it stays."""
+        b = bytearray(model.frame(self.panel.setup, command, bytes(data)))
+        b[-1] ^= 0x40
+        self.bytes(b)
+        if ask:
+            self.ask_all()
+            self.mark()
+            self.ask_all()
+
+
+def sum_of(numbers):
+    """As the program sums up what it does not print."""
+    total = 1
+    for n in numbers:
+        total = (total * 31 + n) % 65521
+    return total
+
+
+def spelled(b):
+    return "".join(f" {x:02x}" for x in b)
+
+
+# ---- Records
+
+def record(code, page=0, area=(100, 50, 300, 250), after=0xFF00, address=0x0010, mode=0, rest=b""):
+    head = two(page) + b"".join(two(n) for n in area) + two(after) + two(0xFF00) + two(code) + b"\xFE" + two(address) + bytes([mode])
+    return (head + rest).ljust(RECORD, b"\0")
+
+
+def key(code=0x1234, **fields):
+    return record(0xFE05, rest=two(code), **fields)
+
+
+def step(up=1, around=0, by=5, least=0, greatest=100, **fields):
+    return record(0xFE02, rest=bytes((up, around)) + two(by) + two(least % 65536) + two(greatest % 65536) + b"\x01", **fields)
+
+
+def slider(begin=0, end=1000, area=(100, 50, 300, 250), **fields):
+    return record(0xFE03, area=area, rest=b"".join(two(n) for n in area) + two(begin % 65536) + two(end % 65536), **fields)
+
+
+WRONG = bytes(RECORD)
+END = b"\xFF\xFF" + bytes(30)
+
+
+# ---- The cases
+
+def starts(s):
+    s.title("start: 11 at each limit")
+    base = NOTHING_WRONG
+    for flags in (0, 1, 2, 3, 4, 255):
+        s.start(base._replace(flags=flags), b"")
+        s.register(0x12)
+        s.register(0x1C)
+    for field, numbers in (("pages", (0, 1, 65280, 65281, 65535)), ("width", (0, 1, 1024, 1025)), ("height", (0, 1, 768, 769))):
+        for n in numbers:
+            s.start(base._replace(**{field: n}), b"")
+    s.title("start: 11 before 12 before 13, the first wrong record named")
+    for setup in (base, base._replace(flags=4)):
+        for table in (key() * 128, key() * 129, key()[:31], WRONG + b"\0", key() + WRONG + WRONG, END + WRONG, key() * 127 + WRONG, key() + END + b"\0"):
+            s.start(setup, table)
+    s.title("what a started panel reads")
+    s.start(base._replace(h1=0xC3, h2=0x3C, flags=3), b"")
+    s.all()
+
+
+def lengths(s):
+    s.title("command and data length: 2, 3")
+    for command in (0x00, 0x7F, 0x84, 0xFF):
+        for data in (b"", b"\x01\x02", b"\xFF" * 4):
+            s.send(command, data)
+    for command in (0x80, 0x81, 0x82, 0x83):
+        for n in range(7):
+            s.send(command, [0x01] * n)
+        for n in (model.data_limit(s.panel.setup) - 1, model.data_limit(s.panel.setup)):
+            s.send(command, [0x05] * n)
+    s.all()
+    s.title("3 before 4: past the end and a wrong length")
+    s.send(0x81, [0xFF, 0xFF, 0x00])
+    s.send(0x82, [0xFF, 0xFF])
+    s.send(0x82, [0xFF, 0xFF, 1, 2, 3])
+    s.send(0x83, [0xFF, 0xFF])
+    s.send(0x83, [0xFF, 0xFF, 1, 1])
+
+
+def register_writes(s):
+    s.title("write registers: each address, one byte and two")
+    for address in [*range(0x20), 0x4F, 0xEB, 0xFE, 0xFF]:
+        s.send(0x80, [address, 0x07])
+        s.send(0x80, [address, 0x00, 0x06])
+    s.all()
+    s.title("write registers: 4 before 5, 5 before 6, 6")
+    for data in ([0xFF, 1, 2], [0xFE, 1, 2, 3], [0x0B] + [1] * 246, [0x0B] + [1] * 245, [0x06] + [0] * 250, [0x06] + [0] * 251):
+        s.send(0x80, data[:model.data_limit(s.panel.setup)])
+    for data in ([0x00, 0x40], [0x00, 0x10, 0x40], [0x01, 0x40, 0, 0], [0x01, 0x40, 0x00, 0xFF], [0x04, 0xFF], [0x03, 0xFF], [0x03, 0xFF, 0xFF, 0, 0]):
+        s.send(0x80, data)
+    for light in (0x00, 0x3E, 0x3F, 0x40, 0xFF):
+        s.send(0x80, [0x01, light])
+        s.register(0x01)
+    s.title("write the page: both bytes, half, in a longer run, below P and not")
+    for data in ([0x03, 0, 15], [0x03, 0, 16], [0x03, 1, 0], [0x03, 0xFF, 0xFF], [0x03, 0], [0x04, 1], [0x02, 9, 0], [0x04, 1, 2],
+                 [0x02, 8, 0, 3], [0x03, 0, 4, 0x11], [0x01, 0x20, 7, 0, 5, 0x22], [0x01, 0x40, 7, 0, 6, 0x22], [0x01, 0x20, 7, 0, 16, 0x22],
+                 [0x01, 0x20, 7, 0, 5, 0x22, 0], [0x02, 8, 0, 16]):
+        s.send(0x80, data)
+        s.send(0x81, [0x00, 0x0D])
+    s.all()
+
+
+def register_reads(s):
+    s.title("read registers: the end, 7 at the limit, 4 before 7")
+    most = 250 if s.panel.setup.checking else 252
+    for address, count in ((0, 0), (255, 0), (255, 1), (255, 2), (254, 2), (0, 1), (3, 2), (0x10, 0x0D), (0, 248), (0, 249), (0, 250), (0, 251),
+                           (0, 252), (0, 253), (0, 254), (0, 255), (1, 255), (2, 255), (256 - most, most), (256 - most, most + 1),
+                           (255 - most, most + 1), (128, 128), (128, 129), (0xFF, 0xFF)):
+        s.send(0x81, [address, count])
+
+
+def word_calls(s):
+    s.title("write words: the end")
+    for address, values in ((0x0000, [0x0102]), (0x6FFF, [0xABCD]), (0x6FFF, [1, 2]), (0x7000, [1]), (0xFFFF, [1]), (0x6FFE, [3, 4]),
+                            (0x1000, range(100)), (0x6F84, range(124)), (0x6F85, range(124)), (0x6F84, range(125))):
+        s.send(0x82, (two(address) + b"".join(two(v) for v in values))[:model.data_limit(s.panel.setup) // 2 * 2])
+    s.word(0x6FFE)
+    s.word(0x6FFF)
+    s.word(0x7000)
+    s.all()
+    s.title("read words: the end, 7 at the limit, 4 before 7")
+    for address, count in ((0x0000, 1), (0x6FFF, 1), (0x6FFF, 2), (0x7000, 0), (0x7001, 0), (0x7000, 1), (0xFFFF, 0), (0xFFFF, 255), (0x0000, 0),
+                           (0x0000, 123), (0x0000, 124), (0x0000, 125), (0x0000, 126), (0x0000, 255), (0x6F84, 124), (0x6F85, 124), (0x6F83, 125),
+                           (0x6F84, 125), (0x6F82, 126), (0x6F01, 255), (0x6F02, 255), (0x1000, 100)):
+        s.send(0x83, two(address) + bytes([count]))
+
+
+def checks(s):
+    s.title("bad checks, and a good frame inside one")
+    for command in (0x81, 0x82, 0x00):
+        s.send_bad(command, [0x00, 0x01])
+    inner = model.frame(s.panel.setup, 0x81, [0x03, 0x02])
+    s.send_bad(0x82, b"\x00\x20" + inner + b"\x00")
+    s.send_bad(0x82, b"\x00\x20" + inner * 3 + inner[:5])
+    s.all()
+
+
+def commands(s):
+    for flags in range(4):
+        s.start(NOTHING_WRONG._replace(flags=flags), b"")
+        s.title(f"commands with flags {flags}")
+        s.lend(28672, 265)
+        for group in (lengths, register_writes, register_reads, word_calls):
+            group(s)
+        if s.panel.setup.checking:
+            checks(s)
+    for h1, h2 in ((0x81, 0x81), (0xFF, 0xFF), (0x00, 0x00)):
+        s.start(NOTHING_WRONG._replace(h1=h1, h2=h2, flags=3), b"")
+        s.title(f"header {h1:02X} {h2:02X}")
+        s.send(0x81, [0x12, 0x09])
+        s.send(0x82, [0, 5, h1, h2, h1, h2])
+        s.send(0x83, [0, 5, 2])
+
+
+def lent(s):
+    for flags in (0, 3):
+        s.start(NOTHING_WRONG._replace(flags=flags), b"")
+        s.title(f"asking, lent too little, flags {flags}")
+        for waits in ("nothing", "a read", "a bad check", "an unknown command", "a write"):
+            if waits == "a bad check" and not s.panel.setup.checking:
+                continue
+            s.title(f"{waits} waits")
+            for words, room in ((28671, 265), (28673, 265), (28672, 264), (28671, 264), (0, 0), (28672, 0), (28672, 300), (28672, 266), (28672, 265)):
+                if waits == "a read":
+                    s.send(0x81, [0, 13], ask=False)
+                elif waits == "a bad check":
+                    s.send_bad(0x81, [0, 13], ask=False)
+                elif waits == "an unknown command":
+                    s.send(0x77, [0, 13], ask=False)
+                elif waits == "a write":
+                    s.send(0x82, [0, 9, words % 256, room % 256], ask=False)
+                s.lend(words, room)
+                s.ask()
+                s.lend()
+                s.ask_all()
+                s.mark()
+                s.ask_all()
+                s.word(9)
+
+
+def waiting(s):
+    s.title("inputs while a report waits")
+    s.start(NOTHING_WRONG._replace(flags=3), slider() + key(page=1))
+    for what in range(2):
+        (s.send_bad if what else s.send)(0x80, [0x02, 0x09], ask=False)
+        s.byte(0x5A)
+        s.bytes(b"\x5A\xA5")
+        s.mark()
+        s.contact(150, 100)
+        s.contact(900, 900)
+        s.lift()
+        s.title("contact: 14 before 1, 1 before 12 and 13")
+        s.lend(28671, 265)
+        s.contact(150, 100)
+        s.lend()
+        for table in (b"\0", WRONG):
+            s.lend_table(table)
+            s.contact(150, 100)
+        s.lend_table(slider() + key(page=1))
+        s.all()
+        s.ask_all()
+        s.mark()
+        s.ask_all()
+        s.all()
+    s.title("lift while down and a report waits")
+    s.contact(150, 100)
+    s.send(0x81, [0x05, 0x06], ask=False)
+    s.lift()
+    s.contact(200, 100)
+    s.ask_all()
+    s.lift()
+    s.lift()
+    s.title("bytes given at once stop at the report")
+    many = b"".join(model.frame(s.panel.setup, 0x82, [0, n, 1, n]) for n in range(4))
+    while many:
+        many = many[s.bytes(many):]
+        s.ask_all()
+    s.title("several reports of a closed stretch, inputs between")
+    outer = bytearray(model.frame(s.panel.setup, 0x80, [2]))[:3]
+    outer[2] = 0xF0
+    s.bytes(bytes(outer))
+    s.bytes(b"".join(model.frame(s.panel.setup, 0x82, [1, n, 2, n]) for n in range(3)))
+    s.mark()
+    for _ in range(4):
+        s.byte(0x11)
+        s.mark()
+        s.contact(1, 1)
+        s.lift()
+        s.ask()
+    s.mark()
+    s.mark()
+    s.all()
+
+
+def refused_contacts(s):
+    s.title("contact: 12 before 13 before 9 before 8, up and down")
+    s.start(NOTHING_WRONG, b"")
+    good = slider() + key(page=1)
+    for down in (False, True):
+        if down:
+            s.lend_table(good)
+            s.send(0x80, [0x0B, 0x01])
+            s.contact(150, 100)
+        for enable in (0x01, 0x00):
+            s.send(0x80, [0x0B, enable])
+            for x, y in ((150, 100), (799, 479), (800, 0), (0, 480), (799, 480), (800, 479), (65535, 65535)):
+                for table in (good, good + b"\0", good + WRONG, WRONG[1:], WRONG + b"\0", good + END + WRONG):
+                    s.lend_table(table)
+                    s.contact(x, y)
+                    if not down:
+                        s.lift()
+            s.lend(28671, 265)
+            s.contact(800, 480)
+            s.lend(28673, 265)
+            s.contact(150, 100)
+            s.lend()
+            s.all()
+    s.title("lift with touch off")
+    s.lift()
+    s.lift()
+    s.all()
+    s.send(0x80, [0x0B, 0xFF])
+    s.title("tables at contact: lengths and the end record")
+    for table in (b"", key() * 128, key() * 129, key()[:31], key() + key()[:1], END, END + key(), key() * 127 + WRONG, key() * 3 + WRONG + key() + WRONG,
+                  END + bytes(RECORD * 128), WRONG + END):
+        s.lend_table(table)
+        s.contact(100, 50)
+        s.lift()
+    s.all()
+
+
+def acting(s):
+    s.title("keys, steps and sliders in each mode, edges, first record, next page")
+    s.start(NOTHING_WRONG, b"")
+    for mode in (0, 1, 2):
+        s.set_word(0x10, 0xABCD)
+        s.lend_table(key(code=0x5678, mode=mode))
+        s.contact(100, 50)
+        s.lift()
+        s.word(0x10)
+        for up in (0, 1):
+            for around in (0, 1):
+                for old in (0x0000, 0x0303, 0x5F60, 0x6464, 0x6262, 0x6060, 0xFFFF, 0x7FFF, 0x8000):
+                    s.set_word(0x10, old)
+                    s.lend_table(step(up=up, around=around, mode=mode))
+                    s.contact(300, 250)
+                    s.lift()
+                    s.word(0x10)
+        if mode == 0:
+            for up, by, least, greatest, old in ((1, 1000, -32768, 32767, 32000), (0, 1000, -32768, 32767, 33000), (1, 32767, -5, 5, 0), (0, 32767, -5, 5, 0)):
+                for around in (0, 1):
+                    s.set_word(0x10, old)
+                    s.lend_table(step(up=up, around=around, by=by, least=least, greatest=greatest))
+                    s.contact(200, 200)
+                    s.lift()
+                    s.word(0x10)
+    for mode in (0x00, 0x01, 0x10, 0x11, 0x20, 0x21):
+        for begin, end in ((0, 255), (255, 0), (7, 7)) + (((-30000, 30000), (30000, -30000), (-10, 10)) if mode < 0x10 else ()):
+            s.set_word(0x10, 0xABCD)
+            s.lend_table(slider(begin=begin, end=end, mode=mode))
+            for x, y in ((100, 50), (101, 51), (150, 100), (299, 249), (300, 250), (0, 0), (799, 479), (200, 479), (0, 150)):
+                s.contact(x, y)
+                s.word(0x10)
+            s.lift()
+    s.title("the edges, and the first record of the current page")
+    s.lend_table(key(code=1, page=1) + key(code=2, area=(100, 50, 100, 50)) + key(code=3, area=(100, 50, 101, 51), after=1) + key(code=4, area=(0, 0, 799, 479)))
+    for x, y in ((100, 50), (101, 50), (101, 51), (99, 50), (102, 51), (100, 49), (100, 52)):
+        s.set_word(0x10, 0)
+        s.contact(x, y)
+        s.lift()
+        s.word(0x10)
+        s.register(0x04)
+        s.send(0x80, [0x03, 0, 0])
+    s.title("key, step with a next page, also its own; the page they name acts next")
+    s.lend_table(key(code=1, page=0, after=1) + step(page=1, after=2) + key(code=9, page=2, after=2, address=0x6FFF))
+    for _ in range(4):
+        s.contact(150, 100)
+        s.contact(151, 100)
+        s.lift()
+        s.all()
+    s.send(0x81, [0x00, 0x20])
+
+
+def catching(s):
+    def caught(table=slider(), x=150):
+        """A slider caught at x."""
+        s.lend_table(table)
+        s.contact(x, 100)
+        s.word(0x10)
+
+    def moved(x):
+        s.contact(x, 100)
+        s.word(0x10)
+
+    s.title("the catch is kept: moving, off its area, off the screen, under another table and an empty one")
+    s.start(NOTHING_WRONG, b"")
+    caught()
+    for x in (200, 99, 0, 301, 799, 800, 250):
+        moved(x)
+    s.lend_table(slider(begin=500, end=0, address=0x11) + key(page=0))
+    moved(220)
+    s.lend_table(b"")
+    moved(230)
+    s.word(0x11)
+    s.title("a wrong table while caught is refused, and the catch is kept")
+    for table in (WRONG, b"\0"):
+        s.lend_table(table)
+        moved(120)
+    s.lend_table(b"")
+    moved(121)
+    s.title("dropped by a lift")
+    s.lift()
+    moved(200)
+    moved(210)
+    s.lift()
+    s.title("kept by writes that are not of the page, and by refused ones")
+    caught()
+    for data in ([0x02, 5], [0x05, 0], [0x01, 0x10, 0x10], [0x03, 0], [0x03, 0, 16], [0x04, 0], [0x01, 0x40, 0, 0, 0]):
+        s.send(0x80, data)
+        moved(160 + data[0])
+        s.send(0x81, [3, 2])
+    s.send(0x82, [0, 0x10, 0x11, 0x11])
+    s.send(0x83, [0, 0x10, 1])
+    moved(190)
+    s.lift()
+    for data in ([0x03, 0, 0], [0x03, 0, 7], [0x03, 0, 7], [0x02, 1, 0, 0], [0x01, 0x3F, 0, 0, 0, 0], [0x03, 0, 0, 0x5A]):
+        s.title(f"dropped by the page write{spelled(data)}")
+        s.send(0x80, [0x03, 0, 0])
+        caught()
+        s.send(0x80, data)
+        moved(250)
+        moved(260)
+        s.lift()
+    s.title("no catch from a key or a step; a next page of the same number")
+    s.send(0x80, [0x03, 0, 0])
+    for table in (key(), step(), key(after=0), step(after=0) + slider()):
+        caught(table)
+        moved(220)
+        s.lift()
+    s.title("touch off while dragging: 9, the catch kept")
+    caught()
+    s.send(0x80, [0x0B, 0])
+    moved(200)
+    s.send(0x80, [0x0B, 0x55])
+    moved(210)
+    s.send(0x80, [0x0B, 0])
+    s.lift()
+    s.send(0x80, [0x0B, 1])
+    moved(220)
+    s.lift()
+    s.title("off the screen while caught: 8, the catch kept")
+    caught()
+    for x in (800, 65535):
+        moved(x)
+    moved(180)
+    s.lift()
+    s.title("the flag 5A freezes the place, not the status nor what is stored")
+    for flag in (0x5A, 0x00, 0xFF, 0x5B, 0xA5):
+        s.send(0x80, [0x05, flag])
+        for x in (110, 120):
+            s.lend_table(slider())
+            moved(x)
+            s.send(0x81, [0x05, 0x06])
+        s.send(0x80, [0x05, flag])
+        moved(130)
+        s.send(0x81, [0x05, 0x06])
+        s.lift()
+        s.send(0x81, [0x05, 0x06])
+        s.lift()
+    s.all()
+
+
+def reading(s):
+    s.title("noise, cut frames, marks; only what is a frame takes effect")
+    for flags in (0, 1, 3):
+        s.start(NOTHING_WRONG._replace(flags=flags), b"")
+        one = model.frame(s.panel.setup, 0x82, [0, 1, 0, 1])
+        two_ = model.frame(s.panel.setup, 0x81, [0x00, 0x02])
+        for line in (one + two_, b"\x5A" + one, b"\x5A\xA5" + one, b"\x5A\xA5\xFF" + one + two_, b"\x00\xFF" + one[:-1] + two_, one[:-1], b"\x5A\xA5\x00" + one,
+                     b"\x5A\xA5\x02" + two_, b"\x5A\xA5\x03" + two_, b"\x5A\xA5\x01" + two_, b"\x5A\x5A\xA5" + two_[2:]):
+            rest = line
+            while rest:
+                rest = rest[s.bytes(rest):]
+                s.ask_all()
+            s.mark()
+            s.ask_all()
+        for b in two_:
+            s.byte(b)
+        s.ask_all()
+        s.all()
+
+
+def limits(s):
+    s.title("the largest page number, and the only one")
+    for pages, numbers in ((65280, (0xFEFF, 0xFF00, 0xFFFF)), (1, (0, 1, 0x0100)), (257, (0x00FF, 0x0100, 0x0101))):
+        s.start(NOTHING_WRONG._replace(pages=pages), b"")
+        for n in numbers:
+            s.send(0x80, b"\x03" + two(n))
+            s.send(0x81, [0x03, 0x02])
+    s.title("the largest screen and the smallest")
+    for width, height in ((1024, 768), (1, 1), (1024, 1), (1, 768)):
+        s.start(NOTHING_WRONG._replace(width=width, height=height), key(area=(0, 0, width - 1, height - 1), code=width))
+        for x, y in ((width - 1, height - 1), (width, height - 1), (width - 1, height), (0, 0)):
+            s.set_word(0x10, 0)
+            s.contact(x, y)
+            s.send(0x81, [0x05, 0x06])
+            s.send(0x80, [0x05, 0x00])
+            s.lift()
+            s.word(0x10)
+    s.title("no bytes, and bytes after which a report waits at once")
+    s.bytes(b"")
+    s.send(0x81, [0x00, 0x01], ask=False)
+    s.bytes(b"")
+    s.bytes(b"\x00")
+    s.ask_all()
+
+
+GROUPS = (limits, starts, commands, lent, waiting, refused_contacts, acting, catching, reading)
+
+
+def fixed():
+    s = Script()
+    for group in GROUPS:
+        s.lend()
+        group(s)
+    return drawn(1, 12, s)
+
+
+# ---- Sessions drawn at random
+
+def drawn(seed, count, s=None):
+    s, r = s or Script(), random.Random(seed)
+    for session in range(count):
+        s.title(f"drawn {seed} {session}")
+        s.lend()
+        draw_session(s, r)
+    return s
+
+
+def some_record(r):
+    page, after, address = r.choice((0, 0, 0, 1, 1, 2)), r.choice((0xFF00, 0xFFFF, 0, 1, 2)), r.choice((0x10, 0x10, 0x11, 0x12, 0x6FFF))
+    x, y, wide, high = r.choice((0, 100)), r.choice((0, 50)), r.choice((0, 1, 7, 200)), r.choice((0, 1, 7, 200))
+    fields = dict(page=page, address=address, area=(x, y, x + wide, y + high))
+    kind = r.randrange(3)
+    if kind == 0:
+        b = key(code=r.randrange(65536), mode=r.randrange(3), after=after, **fields)
+    elif kind == 1:
+        mode = r.randrange(3)
+        ends = sorted(r.randrange(256) for _ in range(2)) if mode else sorted(r.randrange(-32768, 32768) for _ in range(2))
+        b = step(up=r.randrange(2), around=r.randrange(2), by=r.choice((1, 5, 300, 32767)), least=ends[0], greatest=ends[1], mode=mode, after=after, **fields)
+    else:
+        mode = r.choice((0x00, 0x01, 0x10, 0x11, 0x20, 0x21))
+        begin, end = (r.randrange(256) if mode > 1 else r.randrange(-32768, 32768) for _ in range(2))
+        b = slider(begin=begin, end=end, mode=mode, **dict(fields, area=(x, y, x + wide + 1, y + high + 1)))
+    if r.random() < 0.02:
+        b = bytearray(b)
+        b[r.randrange(32)] = r.randrange(256)
+    return bytes(b)
+
+
+def some_table(r):
+    table = b"".join(some_record(r) for _ in range(r.choice((0, 1, 2, 3, 6))))
+    return table + r.choice((b"",) * 12 + (END, END + WRONG, b"\0"))
+
+
+def some_data(r, command):
+    if command == 0x80:
+        return r.choice((
+            [0x05, r.choice((0, 0x5A))], [0x0B, r.choice((0, 1, 1, 1))], [0x03, 0, r.choice((0, 0, 1, 1, 2, 3))], [0x01, r.randrange(0x44)],
+            [0x01, r.randrange(0x44), r.randrange(256), 0, r.randrange(4), r.choice((0, 0x5A))],
+            [r.randrange(0x0D)] + [r.randrange(256) for _ in range(r.randrange(6))], [0xFF, 1, 1]))
+    if command == 0x81:
+        return [r.choice((0, 3, 5, r.randrange(256))), r.choice((0, 2, 6, 13, r.randrange(256)))] + r.choice(([],) * 9 + ([0],))
+    address = two(r.choice((0x10, 0x11, 0x0F, 0x6FFE, 0x6FFF, 0x7000, r.randrange(65536))))
+    if command == 0x82:
+        return address + bytes(r.randrange(256) for _ in range(r.choice((0, 1, 2, 2, 2, 4, 4, 6, 7, 100, 248))))
+    if command == 0x83:
+        return address + bytes([r.choice((0, 1, 2, 3, 100, 124, 125, 126, 255))]) + r.choice((b"",) * 9 + (b"\0",))
+    return [r.randrange(256) for _ in range(r.randrange(4))]
+
+
+def some_frame(s, r):
+    command = r.choice((0x80, 0x80, 0x80, 0x81, 0x82, 0x82, 0x83, 0x83, r.randrange(256)))
+    b = bytearray(model.frame(s.panel.setup, command, bytes(some_data(r, command))))
+    what = r.random()
+    if what < 0.06:
+        b[r.randrange(len(b))] ^= 1 << r.randrange(8)
+    elif what < 0.09:
+        del b[r.randrange(len(b))]
+    elif what < 0.12:
+        b = bytearray(s.panel.setup.header) + bytes([r.choice((0, 1, 2, 3, 8, 40, 255))]) + b
+    return bytes(b)
+
+
+def some_point(s, r):
+    """Mostly in or beside a record of the page that is shown, where the table has one."""
+    whole = s.table if len(s.table) % RECORD == 0 else b""
+    here = [b.area for b in model.records(whole) if b.page == s.panel.registers.page]
+    if here and r.random() < 0.7:
+        xs, ys, xe, ye = r.choice(here)
+        beside = r.choice((0, 0, 0, 1))
+        return tuple(min(max(r.randint(*sorted(ends)) + r.randint(-beside, beside), 0), 65535) for ends in ((xs, xe), (ys, ye)))
+    return r.choice((0, 1, 99, 100, 101, r.randrange(310), 319, 320)), r.choice((0, 49, 50, 51, r.randrange(260), 269, 270))
+
+
+def draw_session(s, r):
+    pairs = ((0x5A, 0xA5), (0x5A, 0xA5), (0xFF, 0xFF), (0x80, 0x03), (0, 0))
+    s.start(Setup(*r.choice(pairs), r.choice((0, 1, 1, 2, 3, 3, 3)), 3, 320, 270), b"")
+    s.lend_table(some_table(r))
+    for _ in range(r.randrange(20, 60)):
+        what = r.random()
+        if what < 0.35:
+            line = b"".join(some_frame(s, r) for _ in range(r.choice((1, 1, 2, 3))))
+            for _ in range(20):
+                line = line[s.bytes(line):]
+                if not line:
+                    break
+                if r.random() < 0.9:
+                    s.ask()
+            if r.random() < 0.85:
+                s.ask_all()
+        elif what < 0.65:
+            if r.random() < 0.7:
+                s.ask_all()
+            s.contact(*some_point(s, r))
+        elif what < 0.75:
+            s.lift()
+        elif what < 0.80:
+            s.mark()
+        elif what < 0.84:
+            s.lend_table(some_table(r))
+        elif what < 0.86:
+            s.byte(r.choice((0, 0x5A, 0xA5, 0xFF, 3, r.randrange(256))))
+        elif what < 0.88:
+            s.lend(r.choice((28671, 28672, 28672)), r.choice((264, 265, 300)))
+            s.ask()
+            s.contact(r.randrange(320), r.randrange(270))
+            s.lend()
+        elif what < 0.90:
+            s.set_word(r.choice((0x10, 0x11, 0x12)), r.randrange(65536))
+        else:
+            s.ask_all()
+    s.all()
+    s.ask_all()
+
+
+def main(arguments):
+    options = {"--input", "--reached"} & set(arguments)
+    rest = [a for a in arguments if a not in options]
+    if len(options) > 1 or (rest and (rest[0] != "--random" or len(rest) != 3)):
+        sys.exit(__doc__)
+    s = drawn(int(rest[1]), int(rest[2])) if rest else fixed()
+    if "--input" in options:
+        sys.stdout.buffer.write(s.input)
+    elif "--reached" in options:
+        for what, times in sorted(s.reached.items()):
+            print(f"{times:6} {what}")
+    else:
+        sys.stdout.write("".join(line + "\n" for line in s.lines))
+
+
+if __name__ == "__main__":
+    main(sys.argv[1:])
