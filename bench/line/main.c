@@ -1,9 +1,6 @@
-/* Bytes per second of the proved reader against the plain one, on the same buffers, in turns. No headers: the kit's clang has none. */
+/* Bytes per second of the proved reader against the plain one, on the same buffers, in turns. */
 #include "plain.h"
-
-int printf(const char *, ...);
-struct timespec { long sec, nsec; };
-int clock_gettime(int, struct timespec *);
+#include "../measure.h"
 
 /* The proved reader: crate line_bench. A slice is a pointer and a length. */
 unsigned long line_bench_chunks(unsigned char h1, unsigned char h2, _Bool checking, const unsigned char *s, unsigned long n, unsigned long chunk);
@@ -29,14 +26,6 @@ static __attribute__((noinline)) unsigned long plain_run(const unsigned char *s,
         }
     }
     return sum;
-}
-
-static unsigned int seed = 1;
-static unsigned int draw(unsigned int below) {
-    seed ^= seed << 13;
-    seed ^= seed >> 17;
-    seed ^= seed << 5;
-    return (seed >> 8) % below;
 }
 
 /* Good frames end to end, header 5A A5, checking on, any command, `least` to `most` data bytes, all drawn; the last may be cut. */
@@ -68,12 +57,6 @@ static void pairs(void) {
         if (at < SIZE) buffer[at++] = 0x5A;
         if (at < SIZE) buffer[at++] = 0xA5;
     }
-}
-
-static double now(void) {
-    struct timespec t;
-    clock_gettime(1, &t);
-    return t.sec + t.nsec * 1e-9;
 }
 
 static volatile unsigned long kept;

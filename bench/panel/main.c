@@ -1,10 +1,8 @@
 /* Writes (82) and reads (83) of 100 words through the proved panel and through a plain C one of the same rules, in turns, on the same stream:
    frames end to end, header 5A A5, checking on, addresses and words drawn with a fixed seed before the first turn. */
 #include "../line/plain.h"
+#include "../measure.h"
 
-int printf(const char *, ...);
-struct timespec { long sec, nsec; };
-int clock_gettime(int, struct timespec *);
 unsigned long panel_bench_stream(const unsigned char *s, unsigned long n, unsigned short *words, unsigned long count, unsigned char *room,
                                  unsigned long size);
 
@@ -62,14 +60,6 @@ static __attribute__((noinline)) unsigned long plain_run(void) {
     return sum;
 }
 
-static unsigned int seed = 1;
-static unsigned int draw(unsigned int below) {
-    seed ^= seed << 13;
-    seed ^= seed >> 17;
-    seed ^= seed << 5;
-    return (seed >> 8) % below;
-}
-
 /* Frames of one command, whole ones only. */
 static void stream(unsigned char command) {
     unsigned char f[258];
@@ -91,12 +81,6 @@ static void stream(unsigned char command) {
         f[5 + n] = v >> 8;
         for (unsigned int i = 0; i < n + 6; i++) buffer[used++] = f[i];
     }
-}
-
-static double now(void) {
-    struct timespec t;
-    clock_gettime(1, &t);
-    return t.sec + t.nsec * 1e-9;
 }
 
 static unsigned long digest(void) {
