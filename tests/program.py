@@ -1,0 +1,49 @@
+"""The panel program under test: where it stands once it is built, and how a program is started on this machine.
+
+Programs are built for x86-64. On another machine they run under the emulator of the Rattle kit, as the kit's own checks run them.
+"""
+import functools
+import pathlib
+import platform
+import subprocess
+import sys
+
+TOP = pathlib.Path(__file__).resolve().parent.parent
+BUILT = TOP / "target" / "bin" / "panel_trace"
+X86_64 = 0x3E       # the machine's number in a program's ELF header
+SECONDS = 60
+
+
+@functools.lru_cache
+def emulator():
+    guide = pathlib.Path(subprocess.run(["rt", "doc"], capture_output=True, text=True, check=True).stdout.strip())
+    tools = guide.parent.parent / "on" / platform.machine() / "toolchain"
+    return [str(tools / "bin" / "qemu-x86_64"), str(tools / "lib" / "ld-linux-x86-64.so.2"), "--library-path", str(tools / "lib")]
+
+
+def is_foreign(path):
+    with open(path, "rb") as file:
+        head = file.read(20)
+    return head[:4] == b"\x7FELF" and head[18] == X86_64 and platform.machine() != "x86_64"
+
+
+def command(path):
+    """The words that start the program at `path`: an x86-64 one, one of this machine, or one in Python."""
+    path = str(path)
+    if path.endswith(".py"):
+        return [sys.executable, path]
+    return [*emulator(), path] if is_foreign(path) else [path]
+
+
+def chosen(path=None):
+    """The path given, or that of the built program; None if nothing is built."""
+    return path or (BUILT if BUILT.exists() else None)
+
+
+def run(words, trace):
+    """What the program prints for a trace. Running out of time and ending by a signal are said in place of an end."""
+    try:
+        done = subprocess.run(words, input=trace, capture_output=True, timeout=SECONDS)
+    except subprocess.TimeoutExpired as late:
+        return (late.stdout or b"") + f"(not done after {SECONDS} s)\n".encode()
+    return done.stdout if done.returncode >= 0 else done.stdout + f"(ended by signal {-done.returncode})\n".encode()
