@@ -38,16 +38,7 @@ class Script:
             self.count("inputs after which", "several reports wait")
 
     def count_contact(self, was_down, page, caught, x, y):
-        """What a contact that was not refused did."""
-        if was_down:
-            self.count("contact while down:", "a slider caught" if caught else "none caught")
-            return
-        acted = next((r for r in model.records(self.table) if r.page == page and r.holds(x, y)), None)
-        if acted is None:
-            self.count("contact while up:", "no record")
-            return
-        kind = {0xFE05: "key", 0xFE02: "step", 0xFE03: "slider"}[acted.code]
-        self.count(f"contact while up: {kind} mode", f"{acted.mode:02X}{', next page' if acted.has_next else ''}")
+        self.count(*contact_did(self.table, was_down, page, caught, x, y))
 
     def title(self, text):
         self.call("#", bytes([len(text)]) + text.encode(), f"# {text}")
@@ -155,6 +146,17 @@ class Script:
             self.ask_all()
             self.mark()
             self.ask_all()
+
+
+def contact_did(table, was_down, page, caught, x, y):
+    """What a contact that was not refused did: the panel was up or down, on a page, with a slider caught or None."""
+    if was_down:
+        return "contact while down:", "a slider caught" if caught else "none caught"
+    acted = next((r for r in model.records(table) if r.page == page and r.holds(x, y)), None)
+    if acted is None:
+        return "contact while up:", "no record"
+    kind = {0xFE05: "key", 0xFE02: "step", 0xFE03: "slider"}[acted.code]
+    return f"contact while up: {kind} mode", f"{acted.mode:02X}{', next page' if acted.has_next else ''}"
 
 
 def sum_of(numbers):
