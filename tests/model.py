@@ -486,6 +486,9 @@ class Trace:
             if part:
                 self.lines.append(f"O {part.hex(' ').upper()}")
 
+    def output(self):
+        return "".join(line + "\n" for line in self.lines)
+
 
 def trace_output(trace):
     t = Trace()
@@ -493,7 +496,7 @@ def trace_output(trace):
         t.run(trace)
     except TraceEnds:
         pass
-    return "".join(line + "\n" for line in t.lines)
+    return t.output()
 
 
 # ---- Proved examples, and the printed trace

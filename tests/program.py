@@ -36,8 +36,12 @@ def command(path):
 
 
 def chosen(path=None):
-    """The path given, or that of the built program; None if nothing is built."""
-    return path or (BUILT if BUILT.exists() else None)
+    """The path given, or that of the built program; None where the tree has no such program."""
+    if path or BUILT.exists():
+        return path or BUILT
+    if (TOP / "crates" / BUILT.name).exists():
+        sys.exit(f"{BUILT.name} is not built: run rt check {BUILT.name}")
+    return None
 
 
 def run(words, trace):

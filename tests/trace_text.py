@@ -142,8 +142,11 @@ def one_of(found, first, second):
 def setup_body(words):
     found = all_fields(words, SETUP_FIELDS)
     flags = found["flags"][0] if "flags" in found else ("checking" in found) + 2 * ("acknowledging" in found)
-    header, numbers = needed(found, "header"), [needed(found, name)[0] for name in ("pages", "width", "height")]
-    return bytes([*header, flags]) + b"".join(two(n) for n in numbers)
+    return setup_bytes(Setup(*needed(found, "header"), flags, *(needed(found, name)[0] for name in ("pages", "width", "height"))))
+
+
+def setup_bytes(s):
+    return bytes((s.h1, s.h2, s.flags)) + two(s.pages) + two(s.width) + two(s.height)
 
 
 def common(found):

@@ -1,0 +1,389 @@
+"""Whole traces drawn at random, each from a seed: sessions of frames, noise and touches, and traces that are wrong in every way 01 names."""
+import random
+
+import limit_records
+import model
+from model import MOST_RECORDS, RECORD, Setup, two
+from panel_model import END, some_data, some_frame, some_point, some_record
+from trace_text import BYTE_KIND, CONTACT_KIND, LIFT_KIND, QUIET_KIND, RECORD_KIND, SETUP_KIND, joined, on_line, setup_bytes, split, spoiled
+
+HEADERS = ((0x5A, 0xA5), (0x5A, 0xA5), (0xFF, 0xFF), (0x5A, 0x5A), (0x80, 0x03), (0x00, 0x00), (0x82, 0x82))
+# The screen and pages that panel_model's records and points are drawn for.
+PAGES, WIDTH, HEIGHT = 3, 320, 270
+SLIDER_CODE = 0xFE03
+
+
+# ---- Setups
+
+def some_setup(r):
+    return Setup(*r.choice(HEADERS), r.choice((0, 1, 1, 1, 2, 3, 3, 3)), PAGES, WIDTH, HEIGHT)
+
+
+def limit_setup(r):
+    """At the limits of what is right."""
+    return some_setup(r)._replace(pages=r.choice((PAGES, 65280)), width=r.choice((WIDTH, 1024)), height=r.choice((HEIGHT, 768)))
+
+
+WRONG_SETUPS = [(field, n) for field, numbers in (("flags", (4, 128, 255)), ("pages", (0, 65281, 65535)), ("width", (0, 1025)), ("height", (0, 769)))
+                for n in numbers]
+
+
+def wrong_setup(r, nth):
+    field, number = WRONG_SETUPS[nth % len(WRONG_SETUPS)]
+    return some_setup(r)._replace(**{field: number})
+
+
+# ---- Tables
+
+def good_record(r, setup):
+    while not model.Record(b := some_record(r)).is_good(setup):
+        pass
+    return b
+
+
+def good_records(r, setup, count):
+    return b"".join(good_record(r, setup) for _ in range(count))
+
+
+def good_table(r, setup):
+    """Perhaps ended by a record of page FFFF, behind which anything may stand."""
+    table = good_records(r, setup, r.choice((0, 1, 2, 3, 6, 10)))
+    return table + r.choice((b"", b"", b"", END, END + bytes(RECORD), END + good_record(r, setup)))
+
+
+def table_events(table):
+    return b"".join(bytes([RECORD_KIND]) + table[at:at + RECORD] for at in range(0, len(table), RECORD))
+
+
+def opening(setup, table):
+    return bytes([SETUP_KIND]) + setup_bytes(setup) + table_events(table)
+
+
+# ---- A session
+
+class Session:
+    """A trace as it grows, and the model run beside it, so that touches can aim at what the page shows."""
+
+    def __init__(self, r, setup, table):
+        self.r, self.beside, self.trace = r, model.Trace(), bytearray(opening(setup, table))
+        self.beside.setup, self.beside.table = setup, table
+        self.beside.start()
+
+    @property
+    def setup(self):
+        return self.beside.setup
+
+    @property
+    def panel(self):
+        return self.beside.panel
+
+    # Events
+
+    def event(self, kind, body=b""):
+        self.trace += bytes([kind]) + body
+        self.beside.event(kind, body)
+
+    def line(self, given):
+        for b in given:
+            self.event(BYTE_KIND, bytes([b]))
+
+    def quiet(self):
+        self.event(QUIET_KIND)
+
+    def contact(self, x, y):
+        self.event(CONTACT_KIND, two(x) + two(y))
+
+    def lift(self):
+        self.event(LIFT_KIND)
+
+    def send(self, command, data):
+        self.line(model.frame(self.setup, command, bytes(data)))
+
+    # What stands on the line
+
+    def good_frame(self):
+        command = self.r.choice((0x80, 0x81, 0x82, 0x83))
+        return model.frame(self.setup, command, bytes(some_data(self.r, command)))
+
+    def good_frames(self):
+        return b"".join(self.good_frame() for _ in range(self.r.randrange(1, 5)))
+
+    def noise(self, length):
+        """Rich in header bytes, in pairs of them, and in lengths that soon end."""
+        h, r = self.setup.header, self.r
+        draw = (lambda: h[:1], lambda: h, lambda: h, lambda: h + bytes([r.choice((0, 1, 2, 3, 4, 9, 30))]), lambda: bytes([r.randrange(256)]))
+        return b"".join(r.choice(draw)() for _ in range(length))
+
+    # Pieces of a session
+
+    def frames(self):
+        self.line(b"".join(some_frame(self.beside, self.r) for _ in range(self.r.randrange(1, 4))))
+
+    def noisy(self):
+        self.line(self.noise(self.r.randrange(1, 30)) + self.good_frames())
+        self.maybe_quiet()
+
+    def false_front(self):
+        """A header pair and a length that takes good frames for its inside."""
+        self.line(self.setup.header + bytes([self.r.choice((3, 20, 40, 64, 255, self.r.randrange(256)))]) + self.good_frames() + self.good_frames())
+        self.maybe_quiet()
+
+    def frames_inside(self):
+        """A frame around good frames, its check wrong or right, and a good frame behind it."""
+        inside = (self.noise(self.r.randrange(3)) + self.good_frames())[:model.data_limit(self.setup)]
+        outer = model.frame(self.setup, self.r.choice((0x82, 0x00, self.setup.h1)), inside)
+        self.line((spoiled(outer) if self.r.random() < 0.8 else outer) + self.good_frame())
+        self.maybe_quiet()
+
+    def cut_frame(self):
+        frame = self.good_frame()
+        self.line(frame[:self.r.randrange(1, len(frame))])
+        self.maybe_quiet()
+        self.line(self.good_frame())
+
+    def longest_frame(self):
+        limit = model.data_limit(self.setup)
+        head = self.r.choice((b"\x00\x10", b"\x6F\x83", b"\x6F\x84"))
+        data = head + bytes(self.r.randrange(256) for _ in range(limit - 2 - self.r.choice((0, 0, 1, 2))))
+        self.line(model.frame(self.setup, self.r.choice((0x80, 0x82, 0x82, 0x82, 0x99)), data))
+
+    def limit_read(self):
+        """As long as a reply may be, and longer; up to the end, and past it."""
+        if self.r.random() < 0.5:
+            count = self.r.randrange(249, 256)
+            self.send(0x81, [self.r.choice((0, 1, 256 - count)), count])
+        else:
+            count = self.r.randrange(123, 128)
+            self.send(0x83, two(self.r.choice((0, 0x10, 0x7000 - count, 0x7001 - count))) + bytes([count]))
+
+    def maybe_quiet(self):
+        for _ in range(self.r.choice((0, 1, 1, 2))):
+            self.quiet()
+
+    def touch(self):
+        if self.r.random() < 0.3:
+            self.lift()
+        else:
+            self.contact(*some_point(self.beside, self.r))
+
+    def press(self):
+        """Any record, on its page; an earlier one may hold the point too."""
+        records = list(model.records(self.beside.table))
+        if not records:
+            return self.touch()
+        record = self.r.choice(records)
+        if self.panel.is_down:
+            self.lift()
+        if self.panel.registers.page != record.page:
+            self.send(0x80, [0x03, *two(record.page)])
+        self.contact(*self.inside(record.area))
+
+    def change_page(self):
+        last = self.setup.pages - 1
+        self.send(0x80, [0x03, *two(self.r.choice((0, 1, 2, last, self.r.randint(0, last))))])
+
+    def drag(self):
+        """Catches a slider of the page, where it has one, and moves on; in between frames come, and other things."""
+        sliders = [record.area for record in model.records(self.beside.table) if record.code == SLIDER_CODE and record.page == self.panel.registers.page]
+        if not sliders:
+            return self.change_page()
+        if self.panel.is_down:
+            self.lift()
+        self.send(0x80, [0x0B, 0x01])
+        area = self.r.choice(sliders)
+        self.contact(*self.inside(area))
+        for _ in range(self.r.randrange(1, 7)):
+            self.r.choice((self.move_in, self.move_anywhere, self.interrupt))(area)
+        if self.r.random() < 0.7:
+            self.release(area)
+
+    def release(self, area):
+        """Lifts; then, perhaps, presses elsewhere, and moves into the area of the slider that was caught."""
+        self.lift()
+        if self.r.random() < 0.5:
+            self.contact(self.setup.width - 1, self.r.choice((0, self.setup.height - 1)))
+            self.move_in(area)
+
+    def inside(self, area):
+        xs, ys, xe, ye = area
+        return self.r.randint(xs, xe), self.r.randint(ys, ye)
+
+    def move_in(self, area):
+        self.contact(*self.inside(area))
+
+    def move_anywhere(self, area):
+        self.contact(self.r.randrange(self.setup.width), self.r.randrange(self.setup.height))
+
+    def interrupt(self, area):
+        """What may or may not drop a catch."""
+        page, r = self.panel.registers.page, self.r
+        r.choice((
+            lambda: self.send(0x80, [0x03, *two(page)]),
+            self.change_page,
+            lambda: self.send(0x80, [0x02, 7, *two(page), 0]),
+            lambda: self.send(0x80, [0x03, *two(self.setup.pages)]),
+            lambda: self.send(0x80, [0x03, 0]),
+            lambda: self.send(0x80, [0x05, r.choice((0, 0x5A))]),
+            lambda: self.send(0x82, [0, 0x10, r.randrange(256), r.randrange(256)]),
+            lambda: self.send(0x83, [0, 0x10, 3]),
+            lambda: self.send(0x81, [0x00, 0x0D]),
+            lambda: self.line(spoiled(model.frame(self.setup, 0x80, b"\x03\x00\x00"))),
+            lambda: self.contact(self.setup.width, 0),
+            self.contact_while_off,
+            self.quiet,
+        ))()
+
+    def contact_while_off(self):
+        self.send(0x80, [0x0B, 0x00])
+        self.contact(*some_point(self.beside, self.r))
+        self.send(0x80, [0x0B, 0x01])
+
+    def look_back(self):
+        """Reads what touches and writes have left."""
+        self.send(0x83, [0, 0x10, 3])
+        self.send(0x83, [0x6F, 0xFF, 1])
+        self.send(0x81, [0x00, 0x1D])
+
+    def run(self):
+        pieces = {self.frames: 6, self.noisy: 3, self.false_front: 3, self.frames_inside: 3, self.cut_frame: 2, self.longest_frame: 1,
+                  self.limit_read: 1, self.quiet: 1, self.touch: 5, self.press: 4, self.drag: 5, self.change_page: 2,
+                  self.contact_while_off: 1, self.look_back: 2}
+        for piece in self.r.choices(list(pieces), list(pieces.values()), k=self.r.randrange(5, 30)):
+            piece()
+        self.quiet()
+        self.look_back()
+        return bytes(self.trace)
+
+
+def session(r, setup=None):
+    setup = setup or some_setup(r)
+    return Session(r, setup, good_table(r, setup)).run()
+
+
+# ---- Traces that are wrong, or at a limit
+
+def some_event(r):
+    return r.choice((on_line([r.randrange(256)]), bytes([QUIET_KIND]), bytes([CONTACT_KIND, 0, 1, 0, 1]), bytes([LIFT_KIND])))
+
+
+def cut_record(r, records):
+    """Ends within a body; a line byte, a contact, a record or the setup."""
+    bodies = {}
+    for at, (kind, body) in enumerate(records):
+        if body:
+            bodies.setdefault(kind, []).append(at)
+    at = r.choice(bodies[r.choice(sorted(bodies))])
+    kind, body = records[at]
+    return joined(records[:at]) + bytes([kind]) + body[:r.randrange(len(body))]
+
+
+def unknown_kind(r, records):
+    return with_inserted(r, records, bytes([r.choice((0x06, 0x07, 0x0A, 0x80, 0xFF, r.randrange(6, 256)))]), 0)
+
+
+def second_setup(r, records):
+    return with_inserted(r, records, joined(records[:1]), 1)
+
+
+def record_after_event(r, records):
+    first_event = next(at for at, (kind, _) in enumerate(records) if kind not in (SETUP_KIND, RECORD_KIND))
+    return with_inserted(r, records, bytes([RECORD_KIND]) + good_record(r, model.setup_of(records[0][1])), first_event + 1)
+
+
+def event_before_setup(r, records):
+    return some_event(r) + joined(records)
+
+
+def record_before_setup(r, records):
+    return bytes([RECORD_KIND]) + bytes(RECORD) + joined(records)
+
+
+def no_setup(r, records):
+    return b""
+
+
+def with_inserted(r, records, inserted, least):
+    at = r.randint(least, min(len(records), least + r.choice((0, 3, 1000))))
+    return joined(records[:at]) + inserted + joined(records[at:])
+
+
+def wrong_setup_cut_event(r, records):
+    """What is met first wins: the cut contact, before a start."""
+    return opening(wrong_setup(r, r.randrange(100)), b"") + bytes([CONTACT_KIND, 0, 1])
+
+
+WAYS = (cut_record, unknown_kind, second_setup, record_after_event, event_before_setup, record_before_setup, no_setup, wrong_setup_cut_event)
+
+
+def wrong_trace(r, nth):
+    return WAYS[nth % len(WAYS)](r, list(split(session(r) + some_event(r))))
+
+
+def refused_setup(r, nth):
+    """Whatever the table is: 11 comes before 12 and 13."""
+    table = r.choice((b"", good_records(r, some_setup(r), 2), bytes(RECORD), bytes(RECORD) * 129))
+    return opening(wrong_setup(r, nth), table) + r.choice((b"", some_event(r), some_event(r) + some_event(r)))
+
+
+def refused_table(r, nth):
+    before = b"".join(r.choices(limit_records.RIGHT, k=r.choice((0, 1, 4, 127))))
+    wrong = limit_records.WRONG[nth % len(limit_records.WRONG)]
+    behind = b"" if len(before) == 127 * RECORD else r.choice((b"", bytes(RECORD), END))
+    return opening(limit_records.SETUP, before + wrong + behind) + r.choice((b"", some_event(r)))
+
+
+def limit_table(r, nth):
+    """A session over a table of records at the limits, in any order."""
+    table = b"".join(r.sample(limit_records.RIGHT, len(limit_records.RIGHT)))
+    return Session(r, limit_records.SETUP._replace(flags=r.randrange(4)), table).run()
+
+
+def long_table(r, nth):
+    """127 to 130 records, good or wrong or ended early; then, where the table is taken, a session."""
+    setup, count = some_setup(r), (128, 129, 127, 130)[nth % 4]
+    table = (good_records(r, setup, 4) * 33)[:count * RECORD]
+    table = r.choice((table, table, END + table[RECORD:], table[:-RECORD] + bytes(RECORD)))
+    if count > MOST_RECORDS or model.judge_table(setup, table)[0]:
+        return opening(setup, table) + r.choice((b"", some_event(r)))
+    return Session(r, setup, table).run()
+
+
+def cut_anywhere(r, nth):
+    trace = session(r)
+    return trace[:r.randrange(len(trace))]
+
+
+def without_events(r, nth):
+    setup = limit_setup(r)
+    return opening(setup, good_table(r, setup))
+
+
+def limit_session(r, nth):
+    return session(r, limit_setup(r))
+
+
+def smallest(r, nth):
+    """One page and one point."""
+    setup = some_setup(r)._replace(pages=1, width=1, height=1)
+    events = [some_event(r) for _ in range(10)] + [bytes([CONTACT_KIND, 0, 0, 0, r.randrange(2)]) for _ in range(4)]
+    events += [on_line(model.frame(setup, 0x80, (3, 0, n))) for n in (0, 1)]
+    r.shuffle(events)
+    return opening(setup, b"") + b"".join(events)
+
+
+def plain_session(r, nth):
+    return session(r)
+
+
+# Each seed takes its turn in this list, so that a few hundred seeds meet everything.
+TURNS = (wrong_trace, refused_setup, refused_table, long_table, cut_anywhere, without_events, limit_session, smallest, wrong_trace, refused_table,
+         limit_table, refused_table, refused_table) + (plain_session,) * 12
+
+
+def drawn(seed):
+    """A trace, and the name of what was drawn."""
+    rounds, place = divmod(seed, len(TURNS))
+    turn = TURNS[place]
+    nth = rounds * TURNS.count(turn) + TURNS[:place].count(turn)
+    name = (WAYS[nth % len(WAYS)] if turn is wrong_trace else turn).__name__.replace("_", " ")
+    return turn(random.Random(seed), nth), name

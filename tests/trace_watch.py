@@ -1,0 +1,137 @@
+"""The model of 01's trace program, watched: it counts what a trace reaches, so that a comparison can tell what it has tried."""
+import collections
+
+import model
+from panel_model import contact_did
+from trace_draw import WAYS, drawn
+from trace_text import CONTACT_KIND, LIFT_KIND, QUIET_KIND
+
+
+class Watched(model.Trace):
+    def __init__(self):
+        super().__init__()
+        self.reached, self.caught, self.page = collections.Counter(), None, 0
+
+    def count(self, what):
+        self.reached[what] += 1
+
+    def fail(self, *numbers):
+        self.count(f"X {numbers[0]}")
+        super().fail(*numbers)
+
+    def start(self):
+        if self.panel is None:
+            super().start()
+            self.started(self.setup)
+
+    def started(self, setup):
+        self.count(f"started: checking {'on' if setup.checking else 'off'}, acknowledging {'on' if setup.acknowledging else 'off'}")
+        if setup.h1 == setup.h2:
+            self.count("started: header FF FF" if setup.h1 == 0xFF else "started: H1 equal to H2, not FF")
+        if len(self.table) == model.MOST_RECORDS * model.RECORD:
+            self.count("started: 128 records")
+
+    def event(self, kind, body):
+        was_down, self.page, self.caught, before = self.panel.is_down, self.panel.registers.page, self.panel.caught, len(self.lines)
+        super().event(kind, body)
+        if kind == CONTACT_KIND:
+            self.contact_made(self.lines[before], was_down, model.word(body, 0), model.word(body, 2))
+        elif kind == LIFT_KIND:
+            self.lifted(self.lines[before])
+        elif kind == QUIET_KIND and self.caught and self.panel.caught:
+            self.count("catch kept: quiet mark")
+        self.reported([line[0] for line in self.lines[before:] if line[0] in "FB"], kind)
+
+    def contact_made(self, line, was_down, x, y):
+        self.count(f"contact {line}")
+        if line == "T 0":
+            self.count(" ".join(contact_did(self.table, was_down, self.page, self.caught, x, y)))
+        if self.caught:
+            moved = f"dragged {'in' if self.caught.holds(x, y) else 'off'} its area"
+            self.catch({"T 0": moved, "T 8": "contact off the screen", "T 9": "touch off"}[line])
+
+    def lifted(self, line):
+        self.count(f"lift {line}")
+        if self.caught:
+            self.catch("lift")
+
+    def reported(self, letters, kind):
+        """What one event has brought."""
+        if len(letters) > 1:
+            self.count(f"several reports after one {'quiet mark' if kind == QUIET_KIND else 'byte'}")
+        if letters[:1] == ["B"] and "F" in letters:
+            self.count("good frame inside a bad check")
+
+    def handed(self, handed):
+        super().handed(handed)
+        accepted, command, number = handed.what == "F", handed.report.command, handed.number
+        name = f"{command:02X}" if number != 2 else "any other"
+        self.count(f"command {name} {number}" if accepted else "bad check")
+        if handed.acknowledged:
+            behind = ", a reply behind it" if handed.replied else ""
+            self.count(f"acknowledgement {'FF' if accepted else '00'}{', refused' if number else behind}")
+        if len(handed.report.data) == model.data_limit(self.setup):
+            self.count("frame of the longest data")
+        if self.caught:
+            self.catch(self.frame_name(handed))
+        self.page, self.caught = self.panel.registers.page, self.panel.caught
+
+    def frame_name(self, handed):
+        if handed.what == "B":
+            return "bad check"
+        if handed.number:
+            return "refused register write" if handed.report.command == 0x80 else "refused frame"
+        if handed.report.command != 0x80:
+            return {0x81: "register read", 0x82: "word write", 0x83: "word read"}[handed.report.command]
+        if self.panel.caught:
+            return "register write"
+        return f"page write, {'the same' if self.page == self.panel.registers.page else 'another'} page"
+
+    def catch(self, by):
+        self.count(f"catch {'kept' if self.panel.caught else 'dropped'}: {by}")
+
+
+def watched(trace):
+    """What the model prints, and what was reached."""
+    t = Watched()
+    try:
+        t.run(trace)
+        t.count("E")
+    except model.TraceEnds:
+        pass
+    return t.output(), t.reached
+
+
+def watched_seed(seed):
+    """A drawn trace, what the model prints, and what was reached."""
+    trace, name = drawn(seed)
+    output, reached = watched(trace)
+    if output.endswith("X 15\n"):
+        reached[f"X 15: {name}"] += 1
+    if output == "X 12\n" and name == "long table":
+        reached["X 12: 129 records or more"] += 1
+    return trace, output, reached
+
+
+# ---- What a run of some hundred traces must reach. 1 and 14 cannot come about in a trace.
+
+NUMBERS = {"80": (0, 3, 4, 5, 6), "81": (0, 3, 4, 7), "82": (0, 3, 4), "83": (0, 3, 4, 7), "any other": (2,)}
+SLIDER_MODES = ("00", "01", "10", "11", "20", "21")
+
+REQUIRED = [
+    "E", "X 11", "X 12", "X 12: 129 records or more", "X 13", "X 15", *(f"X 15: {way.__name__.replace('_', ' ')}" for way in WAYS),
+    *(f"started: checking {a}, acknowledging {b}" for a in ("on", "off") for b in ("on", "off")),
+    "started: header FF FF", "started: H1 equal to H2, not FF", "started: 128 records",
+    *(f"command {name} {number}" for name, numbers in NUMBERS.items() for number in numbers),
+    "bad check", "frame of the longest data",
+    "several reports after one byte", "several reports after one quiet mark", "good frame inside a bad check",
+    "acknowledgement FF", "acknowledgement FF, a reply behind it", "acknowledgement FF, refused", "acknowledgement 00",
+    *(f"contact T {number}" for number in (0, 8, 9)), *(f"lift T {number}" for number in (0, 10)),
+    *(f"contact while up: {kind} mode {mode}{after}" for kind in ("key", "step") for mode in ("00", "01", "02") for after in ("", ", next page")),
+    *(f"contact while up: slider mode {mode}" for mode in SLIDER_MODES),
+    "contact while up: no record", "contact while down: a slider caught", "contact while down: none caught",
+    "catch dropped: lift", "catch dropped: page write, the same page", "catch dropped: page write, another page",
+    *(f"catch kept: {what}" for what in (
+        "dragged in its area", "dragged off its area", "contact off the screen", "touch off", "quiet mark", "bad check", "register write",
+        "refused register write", "refused frame", "register read", "word read", "word write")),
+]
