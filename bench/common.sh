@@ -7,20 +7,27 @@ tools=$kit/on/$machine/toolchain
 out=bench/out
 mkdir -p "$out"
 
-# bench_build NAME LIBRARY FILE.c..: writes $out/NAME
-bench_build() {
+# bench_link NAME FILE..: compiles each FILE.c, links it with what else is named, writes $out/NAME
+bench_link() {
     name=$1
-    library=$2
-    shift 2
-    rt staticlib "$library" >"$out/$name.log" 2>&1 || { cat "$out/$name.log" >&2; return 1; }
+    shift
     objects=
     for source in "$@"; do
-        object=$out/$name-$(basename "$source" .c).o
-        "$tools/bin/clang" --target=x86_64-unknown-linux-gnu -O3 -fPIE -c "$source" -o "$object" || return 1
+        object=$source
+        if [ "${source%.c}" != "$source" ]; then
+            object=$out/$name-$(basename "$source" .c).o
+            "$tools/bin/clang" --target=x86_64-unknown-linux-gnu -O3 -fPIE -c "$source" -o "$object" || return 1
+        fi
         objects="$objects $object"
     done
     # shellcheck disable=SC2086
-    "$kit/on/$machine/bin/rattle-link" --target x86_64-unknown-linux-gnu --toolchain "$tools" -o "$out/$name" $objects "target/staticlib/lib$library.a" >>"$out/$name.log" 2>&1
+    "$kit/on/$machine/bin/rattle-link" --target x86_64-unknown-linux-gnu --toolchain "$tools" -o "$out/$name" $objects >>"$out/$name.log" 2>&1
+}
+
+# bench_build NAME LIBRARY FILE.c..: writes $out/NAME, linked with a proved library
+bench_build() {
+    rt staticlib "$2" >"$out/$1.log" 2>&1 || { cat "$out/$1.log" >&2; return 1; }
+    bench_link "$1" "${@:3}" "target/staticlib/lib$2.a"
 }
 
 bench_run() {

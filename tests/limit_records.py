@@ -33,6 +33,7 @@ def limits():
 
 def step_limits():
     yield STEP, (), STEP_BY, (1, 32767), (0, 32768)
+    yield STEP, ((*LEAST, 0x8000), (*GREATEST, 0x7FFF)), STEP_BY, (32767,), ()
     yield STEP, (), LEAST, (100, 0x8000), (101,)
     yield STEP, (), GREATEST, (0, 0x7FFF), (0xFFFF,)
     yield STEP, (), DIRECTION, (0, 255), ()

@@ -73,6 +73,12 @@ static int plain_byte(plain_reader *r, unsigned char b) {
     return 0;
 }
 
+static inline int plain_mark(plain_reader *r) {
+    if (plain_waits(r)) return 1;
+    settle(r, 1, 0);
+    return 0;
+}
+
 static int plain_ask(plain_reader *r, plain_report *out) {
     int head = r->head;
     if (!plain_waits(r)) return WAIT;
