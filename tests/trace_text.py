@@ -3,6 +3,7 @@
 The layout of a trace, of frames and of records is not said again here: it comes from tests/model.py and tests/panel_model.py.
 """
 import re
+import signal
 import sys
 import time
 
@@ -428,7 +429,8 @@ def show(source, target):
 def main(arguments):
     if arguments in (["help"], ["--help"], ["-h"]):
         print(HELP, end="")
-    elif arguments == ["write"] or arguments == ["show"]:
+    elif arguments in (["write"], ["show"]):
+        signal.signal(signal.SIGPIPE, signal.SIG_DFL)       # whoever reads the output may stop early
         try:
             {"write": write, "show": show}[arguments[0]](sys.stdin.buffer, sys.stdout.buffer)
         except Mistake as mistake:
