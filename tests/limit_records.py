@@ -3,8 +3,8 @@
 The records that are changed, KEY, STEP and SLIDER, and the names of their fields are those of tests/touch_model.py: page 3, area 100,50 to 300,250.
 """
 from model import Record, Setup
-from touch_model import (ADDRESS, BEGIN, CODE, DIRECTION, ENDING, GREATEST, KEY, LEAST, MARK, MODE, NEXT, ONCE, PAGE, PRESS, SLIDER, STEP, STEP_BY, XE,
-                         XS, YE, YS, patched)
+from touch_model import (ADDRESS, BEGIN, CODE, DIRECTION, ENDING, GREATEST, KEY, LEAST, MARK, MODE, NEXT, ONCE, PAGE, PRESS, SLIDER, STEP,
+                         STEP_BY, XE, XS, YE, YS, patched)
 from touch_model import END as LAST
 
 SETUP = Setup(0x5A, 0xA5, 1, 16, 800, 480)

@@ -1,8 +1,8 @@
 #!/usr/bin/env python3
 """pipe.py [PROGRAM]: talks to the panel program over pipes. After each event the lines of it must come before more input is sent.
 
-PROGRAM is the built panel_trace, where none is named; where none is built, nothing is run. Each exchange of the printed trace, and a few more,
-is sent as a whole and also a byte at a time; the lines expected are those of the model of 01.
+PROGRAM is the built panel_trace, where none is named; where none is built, nothing is run. The traces are those of examples/ that are right
+to their end, each event sent as a whole and also a byte at a time; the lines expected are those of the model of 01.
 """
 import os
 import select
@@ -12,22 +12,9 @@ import time
 
 import model
 import program
-from trace_text import joined, split, trace_of
+from trace_text import joined, split
 
 SECONDS = 20        # for a slow machine; an answer takes milliseconds
-
-TALK = """
-setup header=5A A5 checking acknowledging pages=2 width=800 height=480
-step page=0 area=10,10..100,50 next=1 word=0x0010 mode=word up stop by=5 least=0 greatest=100
-lift
-frame 81 00 01
-contact 11 11
-frame badly 83 00 10 01
-quiet
-frame 83 00 10 01
-lift
-"""
-
 
 def exchanges(trace):
     """A record of the trace at a time, and the lines that are due once it is read."""
@@ -69,6 +56,13 @@ def talk(words, trace, pieces_of):
         return None if rest == due else f"at the end came {rest!r}, due was {due!r}"
 
 
+def right_traces():
+    for path in sorted((program.TOP / "examples").glob("*.trace")):
+        trace = path.read_bytes()
+        if "X" not in model.trace_output(trace):
+            yield trace
+
+
 def whole(sent):
     return [sent]
 
@@ -81,7 +75,7 @@ def main(path):
     if not path:
         print("no program is built: nothing was run")
         return 0
-    words, traces = program.command(path), (model.PRINTED_TRACE, trace_of(TALK))
+    words, traces = program.command(path), list(right_traces())
     for trace in traces:
         for pieces_of in (whole, single):
             trouble = talk(words, trace, pieces_of)

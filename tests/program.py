@@ -7,6 +7,7 @@ import pathlib
 import platform
 import subprocess
 import sys
+import tempfile
 
 TOP = pathlib.Path(__file__).resolve().parent.parent
 BUILT = TOP / "target" / "bin" / "panel_trace"
@@ -45,9 +46,15 @@ def chosen(path=None):
 
 
 def run(words, trace):
-    """What the program prints for a trace. Running out of time and ending by a signal are said in place of an end."""
+    """What the program prints for a trace, which it reads from a file, so that every run reads the same pieces.
+
+    Running out of time and ending by a signal are said in place of an end.
+    """
     try:
-        done = subprocess.run(words, input=trace, capture_output=True, timeout=SECONDS)
+        with tempfile.TemporaryFile() as file:
+            file.write(trace)
+            file.seek(0)
+            done = subprocess.run(words, stdin=file, capture_output=True, timeout=SECONDS)
     except subprocess.TimeoutExpired as late:
         return (late.stdout or b"") + f"(not done after {SECONDS} s)\n".encode()
     return done.stdout if done.returncode >= 0 else done.stdout + f"(ended by signal {-done.returncode})\n".encode()

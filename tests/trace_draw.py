@@ -11,6 +11,7 @@ HEADERS = ((0x5A, 0xA5), (0x5A, 0xA5), (0xFF, 0xFF), (0x5A, 0x5A), (0x80, 0x03),
 # The screen and pages that panel_model's records and points are drawn for.
 PAGES, WIDTH, HEIGHT = 3, 320, 270
 SLIDER_CODE = 0xFE03
+BUFFER = 65536      # what a program may read or write at once
 
 
 # ---- Setups
@@ -184,7 +185,8 @@ class Session:
 
     def drag(self):
         """Catches a slider of the page, where it has one, and moves on; in between frames come, and other things."""
-        sliders = [record.area for record in model.records(self.beside.table) if record.code == SLIDER_CODE and record.page == self.panel.registers.page]
+        page = self.panel.registers.page
+        sliders = [record.area for record in model.records(self.beside.table) if record.code == SLIDER_CODE and record.page == page]
         if not sliders:
             return self.change_page()
         if self.panel.is_down:
@@ -375,9 +377,30 @@ def plain_session(r, nth):
     return session(r)
 
 
+def long_input(r, setup, s):
+    """Noise without a header byte in it, which leaves nothing behind, to about the end of the first 64 KiB."""
+    passed_over = bytes(b for b in range(256) if b != setup.h1)
+    count = (BUFFER - len(s.trace)) // 2 - r.randrange(300)
+    s.trace += on_line(r.choices(passed_over, k=count))
+
+
+def long_output(r, setup, s):
+    """Reads whose replies fill 64 KiB of text."""
+    for _ in range(BUFFER // (3 * 250) + r.randrange(-3, 3)):
+        s.send(0x83, two(r.randrange(0x6F00)) + bytes([r.choice((120, 123, 124))]))
+
+
+def long_session(r, nth):
+    """One whose input or output goes past a program's buffer, so that an event or a line falls upon its end."""
+    setup = some_setup(r)
+    s = Session(r, setup, good_table(r, setup))
+    (long_input, long_output)[nth % 2](r, setup, s)
+    return s.run()
+
+
 # Each seed takes its turn in this list, so that a few hundred seeds meet everything.
 TURNS = (wrong_trace, refused_setup, refused_table, long_table, cut_anywhere, without_events, limit_session, smallest, wrong_trace, refused_table,
-         limit_table, refused_table, refused_table) + (plain_session,) * 12
+         limit_table, refused_table, refused_table, long_session) + (plain_session,) * 11
 
 
 def drawn(seed):

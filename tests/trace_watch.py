@@ -3,7 +3,7 @@ import collections
 
 import model
 from panel_model import contact_did
-from trace_draw import WAYS, drawn
+from trace_draw import BUFFER, WAYS, drawn
 from trace_text import CONTACT_KIND, LIFT_KIND, QUIET_KIND
 
 
@@ -108,6 +108,10 @@ def watched_seed(seed):
     output, reached = watched(trace)
     if output.endswith("X 15\n"):
         reached[f"X 15: {name}"] += 1
+    if len(trace) > BUFFER:
+        reached["input past 64 KiB"] += 1
+    if len(output) > BUFFER:
+        reached["output past 64 KiB"] += 1
     if output == "X 12\n" and name == "long table":
         reached["X 12: 129 records or more"] += 1
     return trace, output, reached
@@ -123,7 +127,7 @@ REQUIRED = [
     *(f"started: checking {a}, acknowledging {b}" for a in ("on", "off") for b in ("on", "off")),
     "started: header FF FF", "started: H1 equal to H2, not FF", "started: 128 records",
     *(f"command {name} {number}" for name, numbers in NUMBERS.items() for number in numbers),
-    "bad check", "frame of the longest data",
+    "bad check", "frame of the longest data", "input past 64 KiB", "output past 64 KiB",
     "several reports after one byte", "several reports after one quiet mark", "good frame inside a bad check",
     "acknowledgement FF", "acknowledgement FF, a reply behind it", "acknowledgement FF, refused", "acknowledgement 00",
     *(f"contact T {number}" for number in (0, 8, 9)), *(f"lift T {number}" for number in (0, 10)),

@@ -91,9 +91,9 @@ def measure(name, trace, ours, plain, starts):
     ours_time, plain_time = (t - s for t, s in zip(least_times((ours, plain), trace), starts))
     if ours.printed() != plain.printed():
         sys.exit(f"{name}: the programs print different lines")
-    speeds = [SIZE / max(t, 1e-4) / 1e6 for t in (plain_time, ours_time)]
+    speed, plain_speed = (SIZE / t / 1e6 for t in (ours_time, plain_time))
     lines = ours.printed().count(b"\n")
-    print(f"{name:13} plain C {speeds[0]:7.2f} MB/s   panel_trace {speeds[1]:7.2f} MB/s, ratio {plain_time / ours_time:.2f}   {lines} lines, the same",
+    print(f"{name:13} plain C {plain_speed:7.2f} MB/s   panel_trace {speed:7.2f} MB/s, ratio {plain_time / ours_time:.2f}   {lines} lines, the same",
           flush=True)
 
 
