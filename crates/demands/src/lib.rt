@@ -1,1 +1,1 @@
-// The three demands and 01's examples, as theorems over the public definitions of the crates below. No code of its own.
+// The three demands and the examples are stated in specs/ and proved in proofs/, over the definitions that the other crates' contracts cite.
