@@ -20,7 +20,7 @@ use Rattle.touch.specs.declared.Setup.{Setup}
 use Rattle.panel.specs.Sound.{lineOf}
 use Rattle.demands.specs.Calls.{Moment, Call, begun, afterAll, handedOverAll, AllTyped}
 use Rattle.demands.specs.Given.{givenAll}
-use Rattle.demands.specs.Reports.{AsRead, AlwaysAsRead}
+use Rattle.demands.specs.AsRead.{AsRead, AlwaysAsRead}
 use Rattle.demands.proofs.Reading.{Carries}
 use Rattle.demands.proofs.Demand3.{carried, new-reader}
 
