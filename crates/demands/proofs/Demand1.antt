@@ -60,7 +60,8 @@ use Rattle.panel.specs.Reachable.{Reachable, by-byte}
 use Rattle.panel.proofs.Ways.{lifts}
 use Rattle.panel.proofs.Invariant.{reachable-sound}
 use Rattle.demands.specs.Calls.{Moment, Call, lend, byte, bytes, mark, ask, contact, lift, begun, afterAll, numberGiven, Typed, AllTyped}
-use Rattle.demands.specs.Demand1.{Condition, _when_, firstNumber, reportWaits, waitingReport, oneComesWhileWaiting, ofFrame, notCommand, byCommand, wrongData, passesEnd, touchesUnwritable, valueWrong, replyPasses, wordsNotLent, roomTooSmall, notWholeRecords, oneWrong, offScreen, printed, printedStart, printedWriter}
+use Rattle.demands.specs.Reports.{reportWaits, waitingReport}
+use Rattle.demands.specs.Demand1.{Condition, _when_, firstNumber, oneComesWhileWaiting, ofFrame, notCommand, byCommand, wrongData, passesEnd, touchesUnwritable, valueWrong, replyPasses, wordsNotLent, roomTooSmall, notWholeRecords, oneWrong, offScreen, printed, printedStart, printedWriter}
 use Rattle.demands.proofs.Calls.{sequence-reached}
 use Rattle.demands.proofs.Waits.{busy-waits, asked-report, asked-payload}
 
@@ -230,7 +231,7 @@ unfolding numberGiven printed fedMark givenMark firstNumber
 mark-number now sound = rw (← busy-waits (now .panel) sound) (fed-number (busy (now .panel .reader)) (now .panel .reader) _)
 
 -- bytes one after the other: all are taken, or one comes while a report waits
-one-more : (used n : ℕ) → eqb (1 + used) (suc n) ≡ eqb used n
+pub one-more : (used n : ℕ) → eqb (1 + used) (suc n) ≡ eqb used n
 one-more used n = go (eqb used n) refl
   where
     go : (b : Bool) → eqb used n ≡ b → eqb (1 + used) (suc n) ≡ b

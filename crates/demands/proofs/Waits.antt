@@ -13,7 +13,7 @@ use Rattle.line.specs.Reached.{reportAs, payloadAs}
 use Rattle.line.proofs.Carried.{kept-is, waiting-is, ask-carried}
 use Rattle.panel.specs.declared.Panel.{Panel}
 use Rattle.panel.specs.Sound.{lineOf, Sound}
-use Rattle.demands.specs.Demand1.{rulesOf, reportWaits, waitingReport}
+use Rattle.demands.specs.Reports.{rulesOf, reportWaits, waitingReport}
 
 module _ (panel : Panel) (sound : Sound panel) where
   -- what the reader keeps is what the reading keeps

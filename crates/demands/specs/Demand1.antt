@@ -5,14 +5,13 @@
 use Prim.Native.Nat.{ℕ, _+_, _*_, _%_, _<_}
 use mathlib.Core.Path.{_≡_}
 use mathlib.Core.Bool.{Bool, true, false, cond, not, _&&_, _||_}
-use mathlib.Core.List.{List, [], _∷_}
+use mathlib.Core.List.{List, [], _∷_, _++_, map}
 use lib.Dec.{eqb, ltb}
 use lib.ListN.{length, drop}
+use Rattle.wire.specs.Room.{over}
 use Rattle.wire.specs.ByteOrder.{byteAt, wordAt}
 use Rattle.frame.specs.Frame.{mostData}
-use Rattle.reading.specs.Place.{Rules, Report, badCheck, acceptedFrame}
-use Rattle.reading.specs.Moves as Moves
-use Rattle.line.specs.State.{rulesFor, keptOf}
+use Rattle.reading.specs.Place.{Report, badCheck, acceptedFrame}
 use Rattle.registers.specs.Run.{unwritableRun, wrongValue}
 use Rattle.registers.specs.Touched.{isDown, isTouchOff}
 use Rattle.words.specs.Words.{wordsOf}
@@ -24,8 +23,8 @@ use Rattle.touch.specs.Table.{recordAt, recordsOf}
 use Rattle.touch.specs.Judge.{goodRecord}
 use Rattle.panel.specs.declared.Panel.{Panel}
 use Rattle.panel.specs.Inputs.{fedByte}
-use Rattle.panel.specs.Sound.{lineOf}
-use Rattle.demands.specs.Calls.{Moment, Call, lend, byte, bytes, mark, ask, contact, lift}
+use Rattle.demands.specs.Calls.{Moment, Call, lend, byte, bytes, mark, ask, contact, lift, after, afterAll, handedOver}
+use Rattle.demands.specs.Reports.{reportWaits, waitingReport, readBehind, acknowledgementOf}
 
 -- a number of the table and whether its condition holds
 pub record Condition : Type 0 where
@@ -40,18 +39,6 @@ n when holds = record { number = n; holds = holds }
 unfoldable pub firstNumber : List Condition → ℕ
 firstNumber [] = 0
 firstNumber (c ∷ cs) = cond (c .holds) (c .number) (firstNumber cs)
-
--- "The reports asked for, in order, are those of the reading of all that was given. While one of them is left, a report waits": the reading goes on
--- from what the panel's reader keeps
-abbrev pub rulesOf : Panel → Rules
-rulesOf panel = rulesFor (lineOf (panel .setup))
-
-unfoldable pub reportWaits : Panel → Bool
-reportWaits panel = Moves.waiting (rulesOf panel) (keptOf (panel .reader))
-
--- that report, if there is one
-unfoldable pub waitingReport : Panel → List Report
-waitingReport panel = Moves.handed (rulesOf panel) (keptOf (panel .reader))
 
 -- 1: "an input comes while a report waits"; of bytes one after the other, one of them does
 unfoldable pub oneComesWhileWaiting : Panel → List ℕ → Bool
@@ -160,3 +147,23 @@ printedWriter checking payload room = (14 when roomTooSmall room) ∷ (3 when lt
 pub record NamesFirstWrong (setup : Setup) (table : List ℕ) (i : ℕ) : Type 0 where
   pub is-wrong : goodRecord setup (recordAt table i) ≡ false
   pub first : (k : ℕ) → k < i → goodRecord setup (recordAt table k) ≡ true
+
+-- "A refused command is still handed over and acknowledged as printed": its report is, the reader goes on behind it, and the acknowledgement is laid over
+-- the room; "beyond that" panel, words and room are as they stood
+pub record OnlyHandedOver (now later : Moment) : Type 0 where
+  pub command : ℕ
+  pub content : List ℕ
+  pub handed-over : handedOver now ask ≡ acceptedFrame command content ∷ []
+  pub only-read-on : later .panel ≡ readBehind (now .panel)
+  pub words-stand : later .words ≡ now .words
+  pub only-acknowledged : later .room ≡ over (acknowledgementOf (now .panel .setup) command true) (now .room)
+
+-- what a refused call leaves
+pub data Leaves (now : Moment) : Call → Type 0 where
+  -- "beyond that a refusal leaves the panel, the variable words and the reply room as they stood"
+  as-it-stood : (call : Call) → after now call ≡ now → Leaves now call
+  -- numbers 2 to 7
+  only-handed-over : OnlyHandedOver now (after now ask) → Leaves now ask
+  -- of bytes one after the other, those in front were taken one by one, and the next comes while a report waits
+  as-those-taken : (bs taken : List ℕ) (b : ℕ) (rest : List ℕ) → bs ≡ taken ++ (b ∷ rest) → after now (bytes bs) ≡ afterAll now (map byte taken)
+      → reportWaits (after now (bytes bs) .panel) ≡ true → Leaves now (bytes bs)
