@@ -14,18 +14,20 @@ use Rattle.reading.proofs.Run.{handed-first, handed-all, kept-is-held, waits-wh
 use Rattle.line.specs.declared.Line as Declared
 use Rattle.line.specs.declared.Reader.{Reader}
 use Rattle.line.specs.State.{rulesFor, readerOf, keptOf}
-use Rattle.line.specs.Methods.{busy}
-use Rattle.line.proofs.Carried.{kept-is, waiting-is, held-waiting}
+use Rattle.line.proofs.Carried.{kept-is, held-waiting}
 use Rattle.touch.specs.declared.Setup.{Setup}
 use Rattle.panel.specs.Sound.{lineOf}
+use Rattle.panel.specs.Reachable.{by-start}
 use Rattle.demands.specs.Calls.{Moment, Call, begun, afterAll, handedOverAll, AllTyped}
+use Rattle.demands.specs.Reports.{reportWaits}
 use Rattle.demands.specs.Given.{givenAll}
 use Rattle.demands.specs.AsRead.{AsRead, AlwaysAsRead}
 use Rattle.demands.proofs.Reading.{Carries}
-use Rattle.demands.proofs.Demand3.{carried, new-reader}
+use Rattle.demands.proofs.Demand3.{carried, waits-same, new-reader}
 
 module _ (setup : Setup) (now : Moment) (calls : List Call)
-    (c : Carries (lineOf setup) fresh (givenAll now calls) (handedOverAll now calls) (afterAll now calls .panel .reader)) where
+    (c : Carries (lineOf setup) fresh (givenAll now calls) (handedOverAll now calls) (afterAll now calls .panel .reader))
+    (waits : reportWaits (afterAll now calls .panel) ≡ waiting (rulesFor (lineOf setup)) (run (rulesFor (lineOf setup)) fresh (c .events) .kept)) where
   abbrev line : Declared.Line
   line = lineOf setup
 
@@ -38,9 +40,6 @@ module _ (setup : Setup) (now : Moment) (calls : List Call)
   same : keptOf (afterAll now calls .panel .reader) ≡ kept
   same = ap (λ (r : Reader). keptOf r) (c .reads) ∙ kept-is line kept
 
-  waits-same : busy (afterAll now calls .panel .reader) ≡ waiting rules kept
-  waits-same = ap (λ (r : Reader). busy r) (c .reads) ∙ waiting-is line kept (c .reached)
-
   as-read : AsRead setup now calls
   as-read =
       record {
@@ -49,14 +48,16 @@ module _ (setup : Setup) (now : Moment) (calls : List Call)
             ∙ handed-first rules (c .events)
             ∙ ap (λ (l : List Report). l ++ reports rules (kept .closed) (kept .bytes)) (c .hands)
             ∙ ap (λ (k : Kept). handedOverAll now calls ++ reports rules (k .closed) (k .bytes)) (sym same);
-        while-left = λ asked. sym (c .hands) ∙ handed-all rules (c .events) (sym waits-same ∙ asked) ∙ ap (lineReports rules) (c .gives);
-        no-longer = λ all. waits-same ∙ waits-while-left rules (c .events) (c .hands ∙ all ∙ ap (lineReports rules) (sym (c .gives)));
+        while-left = λ asked. sym (c .hands) ∙ handed-all rules (c .events) (sym waits ∙ asked) ∙ ap (lineReports rules) (c .gives);
+        no-longer = λ all. waits ∙ waits-while-left rules (c .events) (c .hands ∙ all ∙ ap (lineReports rules) (sym (c .gives)));
         held = λ asked.
-            ap (λ (k : Kept). k .bytes) (same ∙ kept-is-held rules (c .events) (sym waits-same ∙ asked)) ∙ ap (lineHeld rules) (c .gives);
-        at-most-257 = λ asked. rw (ap (λ (k : Kept). k .bytes) same) (held-waiting line kept (c .reached) (sym waits-same ∙ asked));
+            ap (λ (k : Kept). k .bytes) (same ∙ kept-is-held rules (c .events) (sym waits ∙ asked)) ∙ ap (lineHeld rules) (c .gives);
+        at-most-257 = λ asked. rw (ap (λ (k : Kept). k .bytes) same) (held-waiting line kept (c .reached) (sym waits ∙ asked));
       }
 
 pub always-as-read : AlwaysAsRead
 always-as-read setup table words room is calls typed =
     let now = begun setup table words room in
-    as-read setup now calls (carried (lineOf setup) now (new-reader setup table words room is) calls typed)
+    let reachable = by-start setup table is in
+    let new = new-reader setup table words room is in
+    as-read setup now calls (carried (lineOf setup) now reachable new calls typed) (waits-same (lineOf setup) now reachable new calls typed)

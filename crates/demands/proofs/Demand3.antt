@@ -36,10 +36,14 @@ use Rattle.panel.specs.declared.StartAnswer.the-variants as start
 use Rattle.panel.specs.Start.{refuses, newPanel, startJudged, started}
 use Rattle.panel.specs.Inputs.{fedByte, fedMark, fedBytes}
 use Rattle.panel.specs.Sound.{lineOf, Reads}
+use Rattle.panel.specs.Reachable.{Reachable, by-start}
 use Rattle.panel.proofs.Invariant.{reachable-sound}
 use Rattle.demands.specs.Calls.{Moment, Call, lend, byte, bytes, mark, ask, contact, lift, begun, after, afterAll, handedOverAll, Typed, AllTyped}
-use Rattle.demands.specs.Given.{rulesOf, unlessRefused, given, givenAll}
+use Rattle.demands.specs.Reports.{reportWaits}
+use Rattle.demands.specs.Given.{unlessRefused, given, givenAll}
 use Rattle.demands.specs.Demand3.{Ready, AllAskedFor, OnAnOpenLine, BehindAMark, AfterAMark}
+use Rattle.demands.proofs.Calls.{calls-reached}
+use Rattle.demands.proofs.Waits.{busy-waits}
 use Rattle.demands.proofs.Reading.{Carries, carries-all}
 
 -- a reader that is reached and holds nothing is a new one
@@ -109,14 +113,17 @@ bytes-of [] more are = bytes-nil
 bytes-of (x ∷ xs) more are = bytes-cons x xs (are .0) (bytes-of xs more (are .1))
 
 -- what a sequence of calls from a new reader does is a run of the reading from a new one, and its reports are asked for when none waits there
-module _ (line : Declared.Line) (now : Moment) (new : now .panel .reader ≡ readerOf line fresh) (calls : List Call) (typed : AllTyped calls) where
+module _ (line : Declared.Line) (now : Moment) (reachable : Reachable (now .panel)) (new : now .panel .reader ≡ readerOf line fresh) (calls : List Call)
+    (typed : AllTyped calls) where
   pub carried : Carries line fresh (givenAll now calls) (handedOverAll now calls) (afterAll now calls .panel .reader)
   carried = carries-all line fresh now calls typed (reached-new line) new
 
-  pub none-waits : AllAskedFor now calls → waiting (rulesFor line) (run (rulesFor line) fresh (carried .events) .kept) ≡ false
-  none-waits asked =
-      sym (waiting-is line (run (rulesFor line) fresh (carried .events) .kept) (carried .reached))
-      ∙ ap (λ (r : Reader). busy r) (sym (carried .reads)) ∙ asked
+  pub waits-same : reportWaits (afterAll now calls .panel) ≡ waiting (rulesFor line) (run (rulesFor line) fresh (carried .events) .kept)
+  waits-same =
+      let panel = afterAll now calls .panel in
+      sym (busy-waits panel (reachable-sound panel (calls-reached now calls typed reachable)))
+      ∙ ap (λ (r : Reader). busy r) (carried .reads)
+      ∙ waiting-is line (run (rulesFor line) fresh (carried .events) .kept) (carried .reached)
 
 idle-new : (rules : Rules) → (_≡_ {A = List ℕ} [] []) × (waiting rules fresh ≡ false)
 idle-new rules = (refl, quiet-nil rules false)
@@ -126,12 +133,13 @@ unfolding run headerBytes
 demand3-open now ready calls typed damage frames tail good cut came begins-none followed asked =
     let line = lineOf (now .panel .setup) in
     let rules = rulesFor line in
+    let reachable = ready .reached in
     let new = ready-new now ready in
-    let c = carried line now new calls typed in
+    let c = carried line now reachable new calls typed in
     let whole = damage ++ (joined frames ++ tail) in
     let are : Bytes whole = bytes-of whole [] (rw (append-nil (map Line.byte whole)) (rw came at (all-given-bytes now calls typed))) in
     ap acceptedOf (sym (c .hands))
-    ∙ accepted-open rules [] (c .events) (idle-new rules) (none-waits line now new calls typed asked) damage frames good tail cut are begins-none
+    ∙ accepted-open rules [] (c .events) (idle-new rules) (sym (waits-same line now reachable new calls typed) ∙ asked) damage frames good tail cut are begins-none
     (c .gives ∙ came) followed
 
 pub demand3-closed : BehindAMark handedOverAll
@@ -139,12 +147,13 @@ unfolding run
 demand3-closed now ready calls typed damage frames good came begins-none asked =
     let line = lineOf (now .panel .setup) in
     let rules = rulesFor line in
+    let reachable = ready .reached in
     let new = ready-new now ready in
-    let c = carried line now new calls typed in
+    let c = carried line now reachable new calls typed in
     let whole = damage ++ joined frames in
     let are : Bytes whole = bytes-of whole (Line.mark ∷ []) (rw came at (all-given-bytes now calls typed)) in
     ap acceptedOf (sym (c .hands))
-    ∙ accepted-closed rules [] (c .events) (idle-new rules) (none-waits line now new calls typed asked) damage frames good are begins-none (c .gives ∙ came)
+    ∙ accepted-closed rules [] (c .events) (idle-new rules) (sym (waits-same line now reachable new calls typed) ∙ asked) damage frames good are begins-none (c .gives ∙ came)
 
 -- a start that is done gives a new panel
 judged-new : (verdict : Verdict) (setup : Setup) → startJudged verdict setup .answer ≡ start.Started → startJudged verdict setup .panel ≡ newPanel setup
@@ -173,5 +182,6 @@ demand3-after-mark setup table words room is calls typed before came asked =
     let line = lineOf setup in
     let new = new-reader setup table words room is in
     let now = begun setup table words room in
-    let c = carried line now new calls typed in
-    c .reads ∙ ap (readerOf line) (after-mark (rulesFor line) (c .events) before (c .gives ∙ came) (none-waits line now new calls typed asked))
+    let reachable = by-start setup table is in
+    let c = carried line now reachable new calls typed in
+    c .reads ∙ ap (readerOf line) (after-mark (rulesFor line) (c .events) before (c .gives ∙ came) (sym (waits-same line now reachable new calls typed) ∙ asked))

@@ -9,13 +9,13 @@ use Rattle.reading.specs.Stretch.{reports}
 use Rattle.reading.specs.Line.{lineReports}
 use Rattle.reading.specs.Run.{lineHeld}
 use Rattle.line.specs.State.{rulesFor, keptOf}
-use Rattle.line.specs.Methods.{busy}
 use Rattle.touch.specs.declared.Setup.{Setup}
 use Rattle.panel.specs.declared.Panel.{Panel}
 use Rattle.panel.specs.declared.StartAnswer.the-variants as start
 use Rattle.panel.specs.Start.{started}
 use Rattle.panel.specs.Sound.{lineOf}
 use Rattle.demands.specs.Calls.{Moment, Call, begun, afterAll, handedOverAll, AllTyped}
+use Rattle.demands.specs.Reports.{reportWaits}
 use Rattle.demands.specs.Given.{givenAll}
 
 -- what a panel keeps of the line, and the reports of it that are still to be handed over
@@ -34,13 +34,13 @@ pub record AsRead (setup : Setup) (now : Moment) (calls : List Call) : Type 0 wh
   -- "The reports asked for, in order, are those of the reading of all that was given": those handed over, and then those still to be handed over
   pub in-order : readingOf setup now calls ≡ handedOverAll now calls ++ stillToHand setup (afterAll now calls .panel)
   -- "While one of them is left, a report waits": where none waits, all of them have been handed over
-  pub while-left : busy (afterAll now calls .panel .reader) ≡ false → handedOverAll now calls ≡ readingOf setup now calls
+  pub while-left : reportWaits (afterAll now calls .panel) ≡ false → handedOverAll now calls ≡ readingOf setup now calls
   -- and where all of them have been handed over, none waits
-  pub no-longer : handedOverAll now calls ≡ readingOf setup now calls → busy (afterAll now calls .panel .reader) ≡ false
+  pub no-longer : handedOverAll now calls ≡ readingOf setup now calls → reportWaits (afterAll now calls .panel) ≡ false
   -- "otherwise the bytes from the waiting place on are held"
-  pub held : busy (afterAll now calls .panel .reader) ≡ false → keptBy (afterAll now calls .panel) ≡ lineHeld (rulesFor (lineOf setup)) (givenAll now calls)
+  pub held : reportWaits (afterAll now calls .panel) ≡ false → keptBy (afterAll now calls .panel) ≡ lineHeld (rulesFor (lineOf setup)) (givenAll now calls)
   -- "a frame has 3 + L bytes, at most 258": at most 257 bytes are held
-  pub at-most-257 : busy (afterAll now calls .panel .reader) ≡ false → length (keptBy (afterAll now calls .panel)) ≤ 257
+  pub at-most-257 : reportWaits (afterAll now calls .panel) ≡ false → length (keptBy (afterAll now calls .panel)) ≤ 257
 
 abbrev pub AlwaysAsRead : Type 0
 AlwaysAsRead =

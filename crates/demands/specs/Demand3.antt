@@ -9,14 +9,14 @@ use Rattle.reading.specs.Place.{Report}
 use Rattle.reading.specs.Line as Line
 use Rattle.reading.specs.Line.{Input}
 use Rattle.reading.specs.Demand3.{GoodFrames, joined, Cut, BeginsNone, acceptedOf, reportOfFrame}
-use Rattle.line.specs.Methods.{busy}
 use Rattle.touch.specs.declared.Setup.{Setup}
 use Rattle.touch.specs.Setup.{checkingOf}
 use Rattle.panel.specs.declared.StartAnswer.the-variants as start
 use Rattle.panel.specs.Start.{newPanel, started}
 use Rattle.panel.specs.Reachable.{Reachable}
 use Rattle.demands.specs.Calls.{Moment, Call, begun, afterAll, AllTyped}
-use Rattle.demands.specs.Given.{rulesOf, givenAll}
+use Rattle.demands.specs.Reports.{rulesOf, reportWaits}
+use Rattle.demands.specs.Given.{givenAll}
 
 -- what a build hands over when these calls are made of it; ours is `handedOverAll`
 abbrev pub HandsOver : Type 0
@@ -27,11 +27,11 @@ pub record Ready (now : Moment) : Type 0 where
   pub reached : Reachable (now .panel)
   pub checking-on : checkingOf (now .panel .setup) ≡ true
   pub nothing-held : now .panel .reader .len ≡ 0
-  pub nothing-waits : busy (now .panel .reader) ≡ false
+  pub nothing-waits : reportWaits (now .panel) ≡ false
 
 -- ".. and all reports are asked for": none waits any more
 abbrev pub AllAskedFor : Moment → List Call → Type 0
-AllAskedFor now calls = busy (afterAll now calls .panel .reader) ≡ false
+AllAskedFor now calls = reportWaits (afterAll now calls .panel) ≡ false
 
 -- "damage of any bytes arrives, then good frames end to end, unbroken by a mark. If no place in the damage begins a run of bytes, in it or reaching past
 -- it, that is itself a good frame, then once 257 bytes have followed the damage on a line still open .., and all reports are asked for, the frames

@@ -1,20 +1,12 @@
 -- 01, "Reading the line": which inputs a sequence of calls has given to the panel.
 use mathlib.Core.List.{List, [], _∷_, _++_, map}
 use lib.ListN.{take}
-use Rattle.reading.specs.Place.{Rules}
 use Rattle.reading.specs.Line as Line
 use Rattle.reading.specs.Line.{Input}
 use Rattle.line.specs.declared.Answer.{Answer}
 use Rattle.line.specs.declared.Answer.the-variants.{Done, Waits}
-use Rattle.line.specs.State.{rulesFor}
-use Rattle.panel.specs.declared.Panel.{Panel}
 use Rattle.panel.specs.Inputs.{fedByte, fedMark, fedBytes}
-use Rattle.panel.specs.Sound.{lineOf}
 use Rattle.demands.specs.Calls.{Moment, Call, lend, byte, bytes, mark, ask, contact, lift, after}
-
--- the header and the checking choice that the panel was set up with, as the reading takes them
-abbrev pub rulesOf : Panel → Rules
-rulesOf panel = rulesFor (lineOf (panel .setup))
 
 -- "An input refused with 1 was not given"
 unfoldable pub unlessRefused : Answer → Input → List Input
