@@ -44,6 +44,7 @@ use Rattle.demands.specs.Given.{unlessRefused, given, givenAll}
 use Rattle.demands.specs.Demand3.{Ready, AllAskedFor, OnAnOpenLine, BehindAMark, AfterAMark}
 use Rattle.demands.proofs.Calls.{calls-reached}
 use Rattle.demands.proofs.Waits.{busy-waits}
+use Rattle.demands.proofs.Alike.{read-alike}
 use Rattle.demands.proofs.Reading.{Carries, carries-all}
 
 -- a reader that is reached and holds nothing is a new one
@@ -184,4 +185,10 @@ demand3-after-mark setup table words room is calls typed before came asked =
     let now = begun setup table words room in
     let reachable = by-start setup table is in
     let c = carried line now reachable new calls typed in
-    c .reads ∙ ap (readerOf line) (after-mark (rulesFor line) (c .events) before (c .gives ∙ came) (sym (waits-same line now reachable new calls typed) ∙ asked))
+    let last = afterAll now calls in
+    let as-new : last .panel .reader ≡ readerOf line fresh =
+    c .reads ∙ ap (readerOf line) (after-mark (rulesFor line) (c .events) before (c .gives ∙ came) (sym (waits-same line now reachable new calls typed) ∙ asked)) in
+    record {
+      new-reader = as-new;
+      reads-as-new = read-alike last (begun setup table (last .words) (last .room)) (as-new ∙ sym new) refl refl;
+    }

@@ -187,10 +187,10 @@ module _ (line : Declared.Line) (panel : Panel) (kept : Kept) (reached : Reached
       go false = still line kept reached (panel .reader) reads
 
 -- touches leave the reader
-contact-keeps-reader : (panel : Panel) (table words : List ℕ) (x y : ℕ) → contacting panel table words x y .contacted .panel .reader ≡ panel .reader
+pub contact-keeps-reader : (panel : Panel) (table words : List ℕ) (x y : ℕ) → contacting panel table words x y .contacted .panel .reader ≡ panel .reader
 contact-keeps-reader panel table words x y = contact-ways panel table words x y (λ c. c .contacted .panel .reader ≡ panel .reader) (λ answer. refl) (λ good. refl)
 
-lift-keeps-reader : (panel : Panel) → lifting panel .panel .reader ≡ panel .reader
+pub lift-keeps-reader : (panel : Panel) → lifting panel .panel .reader ≡ panel .reader
 lift-keeps-reader panel = lift-ways panel (λ l. l .panel .reader ≡ panel .reader) refl refl refl
 
 -- a call

@@ -14,7 +14,7 @@ use Rattle.touch.specs.Setup.{checkingOf}
 use Rattle.panel.specs.declared.StartAnswer.the-variants as start
 use Rattle.panel.specs.Start.{newPanel, started}
 use Rattle.panel.specs.Reachable.{Reachable}
-use Rattle.demands.specs.Calls.{Moment, Call, begun, afterAll, AllTyped}
+use Rattle.demands.specs.Calls.{Moment, Call, begun, afterAll, handedOverAll, AllTyped}
 use Rattle.demands.specs.Reports.{rulesOf, reportWaits}
 use Rattle.demands.specs.Given.{givenAll}
 
@@ -56,12 +56,22 @@ BehindAMark handsOver =
     → AllAskedFor now calls
     → acceptedOf (handsOver now calls) ≡ map (reportOfFrame (rulesOf (now .panel))) frames
 
+-- two panels read alike: whatever calls follow, they take the same inputs and hand over the same reports
+pub record ReadAlike (one other : Moment) : Type 0 where
+  pub give-same : (calls : List Call) → givenAll one calls ≡ givenAll other calls
+  pub hand-same : (calls : List Call) → handedOverAll one calls ≡ handedOverAll other calls
+
 -- "After a quiet mark and its reports, with checking on or off, reading goes on as from a new panel, and no premise is needed." From any start, whatever
--- was given before the mark, and however it was mixed with asks, contacts and lifts: what reads the line is then what a new panel has.
+-- was given before the mark, and however it was mixed with asks, contacts and lifts: the panel's reader is that of a new panel, and reading goes on as
+-- that of a new panel which is lent the same.
+pub record AsNew (setup : Setup) (table : List ℕ) (now : Moment) : Type 0 where
+  pub new-reader : now .panel .reader ≡ newPanel setup .reader
+  pub reads-as-new : ReadAlike now (begun setup table (now .words) (now .room))
+
 abbrev pub AfterAMark : Type 0
 AfterAMark =
     (setup : Setup) (table words room : List ℕ) → started setup table .answer ≡ start.Started
     → (calls : List Call) → AllTyped calls
     → (before : List Input) → givenAll (begun setup table words room) calls ≡ before ++ (Line.mark ∷ [])
     → AllAskedFor (begun setup table words room) calls
-    → afterAll (begun setup table words room) calls .panel .reader ≡ newPanel setup .reader
+    → AsNew setup table (afterAll (begun setup table words room) calls)
