@@ -1,12 +1,11 @@
 -- Two panels with the same reader, lent as many words and as large a room, read alike: registers, page, catch and the words' values play no part in reading.
 use mathlib.Core.Path.{_≡_, refl, sym, ap, _∙_}
 use mathlib.Core.Bool.{Bool, true, false, cond}
-use mathlib.Core.List.{List, [], _∷_, _++_, map}
+use mathlib.Core.List.{List, [], _∷_, map}
 use Prim.Native.Nat.{ℕ}
 use lib.ListN.{length, take}
 use Rattle.reading.specs.Place as Place
 use Rattle.reading.specs.Line as Line
-use Rattle.reading.specs.Line.{Input}
 use Rattle.line.specs.declared.Reader.{Reader}
 use Rattle.line.specs.declared.Asked.{Asked}
 use Rattle.line.specs.declared.Report.{Report}

@@ -1,24 +1,20 @@
 -- 01, "Reading the line", of a panel: "The reports asked for, in order, are those of the reading of all that was given."
-use mathlib.Core.Path.{_≡_, refl, sym, ap, _∙_}
-use mathlib.Core.Bool.{Bool, true, false}
-use mathlib.Core.List.{List, [], _∷_, _++_}
-use Prim.Native.Nat.{ℕ, _≤_}
-use native.Mathlib.Omega.{arith}
-use lib.ListN.{length}
+use mathlib.Core.Path.{_≡_, sym, ap, _∙_}
+use mathlib.Core.List.{List, _++_}
 use Rattle.reading.specs.Place.{Rules, Report}
 use Rattle.reading.specs.Stretch.{reports}
-use Rattle.reading.specs.Line.{Input, lineReports}
+use Rattle.reading.specs.Line.{lineReports}
 use Rattle.reading.specs.Moves.{Kept, fresh, waiting}
 use Rattle.reading.specs.Run.{run, lineHeld}
 use Rattle.reading.proofs.Run.{handed-first, handed-all, kept-is-held, waits-while-left}
 use Rattle.line.specs.declared.Line as Declared
 use Rattle.line.specs.declared.Reader.{Reader}
-use Rattle.line.specs.State.{rulesFor, readerOf, keptOf}
+use Rattle.line.specs.State.{rulesFor, keptOf}
 use Rattle.line.proofs.Carried.{kept-is, held-waiting}
 use Rattle.touch.specs.declared.Setup.{Setup}
 use Rattle.panel.specs.Sound.{lineOf}
 use Rattle.panel.specs.Reachable.{by-start}
-use Rattle.demands.specs.Calls.{Moment, Call, begun, afterAll, handedOverAll, AllTyped}
+use Rattle.demands.specs.Calls.{Moment, Call, begun, afterAll, handedOverAll}
 use Rattle.demands.specs.Reports.{reportWaits}
 use Rattle.demands.specs.Given.{givenAll}
 use Rattle.demands.specs.AsRead.{AsRead, AlwaysAsRead}

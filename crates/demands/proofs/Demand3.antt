@@ -2,17 +2,17 @@
 use mathlib.Core.Path.{_≡_, refl, sym, ap, _∙_}
 use mathlib.Core.Bool.{Bool, true, false, cond, not}
 use mathlib.Core.List.{List, [], _∷_, _++_, map, append-nil}
-use Prim.Native.Nat.{ℕ, zero, suc, _+_, _≤_, _<_}
+use Prim.Native.Nat.{ℕ, zero, suc, _+_, _<_}
 use native.Mathlib.Omega.{arith}
 use lib.ListN.{length, take}
 use Rattle.wire.specs.Bytes.{Bytes}
 use Rattle.frame.specs.Frame.{headerBytes}
-use Rattle.reading.specs.Place.{Rules, Report, look, behind, cutShort}
+use Rattle.reading.specs.Place.{Rules, look, behind, cutShort}
 use Rattle.reading.specs.Line as Line
 use Rattle.reading.specs.Line.{Input}
 use Rattle.reading.specs.Moves.{Kept, fresh, waiting, isPass}
-use Rattle.reading.specs.Run.{Event, Ran, run}
-use Rattle.reading.specs.Demand3.{GoodFrames, joined, Cut, BeginsNone, acceptedOf, reportOfFrame}
+use Rattle.reading.specs.Run.{run}
+use Rattle.reading.specs.Demand3.{joined, acceptedOf}
 use Rattle.reading.proofs.Stable.{never, true-is-not-false}
 use Rattle.reading.proofs.ByteLists.{bytes-nil, bytes-cons}
 use Rattle.reading.proofs.Settling.{quiet-nil}
@@ -35,13 +35,13 @@ use Rattle.panel.specs.declared.Panel.{Panel}
 use Rattle.panel.specs.declared.StartAnswer.the-variants as start
 use Rattle.panel.specs.Start.{refuses, newPanel, startJudged, started}
 use Rattle.panel.specs.Inputs.{fedByte, fedMark, fedBytes}
-use Rattle.panel.specs.Sound.{lineOf, Reads}
+use Rattle.panel.specs.Sound.{lineOf}
 use Rattle.panel.specs.Reachable.{Reachable, by-start}
 use Rattle.panel.proofs.Invariant.{reachable-sound}
 use Rattle.demands.specs.Calls.{Moment, Call, lend, byte, bytes, mark, ask, contact, lift, begun, after, afterAll, handedOverAll, Typed, AllTyped}
 use Rattle.demands.specs.Reports.{reportWaits}
 use Rattle.demands.specs.Given.{unlessRefused, given, givenAll}
-use Rattle.demands.specs.Demand3.{Ready, AllAskedFor, OnAnOpenLine, BehindAMark, AfterAMark}
+use Rattle.demands.specs.Demand3.{Ready, OnAnOpenLine, BehindAMark, AfterAMark}
 use Rattle.demands.proofs.Calls.{calls-reached}
 use Rattle.demands.proofs.Waits.{busy-waits}
 use Rattle.demands.proofs.Alike.{read-alike}

@@ -1,6 +1,5 @@
 -- 01: "Examples a to j are one proved table under a single claim."
-use mathlib.Core.Path.{_≡_, refl}
-use mathlib.Core.List.{List, [], _∷_}
+use mathlib.Core.Path.{refl}
 use Rattle.check_value.specs.CheckValue.{polynomial, bitStep, bitSteps, byteStep, checkFrom, checkValue}
 use Rattle.frame.specs.Frame.{headerBytes, checkLength, checkBytes, lengthByte, enclosed, framed, frameOf, leastLength, mostData, contentOf, rightCheck}
 use Rattle.frame.specs.Acknowledgement.{acknowledgementLength, verdict, acknowledgement}

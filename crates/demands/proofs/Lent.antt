@@ -1,13 +1,13 @@
 -- No call changes how many words are lent or how large the reply room is.
 use mathlib.Core.Path.{_≡_, refl, sym, ap, _∙_}
 use mathlib.Core.Bool.{Bool, true, false, cond, _&&_}
-use mathlib.Core.List.{List, [], _∷_, _++_}
+use mathlib.Core.List.{List, _++_}
 use Prim.Native.Nat.{ℕ, _+_, _≤_}
 use native.Mathlib.Omega.{arith}
 use borrow.Author.Tests.{leb-true}
 use lib.Dec.{eqb, leb}
 use lib.ListN.{length, take, drop, length-append, take-append-drop}
-use Rattle.wire.specs.Room.{over, Laid, lays, laid, laidAt}
+use Rattle.wire.specs.Room.{lays, laid, laidAt}
 use Rattle.wire.specs.ByteOrder.{wordAt}
 use Rattle.wire.proofs.Over.{length-over}
 use Rattle.wire.proofs.LaidAt.{length-laidAt}
@@ -35,9 +35,7 @@ use Rattle.panel.specs.State.{headerOf, answering, padOf}
 use Rattle.panel.specs.Reporting.{acknowledged, accepting, handing, reporting}
 use Rattle.panel.specs.Contacts.{contacting}
 use Rattle.panel.proofs.Ways.{contact-ways, report-ways}
-use Rattle.line.specs.declared.Report.the-variants as line
 use Rattle.line.specs.Methods.{asked}
-use Rattle.demands.specs.Calls.{Moment, Call, lend, byte, bytes, mark, ask, contact, lift, after}
 
 -- a run that is laid where it fits
 laid-long : (run room : List ℕ) (may : Bool) → (may ≡ true → length run ≤ length room) → length (laid may run room .room) ≡ length room
@@ -107,7 +105,7 @@ of-five f r false false false true v w x y z i j k l m = l
 of-five f r false false false false v w x y z i j k l m = m
 
 module _ (registers : Registers) (pages : ℕ) (checking : Bool) (header : List ℕ) (command : ℕ) (content words room : List ℕ) where
-  performed-words : length (performance registers pages checking header command content words room .words) ≡ length words
+  pub performed-words : length (performance registers pages checking header command content words room .words) ≡ length words
   unfolding performance
   performed-words =
       of-five (λ (p : Performance). length (p .words)) (length words) (eqb command 0x80) (eqb command 0x81) (eqb command 0x82) (eqb command 0x83) _ _ _ _ _

@@ -16,7 +16,7 @@ use Rattle.reading.specs.Demand3.{acceptedOf}
 use Rattle.registers.specs.declared.Registers.{Registers}
 use Rattle.words.specs.Words.{wordsOf}
 use Rattle.commands.specs.declared.Outcome.the-variants.{Done}
-use Rattle.commands.specs.Outcome.{writeWordsOutcome, readWordsOutcome}
+use Rattle.commands.specs.Outcome.{writeRegistersOutcome, readRegistersOutcome, writeWordsOutcome, readWordsOutcome}
 use Rattle.commands.specs.Effect.{isDone}
 use Rattle.commands.specs.Perform.{Performance, performs, besideReply}
 use Rattle.demands.specs.Calls.{Moment, Call, afterAll}
@@ -43,17 +43,29 @@ ReadsFirstStretchOnly handsOver =
 abbrev pub Performs : Type 0
 Performs = Registers → (pages : ℕ) (checking : Bool) (header : List ℕ) (command : ℕ) (content words room : List ℕ) → Performance
 
--- demand 2, "word access": what an 0x82 that is done wrote, an 0x83 of the same run replies, whatever the registers and the room
+-- a read that is done: only the room changes, over which the reply with this data is laid
+abbrev pub replied : Registers → Bool → List ℕ → ℕ → (payload words room : List ℕ) → Performance
+replied registers checking header command payload words room =
+    let reply = frameLaid checking header command payload room in
+    performs (besideReply registers (record { outcome = Done; count = reply .count })) words (reply .room)
+
+-- "register .. access": what an 0x80 that is done wrote, an 0x81 of the same run replies ("Reply 0x81, address, count, bytes")
+abbrev pub RegistersComeBack : Performs → Type 0
+RegistersComeBack perform =
+    (registers : Registers) (pages : ℕ) (checking : Bool) (header content words room words′ room′ : List ℕ)
+    → let run = byteAt content 0 ∷ length (drop 1 content) ∷ [] in
+    let written = perform registers pages checking header 0x80 content words room .performed .registers in
+    length (registers .bytes) ≡ 256 → isDone (writeRegistersOutcome pages content) ≡ true → isDone (readRegistersOutcome checking run) ≡ true
+    → perform written pages checking header 0x81 run words′ room′ ≡ replied written checking header 0x81 (run ++ drop 1 content) words′ room′
+
+-- "word access": what an 0x82 that is done wrote, an 0x83 of the same run replies ("Reply 0x83, address, count, words")
 abbrev pub WordsComeBack : Performs → Type 0
 WordsComeBack perform =
     (registers : Registers) (pages : ℕ) (checking : Bool) (header content words room : List ℕ) (registers′ : Registers) (room′ : List ℕ)
-    → Bytes content → isDone (writeWordsOutcome (length words) content) ≡ true
-    → let stored = perform registers pages checking header 0x82 content words room .words in
-    let read = byteAt content 0 ∷ byteAt content 1 ∷ length (wordsOf (drop 2 content)) ∷ [] in
-    let reply = frameLaid checking header 0x83 (byteAt content 0 ∷ byteAt content 1 ∷ length (wordsOf (drop 2 content)) ∷ drop 2 content) room′ in
-    isDone (readWordsOutcome (length stored) checking read) ≡ true
-    → perform registers′ pages checking header 0x83 read stored room′
-    ≡ performs (besideReply registers′ (record { outcome = Done; count = reply .count })) stored (reply .room)
+    → let run = byteAt content 0 ∷ byteAt content 1 ∷ length (wordsOf (drop 2 content)) ∷ [] in
+    let written = perform registers pages checking header 0x82 content words room .words in
+    Bytes content → isDone (writeWordsOutcome (length words) content) ≡ true → isDone (readWordsOutcome (length words) checking run) ≡ true
+    → perform registers′ pages checking header 0x83 run written room′ ≡ replied registers′ checking header 0x83 (run ++ drop 2 content) written room′
 
 -- "refusing every frame"
 abbrev pub RefusesEveryCommand : Performs → Type 0
@@ -61,14 +73,30 @@ RefusesEveryCommand perform =
     (registers : Registers) (pages : ℕ) (checking : Bool) (header : List ℕ) (command : ℕ) (content words room : List ℕ)
     → isDone (perform registers pages checking header command content words room .performed .outcome) ≡ false
 
--- "replying alike to all reads": the reply goes by the room that is lent alone
-abbrev pub RepliesAlike : Performs → Type 0
-RepliesAlike perform =
+-- "replying alike to all reads" of one kind: what is written in the room does not go by what is asked for or stands there
+abbrev pub RepliesAlike : (command : ℕ) → Performs → Type 0
+RepliesAlike command perform =
     (registers registers′ : Registers) (pages : ℕ) (checking : Bool) (header content content′ words words′ room : List ℕ)
-    → perform registers pages checking header 0x83 content words room .room ≡ perform registers′ pages checking header 0x83 content′ words′ room .room
+    → perform registers pages checking header command content words room .room ≡ perform registers′ pages checking header command content′ words′ room .room
 
--- "taking frames without storing"
-abbrev pub StoresNothing : Performs → Type 0
-StoresNothing perform =
+-- "taking frames without storing": no command changes a register; none changes a word
+abbrev pub StoresNoRegister : Performs → Type 0
+StoresNoRegister perform =
+    (registers : Registers) (pages : ℕ) (checking : Bool) (header : List ℕ) (command : ℕ) (content words room : List ℕ)
+    → perform registers pages checking header command content words room .performed .registers ≡ registers
+
+abbrev pub StoresNoWord : Performs → Type 0
+StoresNoWord perform =
     (registers : Registers) (pages : ℕ) (checking : Bool) (header : List ℕ) (command : ℕ) (content words room : List ℕ)
     → perform registers pages checking header command content words room .words ≡ words
+
+-- a build that is none of the four
+pub record NotIdle (handsOver : HandsOver) (perform : Performs) : Type 0 where
+  pub accepts-frames : RefusesEveryFrame handsOver → ⊥
+  pub does-commands : RefusesEveryCommand perform → ⊥
+  pub replies-by-registers : RepliesAlike 0x81 perform → ⊥
+  pub replies-by-words : RepliesAlike 0x83 perform → ⊥
+  pub stores-registers : StoresNoRegister perform → ⊥
+  pub stores-words : StoresNoWord perform → ⊥
+  pub reads-on-behind-a-frame : ReadsFirstFrameOnly handsOver → ⊥
+  pub reads-on-behind-a-stretch : ReadsFirstStretchOnly handsOver → ⊥
