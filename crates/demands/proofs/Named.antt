@@ -123,11 +123,21 @@ contacted-word now table x y k =
     by-touch done (Touch.acts i r up is word) = Demand2.acted table x y i r done up is word
     by-touch done (Touch.drags r down is word) = Demand2.dragged table x y r done down is word
 
+-- a word over words lent anew
+lent-word : (now : Moment) (words room : List ℕ) (k : ℕ)
+    → (wordAtAddress words k ≡ wordAtAddress (now .words) k) ⊎ NamesWord now k (lend words room)
+lent-word now words room k = go (eqb (wordAtAddress words k) (wordAtAddress (now .words) k)) refl
+  where
+    go : (b : Bool) → eqb (wordAtAddress words k) (wordAtAddress (now .words) k) ≡ b
+        → (wordAtAddress words k ≡ wordAtAddress (now .words) k) ⊎ NamesWord now k (lend words room)
+    go true is = inl (eqb-true (wordAtAddress words k) (wordAtAddress (now .words) k) is)
+    go false is = inr (Demand2.other-words words room (eqb-false (wordAtAddress words k) (wordAtAddress (now .words) k) is))
+
 -- a word over any call: it stays, or the call names it
 pub call-names-word : (now : Moment) (call : Call) (k : ℕ)
     → (wordAtAddress (after now call .words) k ≡ wordAtAddress (now .words) k) ⊎ NamesWord now k call
 unfolding after numberGiven handedOver
-call-names-word now (lend words room) k = inr (Demand2.other-words words room)
+call-names-word now (lend words room) k = lent-word now words room k
 call-names-word now (byte b) k = inl refl
 call-names-word now (bytes bs) k = inl refl
 call-names-word now mark k = inl refl

@@ -9,9 +9,11 @@ use mathlib.Core.List.{List, [], _∷_}
 use lib.ListN.{length, drop}
 use Rattle.wire.specs.ByteOrder.{byteAt, wordAt}
 use Rattle.reading.specs.Place.{acceptedFrame}
+use Rattle.reading.specs.Moves.{fresh}
+use Rattle.line.specs.State.{keptOf}
 use Rattle.registers.specs.Table.{registerAt}
 use Rattle.registers.specs.Touched.{pageOf, isDown}
-use Rattle.words.specs.Words.{wordsOf}
+use Rattle.words.specs.Words.{wordAtAddress, wordsOf}
 use Rattle.touch.specs.declared.Record.{Record}
 use Rattle.touch.specs.declared.Found.the-variants.{At}
 use Rattle.touch.specs.Record.{noNext}
@@ -30,8 +32,8 @@ pub data NamesWord (now : Moment) (k : ℕ) : Call → Type 0 where
   -- "Contact while down: .. a caught slider stores ..; nothing else acts"
   dragged : (table : List ℕ) (x y : ℕ) (r : Record) → numberGiven now (contact table x y) ≡ 0 → isDown (now .panel .registers) ≡ true
       → now .panel .catch ≡ Caught r → k ≡ r .word → NamesWord now k (contact table x y)
-  -- the caller lends other words
-  other-words : (words room : List ℕ) → NamesWord now k (lend words room)
+  -- the caller lends other words, with another number there
+  other-words : (words room : List ℕ) → wordAtAddress words k ≢ wordAtAddress (now .words) k → NamesWord now k (lend words room)
 
 -- the register is named by the call, which is done
 pub data NamesRegister (now : Moment) (address : ℕ) : Call → Type 0 where
@@ -54,3 +56,10 @@ pub data NamesRegister (now : Moment) (address : ℕ) : Call → Type 0 where
 pub data Some (P : Moment → Call → Type 0) : Moment → List Call → Type 0 where
   here : (now : Moment) (call : Call) (calls : List Call) → P now call → Some P now (call ∷ calls)
   later : (now : Moment) (call : Call) (calls : List Call) → Some P (after now call) calls → Some P now (call ∷ calls)
+
+-- "What our frame writer writes, our reader reads back as the same command and data": all its bytes are taken, asking then hands over one accepted frame
+-- with this command and data, and nothing is held or waiting
+pub record ReadsBack (now : Moment) (frame : List ℕ) (command : ℕ) (payload : List ℕ) : Type 0 where
+  pub taken : numberGiven now (bytes frame) ≡ 0
+  pub handed-over : handedOver (after now (bytes frame)) ask ≡ acceptedFrame command payload ∷ []
+  pub nothing-left : keptOf (after (after now (bytes frame)) ask .panel .reader) ≡ fresh
