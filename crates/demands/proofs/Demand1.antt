@@ -1,10 +1,10 @@
 -- Demand 1: "Every call takes any input and answers as document 01 lists, each number exactly under its printed condition and order."
 use mathlib.Core.Path.{_≡_, refl, sym, ap, _∙_}
 use mathlib.Core.Bool.{Bool, true, false, cond, not, _&&_, _||_}
-use mathlib.Core.List.{List, [], _∷_}
+use mathlib.Core.List.{List, [], _∷_, _++_}
 use Prim.Native.Nat.{ℕ, suc, _+_, _%_, _≤_, _<_}
 use native.Mathlib.Omega.{arith}
-use borrow.Author.Tests.{le-ltb, lt-ltb, leb-true, leb-false, eqb-true, eqb-false, eq-eqb, ne-eqb, ltb-false}
+use borrow.Author.Tests.{le-ltb, lt-ltb, leb-true, leb-false, eqb-true, eqb-false, eq-eqb, ne-eqb, ltb-false, not-true}
 use lib.Dec.{eqb, ltb, leb}
 use lib.ListN.{length, take, drop}
 use Rattle.wire.specs.Bytes.{Bytes}
@@ -28,6 +28,7 @@ use Rattle.line.specs.Methods as Line
 use Rattle.line.specs.Methods.{busy, givenByte, givenMark, givenBytes, gave, plus, asked}
 use Rattle.line.specs.Reached.{reportAs, payloadAs}
 use Rattle.line.proofs.Padding.{take-padded}
+use Rattle.line.proofs.Truths.{never, and-left, and-right}
 use Rattle.registers.specs.Table.{registerCount}
 use Rattle.registers.specs.Run.{unwritableRun, wrongValue}
 use Rattle.registers.specs.Touched.{isDown, isTouchOff}
@@ -40,11 +41,13 @@ use Rattle.touch.specs.declared.Setup.{Setup}
 use Rattle.touch.specs.declared.Record.{Record}
 use Rattle.touch.specs.declared.Found.{Found}
 use Rattle.touch.specs.declared.Found.the-variants.{Nothing, At}
-use Rattle.touch.specs.declared.Verdict.the-variants.{NotRecords}
+use Rattle.touch.specs.declared.Verdict.{Verdict}
+use Rattle.touch.specs.declared.Verdict.the-variants.{Good, NotRecords, Wrong}
 use Rattle.touch.specs.Setup.{checkingOf, goodSetup}
 use Rattle.touch.specs.Table.{firstOf, recordsOf}
 use Rattle.touch.specs.Judge.{goodRecord, wrong, namedWrong, numberOfVerdict, judged}
 use Rattle.contact.specs.Contact.{Touching, touched, lifted}
+use Rattle.touch.proofs.Tables.{thirteen-names-first}
 use Rattle.panel.specs.declared.Panel.{Panel}
 use Rattle.panel.specs.declared.ContactAnswer.the-variants as contact-answer
 use Rattle.panel.specs.declared.LiftAnswer.the-variants as lift-answer
@@ -61,7 +64,7 @@ use Rattle.panel.proofs.Ways.{lifts}
 use Rattle.panel.proofs.Invariant.{reachable-sound}
 use Rattle.demands.specs.Calls.{Moment, Call, lend, byte, bytes, mark, ask, contact, lift, begun, afterAll, numberGiven, Typed, AllTyped}
 use Rattle.demands.specs.Reports.{reportWaits, waitingReport}
-use Rattle.demands.specs.Demand1.{Condition, _when_, firstNumber, oneComesWhileWaiting, ofFrame, notCommand, byCommand, wrongData, passesEnd, touchesUnwritable, valueWrong, replyPasses, wordsNotLent, roomTooSmall, notWholeRecords, oneWrong, offScreen, printed, printedStart, printedWriter}
+use Rattle.demands.specs.Demand1.{Condition, _when_, firstNumber, noneHolds, GivenUnder, NamesFirstWrong, oneComesWhileWaiting, ofFrame, notCommand, byCommand, wrongData, passesEnd, touchesUnwritable, valueWrong, replyPasses, wordsNotLent, roomTooSmall, notWholeRecords, oneWrong, offScreen, printed, printedStart, printedWriter}
 use Rattle.demands.proofs.Calls.{sequence-reached}
 use Rattle.demands.proofs.Waits.{busy-waits, asked-report, asked-payload}
 
@@ -387,3 +390,107 @@ writer-as-printed checking header command payload room = go (ltb (length room) 2
     go true b = refl
     go false true = refl
     go false false = refl
+
+-- "Given exactly when": the first number of a list is given under its condition, and a number under whose condition it is given is the first
+pub first-given : (cs : List Condition) → 0 < firstNumber cs → GivenUnder cs (firstNumber cs)
+unfolding firstNumber noneHolds
+first-given [] above = absurd (omega arith)
+first-given (c ∷ cs) above = go (c .holds) refl above (first-given cs)
+  where
+    go : (b : Bool) → c .holds ≡ b → 0 < cond b (c .number) (firstNumber cs) → (0 < firstNumber cs → GivenUnder cs (firstNumber cs))
+        → GivenUnder (c ∷ cs) (cond b (c .number) (firstNumber cs))
+    go true is above further =
+        record { before = []; condition = c; behind = cs; place = refl; number = refl; holds = is; none-before = refl }
+    go false is above further =
+        let rest = further above in
+        record {
+          before = c ∷ rest .before;
+          condition = rest .condition;
+          behind = rest .behind;
+          place = ap (λ (l : List Condition). c ∷ l) (rest .place);
+          number = rest .number;
+          holds = rest .holds;
+          none-before = rw (is, rest .none-before);
+        }
+
+skipped : (before rest : List Condition) → noneHolds before ≡ true → firstNumber (before ++ rest) ≡ firstNumber rest
+unfolding firstNumber noneHolds
+skipped [] rest none = refl
+skipped (c ∷ before) rest none =
+    let off : c .holds ≡ false = not-true (c .holds) (and-left (not (c .holds)) (noneHolds before) none) in
+    rw off (skipped before rest (and-right (not (c .holds)) (noneHolds before) none))
+
+pub given-is-first : (cs : List Condition) (n : ℕ) → GivenUnder cs n → firstNumber cs ≡ n
+unfolding firstNumber
+given-is-first cs n given =
+    ap firstNumber (given .place)
+    ∙ skipped (given .before) (given .condition ∷ given .behind) (given .none-before)
+    ∙ rw (given .holds) (given .number)
+
+module _ (setup : Setup) (table words room : List ℕ) (is : started setup table .answer ≡ start.Started) (calls : List Call) (typed : AllTyped calls)
+    (call : Call) (fits : Typed call) (n : ℕ) where
+  -- after any sequence of calls, a number above 0 is given only where its printed condition holds and none before it in the printed order; so every
+  -- number is one of those printed for its call
+  pub given-only-as-printed : 0 < n → numberGiven (afterAll (begun setup table words room) calls) call ≡ n
+      → GivenUnder (printed (afterAll (begun setup table words room) calls) call) n
+  given-only-as-printed above gives =
+      let now = afterAll (begun setup table words room) calls in
+      let same : firstNumber (printed now call) ≡ n = sym (numbers-as-printed setup table words room is calls typed call fits) ∙ gives in
+      rw same at (first-given (printed now call) (rw same above))
+
+  -- and is given wherever that is so
+  pub given-wherever-printed : GivenUnder (printed (afterAll (begun setup table words room) calls) call) n
+      → numberGiven (afterAll (begun setup table words room) calls) call ≡ n
+  given-wherever-printed under =
+      numbers-as-printed setup table words room is calls typed call fits ∙ given-is-first (printed (afterAll (begun setup table words room) calls) call) n under
+
+-- 13: "the first wrong one is named"
+names-first : (setup : Setup) (table : List ℕ) (i : ℕ) → judged setup table ≡ Wrong i → NamesFirstWrong setup table i
+names-first setup table i is = let named = thirteen-names-first setup table i is in record { is-wrong = named .0; first = named .1 .1 }
+
+on-names-none : (panel : Panel) (table words : List ℕ) (x y i : ℕ) → contactOn panel table words x y .contacted .answer ≡ contact-answer.WrongRecord i → ⊥
+unfolding contactOn
+on-names-none panel table words x y i = go (isTouchOff (panel .registers)) (not (ltb x (panel .setup .width) && ltb y (panel .setup .height)))
+  where
+    done : Touching
+    done = touched (padOf panel) table words x y
+
+    go : (a b : Bool)
+        → cond a (contacts contact-answer.TouchOff panel words) (cond b (contacts contact-answer.OffScreen panel words)
+        (contacts contact-answer.Done (withPad panel (done .pad)) (done .words))) .contacted .answer
+        ≡ contact-answer.WrongRecord i → ⊥
+    go true b is = never (cc)
+    go false true is = never (cc)
+    go false false is = never (cc)
+
+pub contact-names-first-wrong : (now : Moment) (table : List ℕ) (x y i : ℕ)
+    → contacting (now .panel) table (now .words) x y .contacted .answer ≡ contact-answer.WrongRecord i
+    → NamesFirstWrong (now .panel .setup) table i
+unfolding contacting contactJudged
+contact-names-first-wrong now table x y i = go (not (eqb (length (now .words)) wordCount)) (busy (now .panel .reader)) (judged (now .panel .setup) table) refl
+  where
+    panel : Panel
+    panel = now .panel
+
+    go : (a b : Bool) (v : Verdict) → judged (panel .setup) table ≡ v
+        → cond a (contacts contact-answer.NotLent panel (now .words)) (cond b (contacts contact-answer.Waits panel (now .words))
+        (contactJudged v panel table (now .words) x y)) .contacted .answer
+        ≡ contact-answer.WrongRecord i
+        → NamesFirstWrong (panel .setup) table i
+    go true b v judges is = never (cc)
+    go false true v judges is = never (cc)
+    go false false Good judges is = absurd (on-names-none panel table (now .words) x y i is)
+    go false false NotRecords judges is = never (cc)
+    go false false (Wrong j) judges is =
+        let same : j ≡ i = cc in names-first (panel .setup) table i (judges ∙ ap (λ (k : ℕ). Wrong k) same)
+
+pub start-names-first-wrong : (setup : Setup) (table : List ℕ) (i : ℕ) → started setup table .answer ≡ start.WrongRecord i → NamesFirstWrong setup table i
+unfolding started startJudged
+start-names-first-wrong setup table i = go (not (goodSetup setup)) (judged setup table) refl
+  where
+    go : (b : Bool) (v : Verdict) → judged setup table ≡ v
+        → cond b (refuses start.WrongSetup) (startJudged v setup) .answer ≡ start.WrongRecord i → NamesFirstWrong setup table i
+    go true v judges is = never (cc)
+    go false Good judges is = never (cc)
+    go false NotRecords judges is = never (cc)
+    go false (Wrong j) judges is = let same : j ≡ i = cc in names-first setup table i (judges ∙ ap (λ (k : ℕ). Wrong k) same)

@@ -40,6 +40,20 @@ unfoldable pub firstNumber : List Condition → ℕ
 firstNumber [] = 0
 firstNumber (c ∷ cs) = cond (c .holds) (c .number) (firstNumber cs)
 
+-- "Given exactly when": the number stands in its list under a condition that holds, and none before it does
+unfoldable pub noneHolds : List Condition → Bool
+noneHolds [] = true
+noneHolds (c ∷ cs) = not (c .holds) && noneHolds cs
+
+pub record GivenUnder (cs : List Condition) (n : ℕ) : Type 0 where
+  pub before : List Condition
+  pub condition : Condition
+  pub behind : List Condition
+  pub place : cs ≡ before ++ (condition ∷ behind)
+  pub number : condition .number ≡ n
+  pub holds : condition .holds ≡ true
+  pub none-before : noneHolds before ≡ true
+
 -- 1: "an input comes while a report waits"; of bytes one after the other, one of them does
 unfoldable pub oneComesWhileWaiting : Panel → List ℕ → Bool
 oneComesWhileWaiting panel [] = false

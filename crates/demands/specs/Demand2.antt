@@ -1,0 +1,65 @@
+-- Demand 2: "Frames, check values, register and word access, and touch effects are those of the public SGUS and AGUS manuals as condensed in document
+-- 01. What our frame writer writes, our reader reads back as the same command and data. No word or register changes but those the command or touch
+-- rule names." The theorems are in proofs/Demand2.
+use Prim.Native.Nat.{ℕ, _+_, _≤_, _<_}
+use mathlib.Core.Path.{_≡_}
+use mathlib.Core.Logic.{_⊎_, _≢_}
+use mathlib.Core.Bool.{Bool, true, false}
+use mathlib.Core.List.{List, [], _∷_}
+use lib.ListN.{length, drop}
+use Rattle.wire.specs.ByteOrder.{byteAt, wordAt}
+use Rattle.reading.specs.Place.{acceptedFrame}
+use Rattle.reading.specs.Moves.{fresh}
+use Rattle.line.specs.State.{keptOf}
+use Rattle.registers.specs.Table.{registerAt}
+use Rattle.registers.specs.Touched.{pageOf, isDown}
+use Rattle.words.specs.Words.{wordAtAddress, wordsOf}
+use Rattle.touch.specs.declared.Record.{Record}
+use Rattle.touch.specs.declared.Found.the-variants.{At}
+use Rattle.touch.specs.Record.{noNext}
+use Rattle.touch.specs.Find.{found}
+use Rattle.contact.specs.declared.Catch.the-variants.{Caught}
+use Rattle.demands.specs.Calls.{Moment, Call, lend, byte, bytes, mark, ask, contact, lift, after, numberGiven, handedOver}
+
+-- the word is named by the call, which is done
+pub data NamesWord (now : Moment) (k : ℕ) : Call → Type 0 where
+  -- "0x82, address (2), one or more words: write variables": the word lies in the run
+  written : (content : List ℕ) → handedOver now ask ≡ acceptedFrame 0x82 content ∷ [] → numberGiven now ask ≡ 0
+      → wordAt content 0 ≤ k → k < wordAt content 0 + length (wordsOf (drop 2 content)) → NamesWord now k ask
+  -- "Contact while up: .. The first record of the current page holding the point acts"
+  acted : (table : List ℕ) (x y i : ℕ) (r : Record) → numberGiven now (contact table x y) ≡ 0 → isDown (now .panel .registers) ≡ false
+      → found table (pageOf (now .panel .registers)) x y ≡ At i r → k ≡ r .word → NamesWord now k (contact table x y)
+  -- "Contact while down: .. a caught slider stores ..; nothing else acts"
+  dragged : (table : List ℕ) (x y : ℕ) (r : Record) → numberGiven now (contact table x y) ≡ 0 → isDown (now .panel .registers) ≡ true
+      → now .panel .catch ≡ Caught r → k ≡ r .word → NamesWord now k (contact table x y)
+  -- the caller lends other words, with another number there
+  other-words : (words room : List ℕ) → wordAtAddress words k ≢ wordAtAddress (now .words) k → NamesWord now k (lend words room)
+
+-- the register is named by the call, which is done
+pub data NamesRegister (now : Moment) (address : ℕ) : Call → Type 0 where
+  -- "0x80, address (1), one or more bytes: write registers": the register lies in the run
+  written : (content : List ℕ) → handedOver now ask ≡ acceptedFrame 0x80 content ∷ [] → numberGiven now ask ≡ 0
+      → byteAt content 0 ≤ address → address < byteAt content 0 + length (drop 1 content) → NamesRegister now address ask
+  -- "Contact while up: status 01"; "Contact while down: status 03"
+  status : (table : List ℕ) (x y : ℕ) → numberGiven now (contact table x y) ≡ 0 → address ≡ 0x06 → NamesRegister now address (contact table x y)
+  -- "if the flag isn't 5A, X and Y are stored and the flag becomes 5A": 05 and 07-0A
+  place : (table : List ℕ) (x y : ℕ) → numberGiven now (contact table x y) ≡ 0 → registerAt (now .panel .registers) 0x05 ≢ 0x5A
+      → (address ≡ 0x05) ⊎ ((0x07 ≤ address) × (address < 0x0B)) → NamesRegister now address (contact table x y)
+  -- "The first record of the current page holding the point acts, then its next page is shown.": 03-04
+  page : (table : List ℕ) (x y i : ℕ) (r : Record) → numberGiven now (contact table x y) ≡ 0 → isDown (now .panel .registers) ≡ false
+      → found table (pageOf (now .panel .registers)) x y ≡ At i r → noNext r ≡ false → (address ≡ 0x03) ⊎ (address ≡ 0x04)
+      → NamesRegister now address (contact table x y)
+  -- "Lift: status 02"
+  lifted : numberGiven now lift ≡ 0 → address ≡ 0x06 → NamesRegister now address lift
+
+-- some call of a sequence does so
+pub data Some (P : Moment → Call → Type 0) : Moment → List Call → Type 0 where
+  here : (now : Moment) (call : Call) (calls : List Call) → P now call → Some P now (call ∷ calls)
+  later : (now : Moment) (call : Call) (calls : List Call) → Some P (after now call) calls → Some P now (call ∷ calls)
+
+-- "What our frame writer writes, our reader reads back as the same command and data": all its bytes are taken, asking then hands over one accepted frame
+-- with this command and data, and nothing is held or waiting
+pub record ReadsBack (now : Moment) (frame : List ℕ) (command : ℕ) (payload : List ℕ) : Type 0 where
+  pub taken : numberGiven now (bytes frame) ≡ 0
+  pub handed-over : handedOver (after now (bytes frame)) ask ≡ acceptedFrame command payload ∷ []
+  pub nothing-left : keptOf (after (after now (bytes frame)) ask .panel .reader) ≡ fresh
