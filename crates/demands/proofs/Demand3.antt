@@ -3,8 +3,7 @@ use mathlib.Core.Path.{_≡_, refl, sym, ap, _∙_}
 use mathlib.Core.Bool.{Bool, true, false, cond, not}
 use mathlib.Core.List.{List, [], _∷_, _++_, map, append-nil}
 use Prim.Native.Nat.{ℕ, zero, suc, _+_, _<_}
-use native.Mathlib.Omega.{arith}
-use lib.ListN.{length, take}
+use lib.ListN.{take}
 use Rattle.wire.specs.Bytes.{Bytes}
 use Rattle.frame.specs.Frame.{headerBytes}
 use Rattle.reading.specs.Place.{Rules, look, behind, cutShort}
@@ -43,25 +42,26 @@ use Rattle.demands.specs.Reports.{reportWaits}
 use Rattle.demands.specs.Given.{unlessRefused, given, givenAll}
 use Rattle.demands.specs.Demand3.{Ready, OnAnOpenLine, BehindAMark, AfterAMark}
 use Rattle.demands.proofs.Calls.{calls-reached}
-use Rattle.demands.proofs.Waits.{busy-waits}
+use Rattle.demands.proofs.Waits.{kept-same, busy-waits}
 use Rattle.demands.proofs.Alike.{read-alike}
 use Rattle.demands.proofs.Reading.{Carries, carries-all}
 
 -- a reader that is reached and holds nothing is a new one
-no-bytes-new : (line : Declared.Line) (kept : Kept) → Reached line kept → length (kept .bytes) ≡ 0 → kept ≡ fresh
+no-bytes-new : (line : Declared.Line) (kept : Kept) → Reached line kept → kept .bytes ≡ [] → kept ≡ fresh
 unfolding look behind cutShort isPass headerBytes
 no-bytes-new line kept reached none = go (kept .closed) (kept .bytes) none (reached .stands)
   where
-    go : (c : Bool) (xs : List ℕ) → length xs ≡ 0 → isPass (look (rulesFor line) c xs) ≡ false → record { closed = c; bytes = xs } ≡ fresh
-    go c (x ∷ xs) none stands = absurd (omega arith)
+    go : (c : Bool) (xs : List ℕ) → xs ≡ [] → isPass (look (rulesFor line) c xs) ≡ false → record { closed = c; bytes = xs } ≡ fresh
+    go c (x ∷ xs) none stands = never cc
     go false [] none stands = refl
     go true [] none stands = true-is-not-false stands
 
 ready-new : (now : Moment) → Ready now → now .panel .reader ≡ readerOf (lineOf (now .panel .setup)) fresh
 ready-new now ready =
     let line = lineOf (now .panel .setup) in
-    let reads = reachable-sound (now .panel) (ready .reached) .reads in
-    let none : length (reads .kept .bytes) ≡ 0 = sym (ap (λ (r : Reader). r .len) (reads .is)) ∙ ready .nothing-held in
+    let sound = reachable-sound (now .panel) (ready .reached) in
+    let reads = sound .reads in
+    let none : reads .kept .bytes ≡ [] = ap (λ (k : Kept). k .bytes) (sym (kept-same (now .panel) sound)) ∙ ready .nothing .0 in
     reads .is ∙ ap (readerOf line) (no-bytes-new line (reads .kept) (reads .reached) none)
 
 -- what typed calls give are bytes

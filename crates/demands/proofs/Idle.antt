@@ -73,11 +73,11 @@ two-typed = (tested-bytes version refl, (tt, (tested-bytes version refl, (tt, (t
 
 new-ready : Ready new
 unfolding started startJudged Judge.judged recordsFrom firstOf newPanel fedBytes fedMark givenMark givenBytes givenByte asked padded headerBytes checkLength leastLength contentOf rightCheck look behind afterHeader judged cutShort isPass isReport passes stillClosed settled waiting withByte withMark checkValue checkFrom byteStep bitSteps bitStep polynomial reporting lent wordCount leastRoom handing accepting acknowledged performance registersReplying replying readRegistersOutcome replyTooLong registersReply registerRun registerAt startRegisters registerCount frameLaid mostData frameOf framed enclosed lengthByte checkBytes laid over reportWaits given givenAll after afterAll unlessRefused joined
-new-ready = record { reached = by-start setup [] refl; checking-on = refl; nothing-held = refl; nothing-waits = refl }
+new-ready = record { reached = by-start setup [] refl; checking-on = refl; nothing = (refl, refl) }
 
 marked-ready : Ready marked
 unfolding started startJudged Judge.judged recordsFrom firstOf newPanel fedBytes fedMark givenMark givenBytes givenByte asked padded headerBytes checkLength leastLength contentOf rightCheck look behind afterHeader judged cutShort isPass isReport passes stillClosed settled waiting withByte withMark checkValue checkFrom byteStep bitSteps bitStep polynomial reporting lent wordCount leastRoom handing accepting acknowledged performance registersReplying replying readRegistersOutcome replyTooLong registersReply registerRun registerAt startRegisters registerCount frameLaid mostData frameOf framed enclosed lengthByte checkBytes laid over reportWaits given givenAll after afterAll unlessRefused joined
-marked-ready = record { reached = by-mark (new .panel) (by-start setup [] refl); checking-on = refl; nothing-held = refl; nothing-waits = refl }
+marked-ready = record { reached = by-mark (new .panel) (by-start setup [] refl); checking-on = refl; nothing = (refl, refl) }
 
 version-good : Good (checked 0x5A 0xA5) version
 unfolding leastLength checkLength rightCheck checkValue checkFrom byteStep bitSteps bitStep polynomial

@@ -8,7 +8,8 @@ use lib.ListN.{length}
 use Rattle.reading.specs.Place.{Report}
 use Rattle.reading.specs.Line as Line
 use Rattle.reading.specs.Line.{Input}
-use Rattle.reading.specs.Demand3.{GoodFrames, joined, Cut, BeginsNone, acceptedOf, reportOfFrame}
+use Rattle.reading.specs.Demand3.{GoodFrames, joined, Cut, BeginsNone, acceptedOf, reportOfFrame, NothingHeldOrWaiting}
+use Rattle.line.specs.State.{keptOf}
 use Rattle.touch.specs.declared.Setup.{Setup}
 use Rattle.touch.specs.Setup.{checkingOf}
 use Rattle.panel.specs.declared.StartAnswer.the-variants as start
@@ -26,8 +27,7 @@ HandsOver = Moment → List Call → List Report
 pub record Ready (now : Moment) : Type 0 where
   pub reached : Reachable (now .panel)
   pub checking-on : checkingOf (now .panel .setup) ≡ true
-  pub nothing-held : now .panel .reader .len ≡ 0
-  pub nothing-waits : reportWaits (now .panel) ≡ false
+  pub nothing : NothingHeldOrWaiting (rulesOf (now .panel)) (keptOf (now .panel .reader))
 
 -- ".. and all reports are asked for": none waits any more
 abbrev pub AllAskedFor : Moment → List Call → Type 0
