@@ -12,7 +12,7 @@ use Rattle.wire.specs.Room.{over, laid}
 use Rattle.reading.specs.Place.{Rules, Report, cutShort, judged, afterHeader, behind, look}
 use Rattle.reading.specs.Line as Line
 use Rattle.reading.specs.Moves.{isPass, isReport, passes, stillClosed, settled, waiting, withByte, withMark}
-use Rattle.reading.specs.Demand3.{Good, none, next, joined, BeginsNone, acceptedOf, reportOfFrame, checked}
+use Rattle.reading.specs.Demand3.{none, next, joined, BeginsNone, acceptedOf, reportOfFrame, checked}
 use Rattle.reading.proofs.ByteLists.{allBytes, tested-bytes}
 use Rattle.reading.proofs.Stable.{never, true-is-not-false}
 use Rattle.line.specs.State.{padded}
@@ -27,30 +27,21 @@ use Rattle.commands.specs.Effect.{isDone, replying, registersReplying}
 use Rattle.commands.specs.Reply.{registersReply}
 use Rattle.commands.specs.Perform.{Performance, performance}
 use Rattle.commands.proofs.ReadBack.{what-80-wrote-81-reads, what-82-wrote-83-reads}
-use Rattle.touch.specs.declared.Setup.{Setup}
 use Rattle.touch.specs.Judge as Judge
 use Rattle.touch.specs.Table.{recordsFrom, firstOf}
 use Rattle.panel.specs.Start.{newPanel, startJudged, started}
 use Rattle.panel.specs.Inputs.{fedBytes, fedMark}
 use Rattle.panel.specs.Reporting.{lent, acknowledged, accepting, handing, reporting}
 use Rattle.panel.specs.Reachable.{by-start, by-mark}
-use Rattle.demands.specs.Calls.{Moment, Call, bytes, mark, ask, begun, after, afterAll, handedOverAll, Typed, AllTyped}
+use Rattle.demands.specs.Calls.{Moment, Call, bytes, mark, ask, after, afterAll, handedOverAll, Typed, AllTyped}
 use Rattle.demands.specs.Reports.{reportWaits}
 use Rattle.demands.specs.Given.{unlessRefused, given, givenAll}
 use Rattle.demands.specs.Demand3.{HandsOver, Ready, BehindAMark}
 use Rattle.demands.proofs.Demand3.{demand3-closed}
 use Rattle.demands.proofs.Lent.{performed-words}
+use Rattle.demands.specs.Story.{version, setup, new}
+use Rattle.demands.proofs.Story.{new-ready, version-good, version-bytes}
 use Rattle.demands.specs.Idle.{RefusesEveryFrame, ReadsFirstFrameOnly, ReadsFirstStretchOnly, Performs, replied, RegistersComeBack, WordsComeBack, RefusesEveryCommand, RepliesAlike, StoresNoRegister, StoresNoWord, NotIdle}
-
--- 004's frame, which asks for the version, and a panel with checking on that is lent what it must be
-abbrev version : List ℕ
-version = 0x5A ∷ 0xA5 ∷ 0x05 ∷ 0x81 ∷ 0x00 ∷ 0x01 ∷ 0xE0 ∷ 0x28 ∷ []
-
-abbrev setup : Setup
-setup = record { h1 = 0x5A; h2 = 0xA5; flags = 1; pages = 2; width = 800; height = 480 }
-
-abbrev new : Moment
-new = begun setup [] (replicate 28672 0) (replicate 265 0)
 
 -- the same once a mark has come
 abbrev marked : Moment
@@ -65,23 +56,15 @@ two = bytes version ∷ ask ∷ bytes version ∷ ask ∷ mark ∷ []
 
 abbrev one-typed : AllTyped one
 unfolding AllTyped Typed allBytes
-one-typed = (tested-bytes version refl, (tt, (tt, tt)))
+one-typed = (version-bytes, (tt, (tt, tt)))
 
 abbrev two-typed : AllTyped two
 unfolding AllTyped Typed allBytes
-two-typed = (tested-bytes version refl, (tt, (tested-bytes version refl, (tt, (tt, tt)))))
-
-new-ready : Ready new
-unfolding started startJudged Judge.judged recordsFrom firstOf newPanel fedBytes fedMark givenMark givenBytes givenByte asked padded headerBytes checkLength leastLength contentOf rightCheck look behind afterHeader judged cutShort isPass isReport passes stillClosed settled waiting withByte withMark checkValue checkFrom byteStep bitSteps bitStep polynomial reporting lent wordCount leastRoom handing accepting acknowledged performance registersReplying replying readRegistersOutcome replyTooLong registersReply registerRun registerAt startRegisters registerCount frameLaid mostData frameOf framed enclosed lengthByte checkBytes laid over reportWaits given givenAll after afterAll unlessRefused joined
-new-ready = record { reached = by-start setup [] refl; checking-on = refl; nothing = (refl, refl) }
+two-typed = (version-bytes, (tt, (version-bytes, (tt, (tt, tt)))))
 
 marked-ready : Ready marked
 unfolding started startJudged Judge.judged recordsFrom firstOf newPanel fedBytes fedMark givenMark givenBytes givenByte asked padded headerBytes checkLength leastLength contentOf rightCheck look behind afterHeader judged cutShort isPass isReport passes stillClosed settled waiting withByte withMark checkValue checkFrom byteStep bitSteps bitStep polynomial reporting lent wordCount leastRoom handing accepting acknowledged performance registersReplying replying readRegistersOutcome replyTooLong registersReply registerRun registerAt startRegisters registerCount frameLaid mostData frameOf framed enclosed lengthByte checkBytes laid over reportWaits given givenAll after afterAll unlessRefused joined
 marked-ready = record { reached = by-mark (new .panel) (by-start setup [] refl); checking-on = refl; nothing = (refl, refl) }
-
-version-good : Good (checked 0x5A 0xA5) version
-unfolding leastLength checkLength rightCheck checkValue checkFrom byteStep bitSteps bitStep polynomial
-version-good = record { body = 0x81 ∷ 0x00 ∷ 0x01 ∷ 0xE0 ∷ 0x28 ∷ []; whole = refl; least = omega arith; most = omega arith; right = refl }
 
 -- no damage has no place
 no-damage : (rules : Rules) (come : List ℕ) → BeginsNone rules [] come
