@@ -37,8 +37,7 @@ use Rattle.panel.specs.Reachable.{Reachable, by-start}
 use Rattle.panel.proofs.Ways.{contact-ways, lift-ways, report-ways}
 use Rattle.panel.proofs.Invariant.{always-256-registers}
 use Rattle.demands.specs.Calls.{Moment, Call, lend, byte, bytes, mark, ask, contact, lift, begun, after, afterAll, numberGiven, reportHanded, handedOver, Typed, AllTyped}
-use Rattle.demands.specs.Demand2.{NamesWord, NamesRegister, Some, here, later}
-use Rattle.demands.specs.Demand2 as Demand2
+use Rattle.demands.specs.Demand2.{NamesWord, by-store, by-acting, by-dragging, by-lending, NamesRegister, by-write, by-status, by-place, by-page, by-lift, Some, here, later}
 use Rattle.demands.proofs.Calls.{call-reached, sequence-reached}
 use Rattle.demands.proofs.TouchedRegisters as Registers
 use Rattle.demands.proofs.TouchedRegisters.{Touches, touched-register}
@@ -120,8 +119,8 @@ contacted-word now table x y k =
   where
     by-touch : contactNumber (contacting (now .panel) table (now .words) x y .contacted .answer) ≡ 0 → Touch.NamesWord (padOf (now .panel)) table x y k
         → NamesWord now k (contact table x y)
-    by-touch done (Touch.acts i r up is word) = Demand2.acted table x y i r done up is word
-    by-touch done (Touch.drags r down is word) = Demand2.dragged table x y r done down is word
+    by-touch done (Touch.acts i r up is word) = by-acting table x y i r done up is word
+    by-touch done (Touch.drags r down is word) = by-dragging table x y r done down is word
 
 -- a word over words lent anew
 lent-word : (now : Moment) (words room : List ℕ) (k : ℕ)
@@ -131,7 +130,7 @@ lent-word now words room k = go (eqb (wordAtAddress words k) (wordAtAddress (now
     go : (b : Bool) → eqb (wordAtAddress words k) (wordAtAddress (now .words) k) ≡ b
         → (wordAtAddress words k ≡ wordAtAddress (now .words) k) ⊎ NamesWord now k (lend words room)
     go true is = inl (eqb-true (wordAtAddress words k) (wordAtAddress (now .words) k) is)
-    go false is = inr (Demand2.other-words words room (eqb-false (wordAtAddress words k) (wordAtAddress (now .words) k) is))
+    go false is = inr (by-lending words room (eqb-false (wordAtAddress words k) (wordAtAddress (now .words) k) is))
 
 -- a word over any call: it stays, or the call names it
 pub call-names-word : (now : Moment) (call : Call) (k : ℕ)
@@ -143,7 +142,7 @@ call-names-word now (bytes bs) k = inl refl
 call-names-word now mark k = inl refl
 call-names-word now ask k =
     ⊎-elim inl
-    (λ stored. inr (Demand2.NamesWord.written (stored .content) (stored .handing .handed) (stored .handing .done) (stored .from) (stored .below)))
+    (λ stored. inr (by-store (stored .content) (stored .handing .handed) (stored .handing .done) (stored .from) (stored .below)))
     (asked-word (now .panel) (now .words) (now .room) k)
 call-names-word now (contact table x y) k = contacted-word now table x y k
 call-names-word now lift k = inl refl
@@ -200,24 +199,24 @@ contacted-register now whole table x y address =
   where
     by-touch : contactNumber (contacting (now .panel) table (now .words) x y .contacted .answer) ≡ 0 → Touches (padOf (now .panel)) table x y address
         → NamesRegister now address (contact table x y)
-    by-touch done (Registers.status is) = Demand2.status table x y done is
-    by-touch done (Registers.place flag is) = Demand2.place table x y done flag is
-    by-touch done (Registers.page i r up is next at) = Demand2.page table x y i r done up is next at
+    by-touch done (Registers.status is) = by-status table x y done is
+    by-touch done (Registers.place flag is) = by-place table x y done flag is
+    by-touch done (Registers.page i r up is next at) = by-page table x y i r done up is next at
 
 -- a register over a lift
 lifted-register : (now : Moment) → length (now .panel .registers .bytes) ≡ 256 → (address : ℕ)
     → (panelRegister (lifting (now .panel) .panel) address ≡ panelRegister (now .panel) address) ⊎ NamesRegister now address lift
 unfolding numberGiven liftNumber
 lifted-register now whole address =
-    ⊎-elim inl (λ named. inr (Demand2.lifted (named .0) (named .1)))
+    ⊎-elim inl (λ named. inr (by-lift (named .0) (named .1)))
     (lift-ways (now .panel)
     (λ l. (panelRegister (l .panel) address ≡ panelRegister (now .panel) address) ⊎ ((liftNumber (l .answer) ≡ 0) × (address ≡ 0x06)))
-    (inl refl) (inl refl) (by-status (eqb address 0x06) refl))
+    (inl refl) (inl refl) (status-or-stays (eqb address 0x06) refl))
   where
-    by-status : (b : Bool) → eqb address 0x06 ≡ b
+    status-or-stays : (b : Bool) → eqb address 0x06 ≡ b
         → (registerAt (Contact.lifted (padOf (now .panel)) .registers) address ≡ panelRegister (now .panel) address) ⊎ (_≡_ {A = ℕ} 0 0 × (address ≡ 0x06))
-    by-status true is = inr (refl, eqb-true address 0x06 is)
-    by-status false is = inl (Touch.lift-only-status (padOf (now .panel)) whole address (eqb-false address 0x06 is))
+    status-or-stays true is = inr (refl, eqb-true address 0x06 is)
+    status-or-stays false is = inl (Touch.lift-only-status (padOf (now .panel)) whole address (eqb-false address 0x06 is))
 
 -- a register over any call: it stays, or the call names it
 pub call-names-register : (now : Moment) → length (now .panel .registers .bytes) ≡ 256 → (call : Call) (address : ℕ)
@@ -229,7 +228,7 @@ call-names-register now whole (bytes bs) address = inl refl
 call-names-register now whole mark address = inl refl
 call-names-register now whole ask address =
     ⊎-elim inl
-    (λ stored. inr (Demand2.NamesRegister.written (stored .content) (stored .handing .handed) (stored .handing .done) (stored .from) (stored .below)))
+    (λ stored. inr (by-write (stored .content) (stored .handing .handed) (stored .handing .done) (stored .from) (stored .below)))
     (asked-register (now .panel) whole (now .words) (now .room) address)
 call-names-register now whole (contact table x y) address = contacted-register now whole table x y address
 call-names-register now whole lift address = lifted-register now whole address
