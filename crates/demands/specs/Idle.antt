@@ -4,22 +4,15 @@
 -- taken_without_storing; crates/words/must-fail/taken_without_storing; crates/line/must-fail/only_first_frame, mark_does_not_close.
 use Prim.Native.Nat.{ℕ, _≤_}
 use mathlib.Core.Path.{_≡_}
-use mathlib.Core.Bool.{Bool, true, false}
 use mathlib.Core.List.{List, [], _∷_, _++_}
-use lib.ListN.{length, drop}
-use Rattle.wire.specs.Bytes.{Bytes}
-use Rattle.wire.specs.ByteOrder.{byteAt}
-use Rattle.frame.specs.Writer.{frameLaid}
+use lib.ListN.{length}
+use Rattle.reading.specs.Place.{acceptedFrame}
 use Rattle.reading.specs.Line as Line
 use Rattle.reading.specs.Line.{Input}
 use Rattle.reading.specs.Demand3.{acceptedOf}
-use Rattle.registers.specs.declared.Registers.{Registers}
-use Rattle.words.specs.Words.{wordsOf}
-use Rattle.commands.specs.declared.Outcome.the-variants.{Done}
-use Rattle.commands.specs.Outcome.{writeRegistersOutcome, readRegistersOutcome, writeWordsOutcome, readWordsOutcome}
-use Rattle.commands.specs.Effect.{isDone}
-use Rattle.commands.specs.Perform.{Performance, performs, besideReply}
-use Rattle.demands.specs.Calls.{Moment, Call, afterAll}
+use Rattle.panel.specs.Reachable.{Reachable}
+use Rattle.demands.specs.Calls.{Moment, Call, ask, after, afterAll, numberGiven, handedOver}
+use Rattle.demands.specs.Demand2.{leaving, afterWrite, afterRead, afterStore, afterFetch}
 use Rattle.demands.specs.Given.{givenAll}
 use Rattle.demands.specs.Demand3.{HandsOver}
 
@@ -39,64 +32,50 @@ ReadsFirstStretchOnly handsOver =
     (first : Moment) (earlier : List Call) (before behind : List Input) → givenAll first earlier ≡ before ++ (Line.mark ∷ behind)
     → (calls : List Call) → acceptedOf (handsOver (afterAll first earlier) calls) ≡ []
 
--- Commands, demand 2. What a build does with an accepted frame: to registers, words and reply room. Ours is `performance`.
-abbrev pub Performs : Type 0
-Performs = Registers → (pages : ℕ) (checking : Bool) (header : List ℕ) (command : ℕ) (content words room : List ℕ) → Performance
+-- Commands, demand 2. What a build leaves of panel, words and room when a report is asked for; ours is `asked`.
+abbrev pub Leaves : Type 0
+Leaves = Moment → Moment
 
--- a read that is done: only the room changes, over which the reply with this data is laid
-abbrev pub replied : Registers → Bool → List ℕ → ℕ → (payload words room : List ℕ) → Performance
-replied registers checking header command payload words room =
-    let reply = frameLaid checking header command payload room in
-    performs (besideReply registers (record { outcome = Done; count = reply .count })) words (reply .room)
+abbrev pub asked : Leaves
+asked now = after now ask
 
--- "register .. access": what an 0x80 that is done wrote, an 0x81 of the same run replies ("Reply 0x81, address, count, bytes")
-abbrev pub RegistersComeBack : Performs → Type 0
-RegistersComeBack perform =
-    (registers : Registers) (pages : ℕ) (checking : Bool) (header content words room words′ room′ : List ℕ)
-    → let run = byteAt content 0 ∷ length (drop 1 content) ∷ [] in
-    let written = perform registers pages checking header 0x80 content words room .performed .registers in
-    length (registers .bytes) ≡ 256 → isDone (writeRegistersOutcome pages content) ≡ true → isDone (readRegistersOutcome checking run) ≡ true
-    → perform written pages checking header 0x81 run words′ room′ ≡ replied written checking header 0x81 (run ++ drop 1 content) words′ room′
+-- demand 2, "register and word access": what a command that is handed over and done leaves
+pub record DoesCommands (leaves : Leaves) : Type 0 where
+  pub writes : (now : Moment) → Reachable (now .panel) → (content : List ℕ) → numberGiven now ask ≡ 0
+      → handedOver now ask ≡ acceptedFrame 0x80 content ∷ [] → leaves now ≡ afterWrite now content
+  pub reads : (now : Moment) → Reachable (now .panel) → (content : List ℕ) → numberGiven now ask ≡ 0
+      → handedOver now ask ≡ acceptedFrame 0x81 content ∷ [] → leaves now ≡ afterRead now content
+  pub stores : (now : Moment) → Reachable (now .panel) → (content : List ℕ) → numberGiven now ask ≡ 0
+      → handedOver now ask ≡ acceptedFrame 0x82 content ∷ [] → leaves now ≡ afterStore now content
+  pub fetches : (now : Moment) → Reachable (now .panel) → (content : List ℕ) → numberGiven now ask ≡ 0
+      → handedOver now ask ≡ acceptedFrame 0x83 content ∷ [] → leaves now ≡ afterFetch now content
 
--- "word access": what an 0x82 that is done wrote, an 0x83 of the same run replies ("Reply 0x83, address, count, words")
-abbrev pub WordsComeBack : Performs → Type 0
-WordsComeBack perform =
-    (registers : Registers) (pages : ℕ) (checking : Bool) (header content words room : List ℕ) (registers′ : Registers) (room′ : List ℕ)
-    → let run = byteAt content 0 ∷ byteAt content 1 ∷ length (wordsOf (drop 2 content)) ∷ [] in
-    let written = perform registers pages checking header 0x82 content words room .words in
-    Bytes content → isDone (writeWordsOutcome (length words) content) ≡ true → isDone (readWordsOutcome (length words) checking run) ≡ true
-    → perform registers′ pages checking header 0x83 run written room′ ≡ replied registers′ checking header 0x83 (run ++ drop 2 content) written room′
+-- "refusing every frame": each command is handed over and acknowledged, and does nothing else
+abbrev pub RefusesEveryCommand : Leaves → Type 0
+RefusesEveryCommand leaves =
+    (now : Moment) (command : ℕ) (content : List ℕ) → handedOver now ask ≡ acceptedFrame command content ∷ []
+    → leaves now ≡ leaving now command (now .panel .registers) (now .panel .catch) (now .words) []
 
--- "refusing every frame"
-abbrev pub RefusesEveryCommand : Performs → Type 0
-RefusesEveryCommand perform =
-    (registers : Registers) (pages : ℕ) (checking : Bool) (header : List ℕ) (command : ℕ) (content words room : List ℕ)
-    → isDone (perform registers pages checking header command content words room .performed .outcome) ≡ false
+-- "replying alike to all reads" by this command: the room that is left does not go by what is asked for or by what stands there
+abbrev pub RepliesAlike : (command : ℕ) → Leaves → Type 0
+RepliesAlike command leaves =
+    (one other : Moment) (content content′ : List ℕ) → handedOver one ask ≡ acceptedFrame command content ∷ []
+    → handedOver other ask ≡ acceptedFrame command content′ ∷ [] → one .room ≡ other .room → leaves one .room ≡ leaves other .room
 
--- "replying alike to all reads" of one kind: what is written in the room does not go by what is asked for or stands there
-abbrev pub RepliesAlike : (command : ℕ) → Performs → Type 0
-RepliesAlike command perform =
-    (registers registers′ : Registers) (pages : ℕ) (checking : Bool) (header content content′ words words′ room : List ℕ)
-    → perform registers pages checking header command content words room .room ≡ perform registers′ pages checking header command content′ words′ room .room
+-- "taking frames without storing": asking changes no register; it changes no word
+abbrev pub StoresNoRegister : Leaves → Type 0
+StoresNoRegister leaves = (now : Moment) → leaves now .panel .registers ≡ now .panel .registers
 
--- "taking frames without storing": no command changes a register; none changes a word
-abbrev pub StoresNoRegister : Performs → Type 0
-StoresNoRegister perform =
-    (registers : Registers) (pages : ℕ) (checking : Bool) (header : List ℕ) (command : ℕ) (content words room : List ℕ)
-    → perform registers pages checking header command content words room .performed .registers ≡ registers
-
-abbrev pub StoresNoWord : Performs → Type 0
-StoresNoWord perform =
-    (registers : Registers) (pages : ℕ) (checking : Bool) (header : List ℕ) (command : ℕ) (content words room : List ℕ)
-    → perform registers pages checking header command content words room .words ≡ words
+abbrev pub StoresNoWord : Leaves → Type 0
+StoresNoWord leaves = (now : Moment) → leaves now .words ≡ now .words
 
 -- a build that is none of the four
-pub record NotIdle (handsOver : HandsOver) (perform : Performs) : Type 0 where
+pub record NotIdle (handsOver : HandsOver) (leaves : Leaves) : Type 0 where
   pub accepts-frames : RefusesEveryFrame handsOver → ⊥
-  pub does-commands : RefusesEveryCommand perform → ⊥
-  pub replies-by-registers : RepliesAlike 0x81 perform → ⊥
-  pub replies-by-words : RepliesAlike 0x83 perform → ⊥
-  pub stores-registers : StoresNoRegister perform → ⊥
-  pub stores-words : StoresNoWord perform → ⊥
+  pub does-commands : RefusesEveryCommand leaves → ⊥
+  pub replies-by-registers : RepliesAlike 0x81 leaves → ⊥
+  pub replies-by-words : RepliesAlike 0x83 leaves → ⊥
+  pub stores-registers : StoresNoRegister leaves → ⊥
+  pub stores-words : StoresNoWord leaves → ⊥
   pub reads-on-behind-a-frame : ReadsFirstFrameOnly handsOver → ⊥
   pub reads-on-behind-a-stretch : ReadsFirstStretchOnly handsOver → ⊥
