@@ -133,7 +133,7 @@ module _ (handsOver : HandsOver) (demand : BehindAMark handsOver) where
 
   -- "reading only the first .. frame properly", against demand 3 (`demand3-closed`)
   pub reads-a-second-frame : ReadsFirstFrameOnly handsOver → ⊥
-  reads-a-second-frame idle = two-is-not-one (rw two-accepted at (idle new two))
+  reads-a-second-frame idle = two-is-not-one (rw two-accepted at (idle new two (joined (version ∷ version ∷ [])) (two-gives .given-is)))
 
   -- "reading only the first stretch .. properly", against demand 3 (`demand3-closed`, behind a mark)
   pub reads-a-second-stretch : ReadsFirstStretchOnly handsOver → ⊥

@@ -155,6 +155,13 @@ module _ (line : Declared.Line) (panel : Panel) (kept : Kept) (reached : Reached
       let content = drop 1 (contentOf (line .checking) body) in
       (ap (λ (l : List ℕ). acceptedFrame (getD body 0 0) l ∷ []) (take-padded 254 (length content) content refl), refl)
 
+  -- asking with words and room as they must be moves the reader as the reading's ask does
+  pub ask-moves : panel .reader ≡ readerOf line kept → lent (length words) (length room) ≡ true
+      → reporting panel words room .reported .panel .reader ≡ readerOf line (afterReport rules kept)
+  unfolding reporting handed
+  ask-moves reads is-lent =
+      rw (is-lent, ap asked reads ∙ ask-carried line kept (reached .few)) (hands-as (look rules (kept .closed) (kept .bytes)) refl reads .1)
+
   carries-ask : panel .reader ≡ readerOf line kept
       → Carries line kept [] (reportHanded (reporting panel words room .reported .handed) (reporting panel words room .reported .payload))
       (reporting panel words room .reported .panel .reader)

@@ -3,7 +3,7 @@ use Prim.Native.Nat.{ℕ, _≤_}
 use mathlib.Core.Path.{_≡_}
 use mathlib.Core.Bool.{false}
 use mathlib.Core.List.{List, _++_}
-use lib.ListN.{length}
+use lib.ListN.{length, replicate}
 use Rattle.reading.specs.Place.{Report}
 use Rattle.reading.specs.Stretch.{reports}
 use Rattle.reading.specs.Line.{lineReports}
@@ -13,8 +13,11 @@ use Rattle.touch.specs.declared.Setup.{Setup}
 use Rattle.panel.specs.declared.Panel.{Panel}
 use Rattle.panel.specs.declared.StartAnswer.the-variants as start
 use Rattle.panel.specs.Start.{started}
+use Rattle.panel.specs.declared.Handed.the-variants as handed
 use Rattle.panel.specs.Sound.{lineOf}
-use Rattle.demands.specs.Calls.{Moment, Call, begun, afterAll, handedOverAll, AllTyped}
+use Rattle.panel.specs.Reporting.{reporting}
+use Rattle.panel.specs.Reachable.{Reachable}
+use Rattle.demands.specs.Calls.{Moment, Call, ask, begun, afterAll, handedOverAll, AllTyped}
 use Rattle.demands.specs.Reports.{reportWaits}
 use Rattle.demands.specs.Given.{givenAll}
 
@@ -46,3 +49,13 @@ abbrev pub AlwaysAsRead : Type 0
 AlwaysAsRead =
     (setup : Setup) (table words room : List ℕ) → started setup table .answer ≡ start.Started
     → (calls : List Call) → AllTyped calls → AsRead setup (begun setup table words room) calls
+
+-- "reports are then asked for one at a time until the answer is 'nothing'": at a panel that calls reach from a start, lent what it must be, the answer says
+-- that no report waits, and 258 asks are enough for it
+pub record AskedUntilNothing (now : Moment) : Type 0 where
+  pub nothing-waits : reporting (now .panel) (now .words) (now .room) .reported .handed ≡ handed.Nothing → reportWaits (now .panel) ≡ false
+  pub comes : reportWaits (afterAll now (replicate 258 ask) .panel) ≡ false
+
+abbrev pub AlwaysUntilNothing : Type 0
+AlwaysUntilNothing =
+    (now : Moment) → Reachable (now .panel) → length (now .words) ≡ 28672 → 265 ≤ length (now .room) → AskedUntilNothing now

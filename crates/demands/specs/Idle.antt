@@ -4,7 +4,7 @@
 -- taken_without_storing; crates/words/must-fail/taken_without_storing; crates/line/must-fail/only_first_frame, mark_does_not_close.
 use Prim.Native.Nat.{ℕ, _≤_}
 use mathlib.Core.Path.{_≡_}
-use mathlib.Core.List.{List, [], _∷_, _++_}
+use mathlib.Core.List.{List, [], _∷_, _++_, map}
 use lib.ListN.{length}
 use Rattle.reading.specs.Place.{acceptedFrame}
 use Rattle.reading.specs.Line as Line
@@ -22,9 +22,11 @@ use Rattle.demands.specs.Demand3.{HandsOver}
 abbrev pub RefusesEveryFrame : HandsOver → Type 0
 RefusesEveryFrame handsOver = (now : Moment) (calls : List Call) → acceptedOf (handsOver now calls) ≡ []
 
--- "reading only the first .. frame properly": of whatever calls, one frame at most is accepted
+-- "reading only the first .. frame properly": of a stretch one frame at most is accepted
 abbrev pub ReadsFirstFrameOnly : HandsOver → Type 0
-ReadsFirstFrameOnly handsOver = (now : Moment) (calls : List Call) → length (acceptedOf (handsOver now calls)) ≤ 1
+ReadsFirstFrameOnly handsOver =
+    (now : Moment) (calls : List Call) (stretch : List ℕ) → givenAll now calls ≡ map Line.byte stretch ++ (Line.mark ∷ [])
+    → length (acceptedOf (handsOver now calls)) ≤ 1
 
 -- "reading only the first stretch .. properly": once a mark has been given, no frame is accepted any more
 abbrev pub ReadsFirstStretchOnly : HandsOver → Type 0
