@@ -111,3 +111,12 @@ afterFetch now content =
     let count = byteAt content 2 in
     leaving now 0x83 (now .panel .registers) (now .panel .catch) (now .words)
     (frameOf (checkingOf setup) (headerOf setup) 0x83 (highFirst address ++ (count ∷ bytesOf (wordRun (now .words) address count))))
+
+-- "each bad check by the same with 0x00"
+unfoldable pub afterBadCheck : Moment → (command : ℕ) → Moment
+afterBadCheck now command =
+    record {
+      panel = readBehind (now .panel);
+      words = now .words;
+      room = over (acknowledgementOf (now .panel .setup) command false) (now .room);
+    }
