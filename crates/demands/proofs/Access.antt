@@ -204,7 +204,7 @@ module _ (now : Moment) (reached : Reachable (now .panel)) (content : List ℕ) 
   abbrev sound : Sound (now .panel)
   sound = reachable-sound (now .panel) reached
 
-  is-done : (command : ℕ) → Asks now command content
+  pub is-done : (command : ℕ) → Asks now command content
       → isDone (outcome (now .panel .setup .pages) 28672 (checkingOf (now .panel .setup)) command content) ≡ true
   is-done command asks =
       zero-done (outcome (now .panel .setup .pages) 28672 (checkingOf (now .panel .setup)) command content)

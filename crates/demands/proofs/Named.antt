@@ -233,7 +233,7 @@ call-names-register now whole ask address =
 call-names-register now whole (contact table x y) address = contacted-register now whole table x y address
 call-names-register now whole lift address = lifted-register now whole address
 
-registers-named-in : (now : Moment) → Reachable (now .panel) → (calls : List Call) → AllTyped calls → (address : ℕ)
+pub registers-named-in : (now : Moment) → Reachable (now .panel) → (calls : List Call) → AllTyped calls → (address : ℕ)
     → (panelRegister (afterAll now calls .panel) address ≡ panelRegister (now .panel) address) ⊎ Some (λ then call. NamesRegister then address call) now calls
 unfolding afterAll AllTyped
 registers-named-in now reached [] typed address = inl refl
