@@ -39,6 +39,7 @@ use Rattle.demands.specs.Reports.{rulesOf, waitingReport, acknowledgemen
 use Rattle.demands.specs.Demand2.{NamesWord, NamesRegister, Some, leaving, afterWrite, afterRead, afterStore, afterFetch}
 use Rattle.demands.proofs.Calls.{call-reached, calls-reached}
 use Rattle.demands.proofs.Waits.{kept-same, sound-ask-hands}
+use Rattle.demands.proofs.Contents.{content-bytes}
 use Rattle.demands.proofs.Named.{word-stays-or-is-named, registers-named-in}
 use Rattle.demands.proofs.Access.{Asks, handed-asks, is-done, writes-registers, stores-words, reads-registers, fetches-words}
 
@@ -100,53 +101,6 @@ module _ (now : Moment) (reached : Reachable (now .panel)) (content : List ℕ) 
       (reads-registers then (calls-reached (after now ask) calls typed reached-next) (byteAt content 0 ∷ length (drop 1 content) ∷ []) answered reads)
       ∙ ap (λ (run : List ℕ).
       over (acknowledgementOf setup 0x81 true ++ frameOf (checkingOf setup) (headerOf setup) 0x81 (byteAt content 0 ∷ length (drop 1 content) ∷ run)) (then .room)) run-still
-
--- the data of a frame is bytes, as all that is given
-bytes-front : (xs ys : List ℕ) → Bytes (xs ++ ys) → Bytes xs
-bytes-front [] ys are i = omega arith
-bytes-front (x ∷ xs) ys are zero = are 0
-bytes-front (x ∷ xs) ys are (suc i) = bytes-front xs ys (λ j. are (suc j)) i
-
-bytes-behind : (xs ys : List ℕ) → Bytes (xs ++ ys) → Bytes ys
-bytes-behind [] ys are = are
-bytes-behind (x ∷ xs) ys are = bytes-behind xs ys (λ i. are (suc i))
-
-bytes-take : (n : ℕ) (xs : List ℕ) → Bytes xs → Bytes (take n xs)
-bytes-take n xs are = bytes-front (take n xs) (drop n xs) (λ i. rw (take-append-drop n xs) (are i))
-
-content-bytes : (now : Moment) → Reachable (now .panel) → (command : ℕ) (content : List ℕ) → handedOver now ask ≡ acceptedFrame command content ∷ [] → Bytes content
-unfolding waitingReport handed reportOf contentOf
-content-bytes now reached command content hands = go (look rules (kept .closed) (kept .bytes)) refl (sym (sound-ask-hands now sound (asks .whole) (asks .large)) ∙ hands)
-  where
-    sound : Sound (now .panel)
-    sound = reachable-sound (now .panel) reached
-
-    asks : Asks now command content
-    asks = handed-asks now command content hands
-
-    rules : Rules
-    rules = rulesOf (now .panel)
-
-    kept : Kept
-    kept = keptOf (now .panel .reader)
-
-    are : Bytes (kept .bytes)
-    are i =
-        let same = ap (λ (k : Kept). getD (k .bytes) i 0) (kept-same (now .panel) sound) in
-        omega (arith, sound .reads .reached .are-bytes i)
-
-    go : (seen : Seen) → look rules (kept .closed) (kept .bytes) ≡ seen → reportOf rules seen ≡ acceptedFrame command content ∷ [] → Bytes content
-    go pass is told = never (cc)
-    go wait is told = never (cc)
-    go (bad body) is told = never (cc)
-    go (accepted body) is told =
-        let begun = accepted-begun rules (kept .closed) (kept .bytes) body is in
-        let same : drop 1 (contentOf (rules .checking) body) ≡ content = cc in
-        let all : Bytes (rules .header ++ (length body ∷ (body ++ begun .rest))) = λ i. rw (← begun .parts) (are i) in
-        let behind = bytes-behind (rules .header) (length body ∷ (body ++ begun .rest)) all in
-        let whole : Bytes body = bytes-front body (begun .rest) (λ i. behind (suc i)) in
-        let front : Bytes (contentOf (rules .checking) body) = bytes-take (length body - checkLength (rules .checking)) body whole in
-        λ i. rw (← same) (bytes-drop 1 (contentOf (rules .checking) body) front i)
 
 -- words that agree over a run read alike
 same-words : (a b : List ℕ) (address n : ℕ) → address + n ≤ length a → address + n ≤ length b
