@@ -1,19 +1,18 @@
--- Demand 2: ".. register and word access .. are those of the public SGUS and AGUS manuals as condensed in document 01": all that asking leaves where the
--- frame it hands over is done.
+-- All that asking leaves: where the frame it hands over is done, after a bad check, and where nothing is handed over.
 use mathlib.Core.Path.{_≡_, refl, sym, ap, _∙_}
-use mathlib.Core.Bool.{Bool, true, false, cond, _&&_}
-use mathlib.Core.List.{List, [], _∷_, _++_, append-assoc, append-nil}
-use Prim.Native.Nat.{ℕ, _+_, _≤_, _<_}
+use mathlib.Core.Bool.{Bool, true, false, cond}
+use mathlib.Core.List.{List, [], _∷_, _++_, append-assoc}
+use Prim.Native.Nat.{ℕ, _+_, _≤_}
 use native.Mathlib.Omega.{arith}
 use borrow.Author.Tests.{leb-true, eqb-true}
 use lib.Dec.{eqb, leb}
-use lib.ListN.{length, take, drop, take-append-drop, length-append, length-drop}
+use lib.ListN.{length, take, drop, length-append, length-drop}
 use lib.Seq.{drop-drop}
 use Rattle.wire.specs.Room.{over, Laid, lays}
 use Rattle.wire.specs.ByteOrder.{byteAt, wordAt}
 use Rattle.wire.proofs.Over.{over-nil, take-over, drop-over, length-over}
-use Rattle.frame.specs.Frame.{headerBytes, checkLength, mostData, frameOf}
-use Rattle.frame.specs.Writer.{leastRoom, frameLaid}
+use Rattle.frame.specs.Frame.{headerBytes, mostData, frameOf}
+use Rattle.frame.specs.Writer.{leastRoom}
 use Rattle.frame.proofs.Writers.{length-frameOf, length-most, frame-laid}
 use Rattle.reading.specs.Place.{badCheck, acceptedFrame}
 use Rattle.line.specs.declared.Reader.{Reader}
@@ -43,7 +42,7 @@ use Rattle.panel.specs.declared.Panel.{Panel}
 use Rattle.panel.specs.declared.Handed.the-variants as handed
 use Rattle.panel.specs.Numbers.{reportNumber}
 use Rattle.panel.specs.State.{headerOf, withReader}
-use Rattle.panel.specs.Reporting.{lent, acknowledged, accepting, Effects, effects, catchAfter, Reporting, reports, handing, reporting}
+use Rattle.panel.specs.Reporting.{lent, acknowledged, accepting, catchAfter, Reporting, reports, handing, reporting}
 use Rattle.panel.specs.Sound.{Sound}
 use Rattle.panel.specs.Reachable.{Reachable}
 use Rattle.panel.proofs.Invariant.{reachable-sound}

@@ -1,5 +1,4 @@
 -- Lists of numbers below a bound: bytes, and 16-bit numbers.
-use mathlib.Core.Path.{_≡_}
 use mathlib.Core.List.{List, [], _∷_, _++_}
 use Prim.Native.Nat.{ℕ, zero, suc, _+_, _<_}
 use native.Mathlib.Omega.{arith}

@@ -2,7 +2,7 @@
 use mathlib.Core.Path.{_≡_, refl, sym, ap, _∙_}
 use mathlib.Core.Bool.{Bool}
 use mathlib.Core.List.{List, [], _∷_, _++_}
-use Prim.Native.Nat.{ℕ, suc, _-_, _<_}
+use Prim.Native.Nat.{ℕ, suc, _-_}
 use native.Mathlib.Omega.{arith}
 use lib.ListN.{length, getD, drop, replicate}
 use Rattle.wire.specs.Bytes.{Bytes}
@@ -22,7 +22,7 @@ use Rattle.demands.specs.Calls.{Moment, ask, handedOver}
 use Rattle.demands.specs.Reports.{rulesOf, waitingReport}
 use Rattle.demands.proofs.Waits.{kept-same, asked-payload, sound-ask-hands}
 use Rattle.demands.proofs.Below.{byte-some, below-front, below-behind, below-take, below-drop, below-append, below-zeros}
-use Rattle.demands.proofs.Access.{Asks, handed-asks}
+use Rattle.demands.proofs.Access.{handed-asks}
 
 -- of the bytes that are kept, the data of the frame at the front
 data-bytes : (rules : Rules) (closed : Bool) (xs body : List ℕ) → Bytes xs → look rules closed xs ≡ accepted body

@@ -1,23 +1,19 @@
--- Demand 2, register and word access: what an 0x80 wrote an 0x81 of the same run replies, and what an 0x82 wrote an 0x83, whatever calls come between
+-- Register and word access: what an 0x80 wrote an 0x81 of the same run replies, and what an 0x82 wrote an 0x83, whatever calls come between
 -- that name nothing of the run.
 use mathlib.Core.Path.{_≡_, refl, sym, ap, _∙_}
-use mathlib.Core.Logic.{_⊎_, inl, inr, ⊎-elim}
-use mathlib.Core.Bool.{Bool, true, false}
+use mathlib.Core.Logic.{_⊎_, inl, inr}
+use mathlib.Core.Bool.{true}
 use mathlib.Core.List.{List, [], _∷_, _++_}
 use Prim.Native.Nat.{ℕ, zero, suc, _+_, _-_, _%_, _≤_, _<_}
 use native.Mathlib.Omega.{arith}
-use lib.ListN.{length, getD, take, drop, length-drop, take-append-drop}
+use lib.ListN.{length, take, drop, length-drop}
 use lib.Seq.{ext-getD, getD-drop, getD-take}
 use Rattle.wire.specs.Bytes.{Bytes}
 use Rattle.wire.specs.ByteOrder.{highByte, lowByte, byteAt, wordAt}
 use Rattle.wire.specs.Room.{over}
-use Rattle.frame.specs.Frame.{checkLength, contentOf, frameOf}
-use Rattle.reading.specs.Place.{Rules, Seen, pass, wait, bad, accepted, Report, acceptedFrame, look, reportOf}
-use Rattle.reading.specs.Moves.{Kept, handed}
-use Rattle.reading.proofs.Accepting.{accepted-begun}
+use Rattle.frame.specs.Frame.{frameOf}
+use Rattle.reading.specs.Place.{acceptedFrame}
 use Rattle.reading.proofs.ByteLists.{bytes-drop}
-use Rattle.line.specs.State.{keptOf}
-use Rattle.line.proofs.Truths.{never}
 use Rattle.registers.specs.declared.Registers.{Registers}
 use Rattle.registers.specs.Table.{registerAt, registerRun}
 use Rattle.registers.specs.Run.{written}
@@ -29,19 +25,16 @@ use Rattle.words.proofs.Written.{words-read-back, still-as-many}
 use Rattle.commands.specs.Outcome.{outcome}
 use Rattle.commands.proofs.DoneWrites.{registers-passed, WordsPassed, words-passed}
 use Rattle.touch.specs.Setup.{checkingOf}
-use Rattle.panel.specs.declared.Panel.{Panel}
-use Rattle.panel.specs.State.{headerOf, panelRegister}
-use Rattle.panel.specs.Sound.{Sound}
+use Rattle.panel.specs.State.{headerOf}
 use Rattle.panel.specs.Reachable.{Reachable, by-report}
-use Rattle.panel.proofs.Invariant.{reachable-sound, always-256-registers}
+use Rattle.panel.proofs.Invariant.{always-256-registers}
 use Rattle.demands.specs.Calls.{Moment, Call, ask, after, afterAll, numberGiven, handedOver, AllTyped}
-use Rattle.demands.specs.Reports.{rulesOf, waitingReport, acknowledgementOf}
-use Rattle.demands.specs.Demand2.{NamesWord, NamesRegister, Some, leaving, afterWrite, afterRead, afterStore, afterFetch}
-use Rattle.demands.proofs.Calls.{call-reached, calls-reached}
-use Rattle.demands.proofs.Waits.{kept-same, sound-ask-hands}
+use Rattle.demands.specs.Reports.{acknowledgementOf}
+use Rattle.demands.specs.Demand2.{NamesWord, NamesRegister, Some, replied, leaving, afterWrite, afterRead, afterStore, afterFetch}
+use Rattle.demands.proofs.Calls.{calls-reached}
 use Rattle.demands.proofs.Contents.{content-bytes}
-use Rattle.demands.proofs.Named.{word-stays-or-is-named, registers-named-in}
-use Rattle.demands.proofs.Access.{Asks, handed-asks, is-done, writes-registers, stores-words, reads-registers, fetches-words}
+use Rattle.demands.proofs.Named.{word-stays-or-is-named, register-stays-or-is-named}
+use Rattle.demands.proofs.Access.{handed-asks, is-done, writes-registers, stores-words, reads-registers, fetches-words}
 
 -- registers that agree over a run read alike
 same-run : (a b : Registers) (n address : ℕ) → ((i : ℕ) → i < n → registerAt a (address + i) ≡ registerAt b (address + i))
@@ -80,7 +73,7 @@ module _ (now : Moment) (reached : Reachable (now .panel)) (content : List ℕ) 
   run-still : registerRun (afterAll (after now ask) calls .panel .registers) (byteAt content 0) (length (drop 1 content)) ≡ drop 1 content
   run-still =
       same-run (afterAll (after now ask) calls .panel .registers) (after now ask .panel .registers) (length (drop 1 content)) (byteAt content 0)
-      (λ i inside. not-named (registers-named-in (after now ask) reached-next calls typed (byteAt content 0 + i)) (none i inside))
+      (λ i inside. not-named (register-stays-or-is-named (after now ask) reached-next calls typed (byteAt content 0 + i)) (none i inside))
       ∙ ap (λ (r : Registers). registerRun r (byteAt content 0) (length (drop 1 content))) registers-now
       ∙ written-reads-back (now .panel .registers) (always-256-registers (now .panel) reached) (byteAt content 0) (drop 1 content) fits-registers
 
@@ -89,10 +82,7 @@ module _ (now : Moment) (reached : Reachable (now .panel)) (content : List ℕ) 
       handedOver (afterAll (after now ask) calls) ask ≡ acceptedFrame 0x81 (byteAt content 0 ∷ length (drop 1 content) ∷ []) ∷ []
       → numberGiven (afterAll (after now ask) calls) ask ≡ 0
       → after (afterAll (after now ask) calls) ask .room
-      ≡ over (acknowledgementOf (afterAll (after now ask) calls .panel .setup) 0x81 true
-      ++ frameOf (checkingOf (afterAll (after now ask) calls .panel .setup)) (headerOf (afterAll (after now ask) calls .panel .setup)) 0x81
-      (byteAt content 0 ∷ length (drop 1 content) ∷ drop 1 content))
-      (afterAll (after now ask) calls .room)
+      ≡ replied (afterAll (after now ask) calls) 0x81 (byteAt content 0 ∷ length (drop 1 content) ∷ drop 1 content)
   unfolding afterRead leaving
   what-80-wrote-81-replies reads answered =
       let then = afterAll (after now ask) calls in
@@ -149,10 +139,7 @@ module _ (now : Moment) (reached : Reachable (now .panel)) (content : List ℕ) 
       ≡ acceptedFrame 0x83 (byteAt content 0 ∷ byteAt content 1 ∷ length (wordsOf (drop 2 content)) ∷ []) ∷ []
       → numberGiven (afterAll (after now ask) calls) ask ≡ 0
       → after (afterAll (after now ask) calls) ask .room
-      ≡ over (acknowledgementOf (afterAll (after now ask) calls .panel .setup) 0x83 true
-      ++ frameOf (checkingOf (afterAll (after now ask) calls .panel .setup)) (headerOf (afterAll (after now ask) calls .panel .setup)) 0x83
-      (byteAt content 0 ∷ byteAt content 1 ∷ length (wordsOf (drop 2 content)) ∷ drop 2 content))
-      (afterAll (after now ask) calls .room)
+      ≡ replied (afterAll (after now ask) calls) 0x83 (byteAt content 0 ∷ byteAt content 1 ∷ length (wordsOf (drop 2 content)) ∷ drop 2 content)
   unfolding afterFetch leaving after
   what-82-wrote-83-replies reads answered =
       let setup = then .panel .setup in

@@ -4,7 +4,7 @@
 use Prim.Native.Nat.{ℕ, _+_, _≤_, _<_}
 use mathlib.Core.Path.{_≡_}
 use mathlib.Core.Logic.{_⊎_, _≢_}
-use mathlib.Core.Bool.{Bool, true, false, cond}
+use mathlib.Core.Bool.{true, false, cond}
 use mathlib.Core.List.{List, [], _∷_, _++_}
 use lib.ListN.{length, drop}
 use Rattle.wire.specs.ByteOrder.{highFirst, byteAt, wordAt}
@@ -26,7 +26,7 @@ use Rattle.touch.specs.Find.{found}
 use Rattle.contact.specs.declared.Catch.{Catch}
 use Rattle.contact.specs.declared.Catch.the-variants.{Free, Caught}
 use Rattle.panel.specs.State.{headerOf}
-use Rattle.demands.specs.Calls.{Moment, Call, lend, byte, bytes, mark, ask, contact, lift, after, numberGiven, handedOver}
+use Rattle.demands.specs.Calls.{Moment, Call, lend, bytes, ask, contact, lift, after, numberGiven, handedOver}
 use Rattle.demands.specs.Reports.{readBehind, acknowledgementOf}
 
 -- the word is named by the call, which is done
@@ -71,6 +71,12 @@ pub record ReadsBack (now : Moment) (frame : List ℕ) (command : ℕ) (payload 
   pub taken : numberGiven now (bytes frame) ≡ 0
   pub handed-over : handedOver (after now (bytes frame)) ask ≡ acceptedFrame command payload ∷ []
   pub nothing-left : keptOf (after (after now (bytes frame)) ask .panel .reader) ≡ fresh
+
+-- "The reply follows the acknowledgement at once in the same room. .. bytes past the reported count stay.": the room with a reply of this command and data
+abbrev pub replied : Moment → (command : ℕ) → (payload : List ℕ) → List ℕ
+replied now command payload =
+    let setup = now .panel .setup in
+    over (acknowledgementOf setup command true ++ frameOf (checkingOf setup) (headerOf setup) command payload) (now .room)
 
 -- "An accepted frame takes effect when its report is handed over": what asking leaves, with the registers, catch, words and reply frame that the command
 -- makes. "The reply follows the acknowledgement at once in the same room. .. bytes past the reported count stay."
