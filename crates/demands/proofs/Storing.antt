@@ -103,11 +103,11 @@ unfolding withPage
 page-bytes registers page are is = below-laid 256 byte-some 0x03 (highFirst page) (registers .bytes) (high-bytes page is) are
 
 -- the records of a table of bytes
-word-below : (bytes : List ℕ) → Bytes bytes → (at : ℕ) → wordAt bytes at < 65536
+pub word-below : (bytes : List ℕ) → Bytes bytes → (at : ℕ) → wordAt bytes at < 65536
 word-below bytes are at = omega (arith, are at, are (at + 1))
 
 module _ (table : List ℕ) (are : Bytes table) (i : ℕ) where
-  record-bytes : Bytes (take 32 (drop (i * 32) table))
+  pub record-bytes : Bytes (take 32 (drop (i * 32) table))
   record-bytes = below-take 256 byte-some 32 (drop (i * 32) table) (below-drop 256 byte-some (i * 32) table are)
 
   next-below : recordAt table i .next < 65536

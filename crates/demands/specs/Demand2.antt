@@ -25,7 +25,8 @@ use Rattle.touch.specs.Record.{noNext}
 use Rattle.touch.specs.Find.{found}
 use Rattle.contact.specs.declared.Catch.{Catch}
 use Rattle.contact.specs.declared.Catch.the-variants.{Free, Caught}
-use Rattle.panel.specs.State.{headerOf}
+use Rattle.contact.specs.Contact as Contact
+use Rattle.panel.specs.State.{headerOf, padOf, withPad}
 use Rattle.demands.specs.Calls.{Moment, Call, lend, bytes, ask, contact, lift, after, numberGiven, handedOver}
 use Rattle.demands.specs.Reports.{readBehind, acknowledgementOf}
 
@@ -126,3 +127,12 @@ afterBadCheck now command =
       words = now .words;
       room = over (acknowledgementOf (now .panel .setup) command false) (now .room);
     }
+
+-- "touch effects": what a contact and a lift leave, sentence by sentence in crate contact's specs/Contact
+unfoldable pub afterContact : Moment → (table : List ℕ) → (x y : ℕ) → Moment
+afterContact now table x y =
+    let done = Contact.touched (padOf (now .panel)) table (now .words) x y in
+    record { panel = withPad (now .panel) (done .pad); words = done .words; room = now .room }
+
+unfoldable pub afterLift : Moment → Moment
+afterLift now = record { panel = withPad (now .panel) (Contact.lifted (padOf (now .panel))); words = now .words; room = now .room }
