@@ -90,7 +90,7 @@ call-sized now sound (contact table x y) typed sized = contacted-sized now table
 call-sized now sound lift typed sized = lifted-sized now sized
 
 -- a start that is done gives a new panel
-started-new : (setup : Setup) (table : List ℕ) → started setup table .answer ≡ start.Started → started setup table .panel ≡ newPanel setup
+pub started-new : (setup : Setup) (table : List ℕ) → started setup table .answer ≡ start.Started → started setup table .panel ≡ newPanel setup
 unfolding started startJudged
 started-new setup table = go (not (goodSetup setup)) (judged setup table)
   where

@@ -4,9 +4,9 @@ use mathlib.Core.Bool.{Bool, true, false, cond, not, _&&_}
 use mathlib.Core.List.{List}
 use Prim.Native.Nat.{ℕ, _*_, _<_}
 use native.Mathlib.Omega.{arith}
-use borrow.Author.Tests.{eqb-true, not-false}
+use borrow.Author.Tests.{eqb-true}
 use lib.Dec.{eqb, ltb}
-use lib.ListN.{length, getD, set, take, drop}
+use lib.ListN.{length, take, drop}
 use lib.Seq.{getD-set-same}
 use Rattle.wire.specs.Bytes.{Bytes}
 use Rattle.wire.specs.ByteOrder.{wordAt}
@@ -26,7 +26,7 @@ use Rattle.touch.specs.declared.SliderFields.{SliderFields}
 use Rattle.touch.specs.declared.Found.the-variants.{At}
 use Rattle.touch.specs.declared.Kind.{Kind}
 use Rattle.touch.specs.declared.Found.{Found}
-use Rattle.touch.specs.Record.{stepFields, sliderFields, kindOf, recordOf, slides, up as stepsUp, round as goesRound, digitMode, along, firstEdge, lastEdge}
+use Rattle.touch.specs.Record.{stepFields, sliderFields, kindOf, recordOf, up as stepsUp, round as goesRound, digitMode, along, firstEdge, lastEdge}
 use Rattle.touch.specs.Table.{recordAt}
 use Rattle.touch.specs.Find.{found}
 use Rattle.touch.specs.Act.{actedBy, actedOf, draggedOf}
@@ -35,10 +35,10 @@ use Rattle.touch.specs.Judge.{goodRecord, judged}
 use Rattle.touch.proofs.GoodFields.{good-word, good-kind}
 use Rattle.touch.proofs.Tables.{found-stands, found-good}
 use Rattle.contact.specs.declared.Catch.{Catch}
-use Rattle.contact.specs.declared.Catch.the-variants.{Free, Caught}
+use Rattle.contact.specs.declared.Catch.the-variants.{Caught}
 use Rattle.contact.specs.declared.Pad.{Pad}
 use Rattle.contact.specs.Contact as Contact
-use Rattle.contact.specs.Contact.{Touching, touched}
+use Rattle.contact.specs.Contact.{touched}
 use Rattle.panel.specs.declared.Panel.{Panel}
 use Rattle.panel.specs.declared.ContactAnswer.the-variants as contact-answer
 use Rattle.panel.specs.declared.LiftAnswer.the-variants as lift-answer
@@ -140,7 +140,7 @@ module _ (table : List ℕ) (are : Bytes table) (i : ℕ) where
           let greatest = ap (λ (g : StepFields). g .greatest) same in
           (omega (arith, field-below 0x18), omega (arith, field-below 0x1A))
 
-  slider-fields-fit : (f : SliderFields) → recordAt table i .kind ≡ Slider f → (f .begin < 65536) × (f .end < 65536)
+  pub slider-fields-fit : (f : SliderFields) → recordAt table i .kind ≡ Slider f → (f .begin < 65536) × (f .end < 65536)
   unfolding recordOf kindOf sliderFields
   slider-fields-fit f = go (eqb (wordAt bytes 0x0E) 0xFE05) (eqb (wordAt bytes 0x0E) 0xFE02) (eqb (wordAt bytes 0x0E) 0xFE03)
     where
@@ -164,7 +164,7 @@ pressed-words pad table words x y i r up acts =
     ap (λ (b : Bool). cond b (Contact.kept pad words x y) (Contact.pressed pad table words x y) .words) up
     ∙ ap (λ (f : Found). Contact.acting f now (pad .catch) words x y .words) acts
 
-dragged-words : (pad : Pad) (table words : List ℕ) (x y : ℕ) (r : Record) → isDown (pad .registers) ≡ true → pad .catch ≡ Caught r
+pub dragged-words : (pad : Pad) (table words : List ℕ) (x y : ℕ) (r : Record) → isDown (pad .registers) ≡ true → pad .catch ≡ Caught r
     → touched pad table words x y .words ≡ wordSet words (r .word) (draggedOf r (wordAtAddress words (r .word)) x y)
 unfolding touched Contact.kept Contact.dragging
 dragged-words pad table words x y r down is =
@@ -172,7 +172,7 @@ dragged-words pad table words x y r down is =
     ∙ ap (λ (c : Catch). Contact.dragging c words x y) is
 
 -- a word that was set
-word-set : (words : List ℕ) (address value : ℕ) → address < length words → wordAtAddress (wordSet words address value) address ≡ value
+pub word-set : (words : List ℕ) (address value : ℕ) → address < length words → wordAtAddress (wordSet words address value) address ≡ value
 unfolding wordSet wordAtAddress
 word-set words address value inside = getD-set-same words address value 0 inside
 
