@@ -1,19 +1,18 @@
--- Demand 2: ".. register and word access .. are those of the public SGUS and AGUS manuals as condensed in document 01": all that asking leaves where the
--- frame it hands over is done.
+-- All that asking leaves: where the frame it hands over is done, after a bad check, and where nothing is handed over.
 use mathlib.Core.Path.{_≡_, refl, sym, ap, _∙_}
-use mathlib.Core.Bool.{Bool, true, false, cond, _&&_}
-use mathlib.Core.List.{List, [], _∷_, _++_, append-assoc, append-nil}
-use Prim.Native.Nat.{ℕ, _+_, _≤_, _<_}
+use mathlib.Core.Bool.{Bool, true, false, cond}
+use mathlib.Core.List.{List, [], _∷_, _++_, append-assoc}
+use Prim.Native.Nat.{ℕ, _+_, _≤_}
 use native.Mathlib.Omega.{arith}
 use borrow.Author.Tests.{leb-true, eqb-true}
 use lib.Dec.{eqb, leb}
-use lib.ListN.{length, take, drop, take-append-drop, length-append, length-drop}
+use lib.ListN.{length, take, drop, length-append, length-drop}
 use lib.Seq.{drop-drop}
 use Rattle.wire.specs.Room.{over, Laid, lays}
 use Rattle.wire.specs.ByteOrder.{byteAt, wordAt}
 use Rattle.wire.proofs.Over.{over-nil, take-over, drop-over, length-over}
-use Rattle.frame.specs.Frame.{headerBytes, checkLength, mostData, frameOf}
-use Rattle.frame.specs.Writer.{leastRoom, frameLaid}
+use Rattle.frame.specs.Frame.{headerBytes, mostData, frameOf}
+use Rattle.frame.specs.Writer.{leastRoom}
 use Rattle.frame.proofs.Writers.{length-frameOf, length-most, frame-laid}
 use Rattle.reading.specs.Place.{badCheck, acceptedFrame}
 use Rattle.line.specs.declared.Reader.{Reader}
@@ -42,14 +41,14 @@ use Rattle.contact.specs.declared.Catch.the-variants.{Free}
 use Rattle.panel.specs.declared.Panel.{Panel}
 use Rattle.panel.specs.declared.Handed.the-variants as handed
 use Rattle.panel.specs.Numbers.{reportNumber}
-use Rattle.panel.specs.State.{headerOf}
-use Rattle.panel.specs.Reporting.{lent, acknowledged, accepting, Effects, effects, catchAfter, Reporting, reports, handing, reporting}
+use Rattle.panel.specs.State.{headerOf, withReader}
+use Rattle.panel.specs.Reporting.{lent, acknowledged, accepting, catchAfter, Reporting, reports, handing, reporting}
 use Rattle.panel.specs.Sound.{Sound}
 use Rattle.panel.specs.Reachable.{Reachable}
 use Rattle.panel.proofs.Invariant.{reachable-sound}
 use Rattle.demands.specs.Calls.{Moment, ask, after, numberGiven, reportHanded, handedOver}
 use Rattle.demands.specs.Reports.{readBehind, acknowledgementOf}
-use Rattle.demands.specs.Demand2.{leaving, afterWrite, afterRead, afterStore, afterFetch}
+use Rattle.demands.specs.Demand2.{leaving, afterWrite, afterRead, afterStore, afterFetch, afterBadCheck}
 use Rattle.demands.proofs.Waits.{asked-reader, frame-reporting}
 use Rattle.demands.proofs.Rooms.{acknowledged-laid, acknowledgement-short}
 
@@ -204,7 +203,7 @@ module _ (now : Moment) (reached : Reachable (now .panel)) (content : List ℕ) 
   abbrev sound : Sound (now .panel)
   sound = reachable-sound (now .panel) reached
 
-  is-done : (command : ℕ) → Asks now command content
+  pub is-done : (command : ℕ) → Asks now command content
       → isDone (outcome (now .panel .setup .pages) 28672 (checkingOf (now .panel .setup)) command content) ≡ true
   is-done command asks =
       zero-done (outcome (now .panel .setup .pages) 28672 (checkingOf (now .panel .setup)) command content)
@@ -270,3 +269,53 @@ module _ (now : Moment) (reached : Reachable (now .panel)) (content : List ℕ) 
       leaves now sound 0x83 content asks (now .panel .registers) false (now .words) (frameOf checking (headerOf setup) 0x83 payload) o
       (length (frameOf checking (headerOf setup) 0x83 payload))
       (rw (read, frame-laid checking (headerOf setup) 0x83 payload part within (part-holds now sound 0x83 content asks payload 0x83 within)))
+
+-- "each bad check by the same with 0x00"; "'Nothing' changes nothing, the reply room included."
+module _ (now : Moment) where
+  abbrev a : Asked
+  a = asked (now .panel .reader)
+
+  abbrev reported : Bool → Report → Reporting
+  reported l told =
+      cond l (handing a told (now .panel) (now .words) (now .room))
+      (reports (record { handed = handed.NotLent; payload = padded 254 []; panel = now .panel }) (now .words) (now .room))
+
+  abbrev momentOf : Reporting → Moment
+  momentOf r = record { panel = r .reported .panel; words = r .words; room = r .room }
+
+  pub answers-bad-check : Reachable (now .panel) → (command : ℕ) → handedOver now ask ≡ badCheck command ∷ [] → after now ask ≡ afterBadCheck now command
+  unfolding after handedOver reporting handing reportHanded lent leastRoom afterBadCheck readBehind
+  answers-bad-check reached command = go (lent (length (now .words)) (length (now .room))) refl (a .report)
+    where
+      go : (l : Bool) → lent (length (now .words)) (length (now .room)) ≡ l → (told : Report)
+          → reportHanded (reported l told .reported .handed) (reported l told .reported .payload) ≡ badCheck command ∷ []
+          → momentOf (reported l told) ≡ afterBadCheck now command
+      go false is told hands = never (cc)
+      go true is line.Nothing hands = never (cc)
+      go true is (line.Accepted c n) hands = never (cc)
+      go true is (line.BadCheck c) hands =
+          let same : c ≡ command = cc in
+          let large = leb-true 265 (length (now .room)) (and-right (eqb (length (now .words)) wordCount) (leb 265 (length (now .room))) is) in
+          ap (λ (k : ℕ). record {
+            panel = withReader (now .panel) (a .reader);
+            words = now .words;
+            room = acknowledged (now .panel .setup) k false (now .room) .room;
+          }) same
+          ∙ ap (λ (laid : Laid). record { panel = withReader (now .panel) (a .reader); words = now .words; room = laid .room })
+          (acknowledged-laid (now .panel .setup) command false (now .room) large)
+          ∙ ap (λ (r : Reader). record {
+            panel = withReader (now .panel) r;
+            words = now .words;
+            room = over (acknowledgementOf (now .panel .setup) command false) (now .room);
+          }) (asked-reader (now .panel) (reachable-sound (now .panel) reached))
+
+  pub nothing-changes-nothing : handedOver now ask ≡ [] → after now ask ≡ now
+  unfolding after handedOver reporting handing reportHanded
+  nothing-changes-nothing = go (lent (length (now .words)) (length (now .room))) (a .report)
+    where
+      go : (l : Bool) (told : Report) → reportHanded (reported l told .reported .handed) (reported l told .reported .payload) ≡ []
+          → momentOf (reported l told) ≡ now
+      go false told hands = refl
+      go true line.Nothing hands = refl
+      go true (line.Accepted c n) hands = never (cc)
+      go true (line.BadCheck c) hands = never (cc)

@@ -1,15 +1,14 @@
 -- Laws of sequences of calls: one sequence behind another, and the panels that are reached.
-use mathlib.Core.Path.{_≡_, refl, ap}
+use mathlib.Core.Path.{_≡_, refl}
 use mathlib.Core.List.{List, [], _∷_, _++_, append-assoc}
-use Prim.Native.Nat.{ℕ}
-use Rattle.reading.specs.Place.{Report}
+use Prim.Native.Nat.{ℕ, _<_}
 use Rattle.touch.specs.declared.Setup.{Setup}
 use Rattle.panel.specs.declared.StartAnswer.the-variants as start
 use Rattle.panel.specs.Start.{started}
 use Rattle.panel.specs.Sound.{Sound}
 use Rattle.panel.specs.Reachable.{Reachable, by-start, by-byte, by-mark, by-bytes, by-report, by-contact, by-lift}
 use Rattle.panel.proofs.Invariant.{reachable-sound}
-use Rattle.demands.specs.Calls.{Moment, Call, lend, byte, bytes, mark, ask, contact, lift, begun, after, afterAll, handedOver, handedOverAll, Typed, AllTyped}
+use Rattle.demands.specs.Calls.{Moment, Call, lend, byte, bytes, mark, ask, contact, lift, begun, after, afterAll, handedOver, handedOverAll, Halfwords, Typed, AllTyped, Arises, from-start, by-call}
 
 -- one sequence and then another
 pub after-then : (now : Moment) (first second : List Call) → afterAll now (first ++ second) ≡ afterAll (afterAll now first) second
@@ -48,3 +47,18 @@ module _ (setup : Setup) (table words room : List ℕ) (is : started setup table
 
   pub sequence-sound : Sound (afterAll (begun setup table words room) calls .panel)
   sequence-sound = reachable-sound (afterAll (begun setup table words room) calls .panel) sequence-reached
+
+-- the moments that arise are those that sequences of calls lead to
+pub calls-arise : (now : Moment) (calls : List Call) → AllTyped calls → Arises now → Arises (afterAll now calls)
+unfolding afterAll AllTyped
+calls-arise now [] typed arises = arises
+calls-arise now (call ∷ calls) typed arises = calls-arise (after now call) calls (typed .1) (by-call now call (typed .0) arises)
+
+pub sequence-arises : (setup : Setup) (table words room : List ℕ) → setup .h1 < 256 → setup .h2 < 256 → Halfwords words
+    → started setup table .answer ≡ start.Started → (calls : List Call) → AllTyped calls → Arises (afterAll (begun setup table words room) calls)
+sequence-arises setup table words room h1 h2 are is calls typed =
+    calls-arise (begun setup table words room) calls typed (from-start setup table words room h1 h2 are is)
+
+pub arises-reachable : (now : Moment) → Arises now → Reachable (now .panel)
+arises-reachable _ (from-start setup table words room h1 h2 are is) = by-start setup table is
+arises-reachable _ (by-call now call typed arises) = call-reached now call typed (arises-reachable now arises)

@@ -1,12 +1,11 @@
--- Demand 2: "No word or register changes but those the command or touch rule names."
-use mathlib.Core.Path.{_≡_, refl, sym, ap, _∙_}
-use mathlib.Core.Logic.{_⊎_, _≢_, inl, inr, ⊎-elim}
-use mathlib.Core.Bool.{Bool, true, false, cond}
+-- The words and registers that calls name: every other one stays, over one call and over a sequence.
+use mathlib.Core.Path.{_≡_, refl, ap, _∙_}
+use mathlib.Core.Logic.{_⊎_, inl, inr, ⊎-elim}
+use mathlib.Core.Bool.{Bool, true, false}
 use mathlib.Core.List.{List, [], _∷_}
 use Prim.Native.Nat.{ℕ, _+_, _≤_, _<_}
-use native.Mathlib.Omega.{arith}
-use borrow.Author.Tests.{eqb-true, eqb-false, ltb-true, ltb-false}
-use lib.Dec.{eqb, ltb}
+use borrow.Author.Tests.{eqb-true, eqb-false}
+use lib.Dec.{eqb}
 use lib.ListN.{length, take, drop}
 use Rattle.wire.specs.ByteOrder.{byteAt, wordAt}
 use Rattle.reading.specs.Place.{acceptedFrame}
@@ -17,28 +16,25 @@ use Rattle.words.specs.Words.{wordAtAddress, wordsOf}
 use Rattle.commands.specs.declared.Outcome.{Outcome}
 use Rattle.commands.specs.declared.Outcome.the-variants.{Done, UnknownCommand, WrongData, PastEnd, Unwritable, WrongValue, ReplyTooLong}
 use Rattle.commands.specs.Outcome as Outcome
-use Rattle.commands.specs.Outcome.{outcome, writeWordsOutcome, writeRegistersOutcome}
+use Rattle.commands.specs.Outcome.{outcome}
 use Rattle.commands.specs.Effect.{isDone}
 use Rattle.commands.proofs.Named as Command
 use Rattle.commands.proofs.Performing.{performs-outcome}
-use Rattle.touch.specs.declared.Setup.{Setup}
 use Rattle.touch.specs.Setup.{checkingOf}
 use Rattle.contact.specs.Contact as Contact
 use Rattle.contact.proofs.Named as Touch
 use Rattle.panel.specs.declared.Panel.{Panel}
-use Rattle.panel.specs.declared.StartAnswer.the-variants as start
 use Rattle.panel.specs.Numbers.{reportNumber, contactNumber, liftNumber}
 use Rattle.panel.specs.State.{headerOf, padOf, panelRegister}
-use Rattle.panel.specs.Start.{started}
 use Rattle.panel.specs.Inputs.{fedByte, fedMark, fedBytes}
 use Rattle.panel.specs.Reporting.{acknowledged, accepting, Reporting, handing, reporting}
-use Rattle.panel.specs.Contacts.{Contacting, contacting, lifting}
-use Rattle.panel.specs.Reachable.{Reachable, by-start}
+use Rattle.panel.specs.Contacts.{contacting, lifting}
+use Rattle.panel.specs.Reachable.{Reachable}
 use Rattle.panel.proofs.Ways.{contact-ways, lift-ways, report-ways}
 use Rattle.panel.proofs.Invariant.{always-256-registers}
-use Rattle.demands.specs.Calls.{Moment, Call, lend, byte, bytes, mark, ask, contact, lift, begun, after, afterAll, numberGiven, reportHanded, handedOver, Typed, AllTyped}
+use Rattle.demands.specs.Calls.{Moment, Call, lend, byte, bytes, mark, ask, contact, lift, after, afterAll, numberGiven, reportHanded, handedOver, AllTyped}
 use Rattle.demands.specs.Demand2.{NamesWord, by-store, by-acting, by-dragging, by-lending, NamesRegister, by-write, by-status, by-place, by-page, by-lift, Some, here, later}
-use Rattle.demands.proofs.Calls.{call-reached, sequence-reached}
+use Rattle.demands.proofs.Calls.{call-reached}
 use Rattle.demands.proofs.TouchedRegisters as Registers
 use Rattle.demands.proofs.TouchedRegisters.{Touches, touched-register}
 
@@ -233,36 +229,15 @@ call-names-register now whole ask address =
 call-names-register now whole (contact table x y) address = contacted-register now whole table x y address
 call-names-register now whole lift address = lifted-register now whole address
 
-registers-named-in : (now : Moment) → Reachable (now .panel) → (calls : List Call) → AllTyped calls → (address : ℕ)
+-- a register over any sequence of calls, from a panel that is reached: it stays, or some call of the sequence names it
+pub register-stays-or-is-named : (now : Moment) → Reachable (now .panel) → (calls : List Call) → AllTyped calls → (address : ℕ)
     → (panelRegister (afterAll now calls .panel) address ≡ panelRegister (now .panel) address) ⊎ Some (λ then call. NamesRegister then address call) now calls
 unfolding afterAll AllTyped
-registers-named-in now reached [] typed address = inl refl
-registers-named-in now reached (call ∷ calls) typed address =
+register-stays-or-is-named now reached [] typed address = inl refl
+register-stays-or-is-named now reached (call ∷ calls) typed address =
     ⊎-elim
     (λ same.
     ⊎-elim (λ before. inl (same ∙ before)) (λ named. inr (here now call calls named))
     (call-names-register now (always-256-registers (now .panel) reached) call address))
     (λ named. inr (later now call calls named))
-    (registers-named-in (after now call) (call-reached now call (typed .0) reached) calls (typed .1) address)
-
--- a register over any sequence of calls behind any other, from a start: it stays, or some call of the sequence names it
-pub register-stays-or-is-named : (setup : Setup) (table words room : List ℕ) → started setup table .answer ≡ start.Started
-    → (before : List Call) → AllTyped before → (calls : List Call) → AllTyped calls → (address : ℕ)
-    → (panelRegister (afterAll (afterAll (begun setup table words room) before) calls .panel) address
-    ≡ panelRegister (afterAll (begun setup table words room) before .panel) address)
-    ⊎ Some (λ then call. NamesRegister then address call) (afterAll (begun setup table words room) before) calls
-register-stays-or-is-named setup table words room is before typed calls fits address =
-    registers-named-in (afterAll (begun setup table words room) before) (sequence-reached setup table words room is before typed) calls fits address
-
--- so a word or a register that differs was named
-pub word-that-differs-was-named : (now : Moment) (calls : List Call) (k : ℕ) → wordAtAddress (afterAll now calls .words) k ≢ wordAtAddress (now .words) k
-    → Some (λ then call. NamesWord then k call) now calls
-word-that-differs-was-named now calls k differs = ⊎-elim (λ same. absurd (differs same)) (λ named. named) (word-stays-or-is-named now calls k)
-
-pub register-that-differs-was-named : (setup : Setup) (table words room : List ℕ) → started setup table .answer ≡ start.Started
-    → (before : List Call) → AllTyped before → (calls : List Call) → AllTyped calls → (address : ℕ)
-    → panelRegister (afterAll (afterAll (begun setup table words room) before) calls .panel) address
-    ≢ panelRegister (afterAll (begun setup table words room) before .panel) address
-    → Some (λ then call. NamesRegister then address call) (afterAll (begun setup table words room) before) calls
-register-that-differs-was-named setup table words room is before typed calls fits address differs =
-    ⊎-elim (λ same. absurd (differs same)) (λ named. named) (register-stays-or-is-named setup table words room is before typed calls fits address)
+    (register-stays-or-is-named (after now call) (call-reached now call (typed .0) reached) calls (typed .1) address)

@@ -1,22 +1,21 @@
--- Demand 2: "What our frame writer writes, our reader reads back as the same command and data."
+-- A frame given to a panel while nothing is held or waiting: it is taken whole, handed over, and nothing is left.
 use mathlib.Core.Path.{_≡_, refl, sym, ap, _∙_}
-use mathlib.Core.Bool.{Bool, true, false, cond, not, _&&_}
+use mathlib.Core.Bool.{Bool, true, false, cond}
 use mathlib.Core.List.{List, [], _∷_, _++_, append-assoc, append-nil}
 use Prim.Native.Nat.{ℕ, suc, _+_, _≤_, _<_}
 use native.Mathlib.Omega.{arith}
-use borrow.Author.Tests.{le-leb, lt-ltb, eq-eqb, ltb-false}
-use lib.Dec.{eqb, ltb, leb}
+use borrow.Author.Tests.{lt-ltb, eq-eqb, ltb-false}
+use lib.Dec.{ltb}
 use lib.ListN.{length, take, drop, length-append}
 use lib.Seq.{drop-at}
 use Rattle.wire.specs.Room.{over}
 use Rattle.wire.proofs.Over.{take-over}
-use Rattle.frame.specs.declared.Written.{Written}
 use Rattle.frame.specs.declared.Written.the-variants.{Frame, DataTooLong, RoomTooSmall}
-use Rattle.frame.specs.Frame.{headerBytes, checkLength, leastLength, frameOf, mostData, GoodFrame}
+use Rattle.frame.specs.Frame.{headerBytes, frameOf, mostData}
 use Rattle.frame.specs.Writer.{leastRoom, Writing, answers, writing}
 use Rattle.frame.proofs.GoodFrames.{frameOf-good}
 use Rattle.reading.specs.Place.{Rules, Seen, pass, wait, bad, accepted, Report, acceptedFrame, look, cutShort, reportOf, goneBy, isWait}
-use Rattle.reading.specs.Moves.{Kept, fresh, isPass, isReport, passes, stillClosed, settled, waiting, withByte, handed, afterReport}
+use Rattle.reading.specs.Moves.{Kept, fresh, isPass, isReport, passes, stillClosed, settled, withByte, handed, afterReport}
 use Rattle.reading.specs.Demand3.{Good, NothingHeldOrWaiting, reportOfFrame}
 use Rattle.reading.proofs.Stable.{stable}
 use Rattle.reading.proofs.Waiting.{look-nil}
@@ -29,7 +28,7 @@ use Rattle.line.specs.declared.Gave.{Gave}
 use Rattle.line.specs.State.{rulesFor, readerOf, keptOf}
 use Rattle.line.specs.declared.Asked.{Asked}
 use Rattle.line.specs.Reached.{reportAs, payloadAs}
-use Rattle.line.specs.Methods.{asked, busy, givenByte, givenBytes, gave, plus}
+use Rattle.line.specs.Methods.{asked, busy, givenByte, givenBytes, gave}
 use Rattle.line.proofs.Padding.{take-padded}
 use Rattle.line.proofs.Carried.{kept-is, ask-carried}
 use Rattle.line.proofs.Truths.{never}
@@ -40,7 +39,7 @@ use Rattle.panel.specs.Inputs.{fedBytes}
 use Rattle.panel.specs.Sound.{lineOf, Sound}
 use Rattle.panel.specs.Reachable.{Reachable}
 use Rattle.panel.proofs.Invariant.{reachable-sound}
-use Rattle.demands.specs.Calls.{Moment, Call, byte, bytes, ask, after, numberGiven, handedOver}
+use Rattle.demands.specs.Calls.{Moment, bytes, ask, after, numberGiven, handedOver}
 use Rattle.demands.specs.Reports.{rulesOf}
 use Rattle.demands.specs.Demand2.{ReadsBack}
 use Rattle.demands.proofs.Waits.{kept-same, reader-is, ask-hands, ask-reads-on}

@@ -1,7 +1,6 @@
--- Demand 1: "A refused command is still handed over and acknowledged as printed; beyond that a refusal leaves the panel, the variable words and the
--- reply room as they stood."
+-- What a call with a number above 0 leaves, call by call.
 use mathlib.Core.Path.{_≡_, refl, sym, ap, _∙_}
-use mathlib.Core.Bool.{Bool, true, false, cond, _&&_}
+use mathlib.Core.Bool.{Bool, true, false, cond}
 use mathlib.Core.List.{List, [], _∷_, _++_, map}
 use Prim.Native.Nat.{ℕ, suc, _≤_, _<_}
 use native.Mathlib.Omega.{arith}
@@ -9,7 +8,7 @@ use borrow.Author.Tests.{leb-true}
 use lib.Dec.{eqb, leb}
 use lib.ListN.{length, take}
 use Rattle.wire.specs.Bytes.{Bytes}
-use Rattle.wire.specs.Room.{Laid, over}
+use Rattle.wire.specs.Room.{Laid}
 use Rattle.frame.specs.Writer.{leastRoom}
 use Rattle.reading.specs.Place.{acceptedFrame}
 use Rattle.line.specs.declared.Reader.{Reader}
@@ -22,25 +21,21 @@ use Rattle.line.specs.Methods as Line
 use Rattle.line.specs.Methods.{busy, givenByte, givenMark, givenBytes, gave, plus, asked}
 use Rattle.line.proofs.Truths.{never, and-right}
 use Rattle.words.specs.Words.{wordCount}
-use Rattle.touch.specs.declared.Setup.{Setup}
 use Rattle.panel.specs.declared.Panel.{Panel}
-use Rattle.panel.specs.declared.StartAnswer.the-variants as start
 use Rattle.panel.specs.State.{withReader}
-use Rattle.panel.specs.Start.{started}
 use Rattle.panel.specs.Inputs.{fedByte, fedMark, fedBytes}
-use Rattle.panel.specs.Reporting.{lent, acknowledged, Reporting, handing, reporting}
-use Rattle.panel.specs.Contacts.{Contacting, contacting, lifting}
+use Rattle.panel.specs.Reporting.{lent, Reporting, handing, reporting}
+use Rattle.panel.specs.Contacts.{Contacting, lifting}
 use Rattle.panel.specs.Sound.{Sound}
 use Rattle.panel.specs.Reachable.{Reachable, by-byte}
 use Rattle.panel.proofs.Refusals.{refused-report-14-changes-nothing, RefusedReport, not-lent, handed-over, refused-report-only-handed, refused-contact-changes-nothing, refused-lift-changes-nothing}
 use Rattle.panel.proofs.Invariant.{reachable-sound}
-use Rattle.demands.specs.Calls.{Moment, Call, lend, byte, bytes, mark, ask, contact, lift, begun, withPanel, after, afterAll, numberGiven, reportHanded, handedOver, Typed, AllTyped}
-use Rattle.demands.specs.Reports.{reportWaits, readBehind, acknowledgementOf}
-use Rattle.demands.specs.Demand1.{OnlyHandedOver, Leaves, as-it-stood, only-handed-over, as-those-taken}
-use Rattle.demands.proofs.Calls.{sequence-reached}
+use Rattle.demands.specs.Calls.{Moment, Call, lend, byte, bytes, mark, ask, contact, lift, withPanel, after, afterAll, numberGiven, reportHanded, handedOver, Typed}
+use Rattle.demands.specs.Reports.{reportWaits, readBehind}
+use Rattle.demands.specs.Demand1.{Leaves, as-it-stood, only-handed-over, as-those-taken}
 use Rattle.demands.proofs.Waits.{busy-waits, asked-reader}
 use Rattle.demands.proofs.Rooms.{acknowledged-laid}
-use Rattle.demands.proofs.Demand1.{one-more}
+use Rattle.demands.proofs.Numbers.{one-more}
 
 -- a room that is lent has 265 bytes
 lent-room : (words room : ℕ) → lent words room ≡ true → 265 ≤ room
@@ -189,10 +184,3 @@ refused-leaves now reached mark typed above = mark-leaves now above
 refused-leaves now reached ask typed above = ask-leaves now (reachable-sound (now .panel) reached) above
 refused-leaves now reached (contact table x y) typed above = contact-leaves now table x y above
 refused-leaves now reached lift typed above = lift-leaves now above
-
--- after any sequence of calls, any call that is refused
-pub refusals-leave-all-else : (setup : Setup) (table words room : List ℕ) → started setup table .answer ≡ start.Started
-    → (calls : List Call) → AllTyped calls → (call : Call) → Typed call
-    → 0 < numberGiven (afterAll (begun setup table words room) calls) call → Leaves (afterAll (begun setup table words room) calls) call
-refusals-leave-all-else setup table words room is calls typed call fits =
-    refused-leaves (afterAll (begun setup table words room) calls) (sequence-reached setup table words room is calls typed) call fits

@@ -1,13 +1,13 @@
 -- What an ask lays over the room: the acknowledgement, and right behind it the reply.
-use mathlib.Core.Path.{_≡_, refl, sym, ap, _∙_}
+use mathlib.Core.Path.{_≡_, sym, ap}
 use mathlib.Core.Bool.{Bool, true, false, cond, _&&_}
-use mathlib.Core.List.{List, [], _∷_, _++_}
-use Prim.Native.Nat.{ℕ, _+_, _≤_}
+use mathlib.Core.List.{List, [], _∷_}
+use Prim.Native.Nat.{ℕ, _≤_}
 use native.Mathlib.Omega.{arith}
 use borrow.Author.Tests.{le-leb}
 use lib.Dec.{leb}
 use lib.ListN.{length}
-use Rattle.wire.specs.Room.{over, Laid, lays, laid}
+use Rattle.wire.specs.Room.{over, lays, laid}
 use Rattle.wire.proofs.Over.{over-nil}
 use Rattle.frame.specs.Frame.{headerBytes, checkLength}
 use Rattle.frame.specs.Acknowledgement.{acknowledgementLength, verdict, acknowledgement}

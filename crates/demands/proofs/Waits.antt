@@ -1,6 +1,5 @@
 -- What the panel's reader tells is what the reading of what it keeps says: whether a report waits, and which.
 use mathlib.Core.Path.{_≡_, refl, sym, ap, _∙_}
-use mathlib.Core.Bool.{Bool}
 use mathlib.Core.List.{List}
 use Prim.Native.Nat.{ℕ, _≤_}
 use native.Mathlib.Omega.{arith}
@@ -14,7 +13,7 @@ use Rattle.line.specs.declared.Reader.{Reader}
 use Rattle.line.specs.declared.Report.{Report}
 use Rattle.line.specs.declared.Report.the-variants as line
 use Rattle.line.specs.declared.Asked.{Asked}
-use Rattle.line.specs.State.{rulesFor, readerOf, keptOf}
+use Rattle.line.specs.State.{readerOf, keptOf}
 use Rattle.line.specs.Methods.{busy, asked}
 use Rattle.line.specs.Reached.{reportAs, payloadAs}
 use Rattle.line.proofs.Padding.{take-padded}

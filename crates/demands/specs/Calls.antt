@@ -1,6 +1,7 @@
 -- Sequences of calls of one panel. Demand 1: "No sequence of line bytes, quiet marks, contacts, lifts, tables or lent buffers ..".
 use Prim.{Unit}
 use Prim.Native.Nat.{ℕ, _<_}
+use mathlib.Core.Path.{_≡_}
 use mathlib.Core.Bool.{cond}
 use mathlib.Core.List.{List, [], _∷_, _++_}
 use lib.Dec.{eqb}
@@ -10,6 +11,7 @@ use Rattle.reading.specs.Place.{Report, badCheck, acceptedFrame}
 use Rattle.line.specs.Methods as Line
 use Rattle.touch.specs.declared.Setup.{Setup}
 use Rattle.panel.specs.declared.Panel.{Panel}
+use Rattle.panel.specs.declared.StartAnswer.the-variants as start
 use Rattle.panel.specs.declared.Handed.{Handed}
 use Rattle.panel.specs.declared.Handed.the-variants as handed
 use Rattle.panel.specs.Numbers.{reportNumber, contactNumber, liftNumber}
@@ -109,3 +111,9 @@ Typed lift = Unit
 unfoldable pub AllTyped : List Call → Type 0
 AllTyped [] = Unit
 AllTyped (call ∷ calls) = Typed call × AllTyped calls
+
+-- the moments that calls lead to from a start: any setup and table that are not refused, any words and room
+pub data Arises : Moment → Type 0 where
+  from-start : (setup : Setup) (table words room : List ℕ) → setup .h1 < 256 → setup .h2 < 256 → Halfwords words
+      → started setup table .answer ≡ start.Started → Arises (begun setup table words room)
+  by-call : (now : Moment) (call : Call) → Typed call → Arises now → Arises (after now call)

@@ -4,7 +4,7 @@
 use Prim.Native.Nat.{ℕ, _+_, _≤_, _<_}
 use mathlib.Core.Path.{_≡_}
 use mathlib.Core.Logic.{_⊎_, _≢_}
-use mathlib.Core.Bool.{Bool, true, false, cond}
+use mathlib.Core.Bool.{true, false, cond}
 use mathlib.Core.List.{List, [], _∷_, _++_}
 use lib.ListN.{length, drop}
 use Rattle.wire.specs.ByteOrder.{highFirst, byteAt, wordAt}
@@ -25,8 +25,9 @@ use Rattle.touch.specs.Record.{noNext}
 use Rattle.touch.specs.Find.{found}
 use Rattle.contact.specs.declared.Catch.{Catch}
 use Rattle.contact.specs.declared.Catch.the-variants.{Free, Caught}
-use Rattle.panel.specs.State.{headerOf}
-use Rattle.demands.specs.Calls.{Moment, Call, lend, byte, bytes, mark, ask, contact, lift, after, numberGiven, handedOver}
+use Rattle.contact.specs.Contact as Contact
+use Rattle.panel.specs.State.{headerOf, padOf, withPad}
+use Rattle.demands.specs.Calls.{Moment, Call, lend, bytes, ask, contact, lift, after, numberGiven, handedOver}
 use Rattle.demands.specs.Reports.{readBehind, acknowledgementOf}
 
 -- the word is named by the call, which is done
@@ -72,6 +73,12 @@ pub record ReadsBack (now : Moment) (frame : List ℕ) (command : ℕ) (payload 
   pub handed-over : handedOver (after now (bytes frame)) ask ≡ acceptedFrame command payload ∷ []
   pub nothing-left : keptOf (after (after now (bytes frame)) ask .panel .reader) ≡ fresh
 
+-- "The reply follows the acknowledgement at once in the same room. .. bytes past the reported count stay.": the room with a reply of this command and data
+abbrev pub replied : Moment → (command : ℕ) → (payload : List ℕ) → List ℕ
+replied now command payload =
+    let setup = now .panel .setup in
+    over (acknowledgementOf setup command true ++ frameOf (checkingOf setup) (headerOf setup) command payload) (now .room)
+
 -- "An accepted frame takes effect when its report is handed over": what asking leaves, with the registers, catch, words and reply frame that the command
 -- makes. "The reply follows the acknowledgement at once in the same room. .. bytes past the reported count stay."
 unfoldable pub leaving : Moment → (command : ℕ) → Registers → Catch → (words reply : List ℕ) → Moment
@@ -111,3 +118,21 @@ afterFetch now content =
     let count = byteAt content 2 in
     leaving now 0x83 (now .panel .registers) (now .panel .catch) (now .words)
     (frameOf (checkingOf setup) (headerOf setup) 0x83 (highFirst address ++ (count ∷ bytesOf (wordRun (now .words) address count))))
+
+-- "each bad check by the same with 0x00"
+unfoldable pub afterBadCheck : Moment → (command : ℕ) → Moment
+afterBadCheck now command =
+    record {
+      panel = readBehind (now .panel);
+      words = now .words;
+      room = over (acknowledgementOf (now .panel .setup) command false) (now .room);
+    }
+
+-- "touch effects": what a contact and a lift leave, sentence by sentence in crate contact's specs/Contact
+unfoldable pub afterContact : Moment → (table : List ℕ) → (x y : ℕ) → Moment
+afterContact now table x y =
+    let done = Contact.touched (padOf (now .panel)) table (now .words) x y in
+    record { panel = withPad (now .panel) (done .pad); words = done .words; room = now .room }
+
+unfoldable pub afterLift : Moment → Moment
+afterLift now = record { panel = withPad (now .panel) (Contact.lifted (padOf (now .panel))); words = now .words; room = now .room }
