@@ -19,7 +19,7 @@ use Rattle.demands.specs.Reports.{reportWaits}
 use Rattle.demands.specs.Given.{givenAll}
 use Rattle.demands.specs.AsRead.{AsRead, AlwaysAsRead}
 use Rattle.demands.proofs.Reading.{Carries}
-use Rattle.demands.proofs.Demand3.{carried, waits-same, new-reader}
+use Rattle.demands.proofs.FromNew.{carried, waits-same, new-reader}
 
 module _ (setup : Setup) (now : Moment) (calls : List Call)
     (c : Carries (lineOf setup) fresh (givenAll now calls) (handedOverAll now calls) (afterAll now calls .panel .reader))

@@ -2,7 +2,7 @@
 use mathlib.Core.Path.{_≡_, refl, sym, ap, _∙_}
 use mathlib.Core.Bool.{true}
 use mathlib.Core.List.{List, [], _∷_, _++_, map}
-use Prim.Native.Nat.{ℕ, _≤_}
+use Prim.Native.Nat.{ℕ, _≤_, _<_}
 use native.Mathlib.Omega.{arith}
 use lib.ListN.{getD, replicate}
 use Rattle.check_value.specs.CheckValue.{polynomial, bitStep, bitSteps, byteStep, checkFrom, checkValue}
@@ -36,16 +36,15 @@ use Rattle.panel.specs.Inputs.{fedBytes, fedMark}
 use Rattle.panel.specs.Reporting.{lent, acknowledged, accepting, handing, reporting}
 use Rattle.panel.specs.declared.StartAnswer.the-variants as start
 use Rattle.panel.specs.Numbers.{reportNumber}
-use Rattle.panel.specs.Reachable.{Reachable, by-start, by-mark, by-bytes}
-use Rattle.demands.specs.Calls.{Moment, Call, bytes, mark, ask, begun, after, afterAll, numberGiven, reportHanded, handedOver, handedOverAll, Typed, AllTyped}
+use Rattle.demands.specs.Calls.{Moment, Call, bytes, mark, ask, begun, after, afterAll, numberGiven, reportHanded, handedOver, handedOverAll, Typed, AllTyped, Arises, from-start, by-call}
 use Rattle.demands.specs.Reports.{reportWaits, acknowledgementOf}
 use Rattle.demands.specs.Given.{unlessRefused, given, givenAll}
 use Rattle.demands.specs.Demand3.{HandsOver, Ready, AllAskedFor, BehindAMark}
 use Rattle.demands.specs.Demand2.{leaving, afterWrite, afterRead, afterStore, afterFetch}
-use Rattle.demands.proofs.Access.{writes-registers, reads-registers, stores-words, fetches-words}
+use Rattle.demands.proofs.Demand2.{writes-registers, reads-registers, writes-words, reads-words}
 use Rattle.demands.proofs.Demand3.{demand3-closed}
-use Rattle.demands.specs.Story.{version, setup, new}
-use Rattle.demands.proofs.Story.{new-ready, version-good, version-bytes}
+use Rattle.demands.specs.Story.{version, new}
+use Rattle.demands.proofs.Story.{copies-below, new-arises, new-ready, version-good, version-bytes}
 use Rattle.demands.specs.Idle.{RefusesEveryFrame, ReadsFirstFrameOnly, ReadsFirstStretchOnly, Leaves, asked, DoesCommands, RefusesEveryCommand, RepliesAlike, StoresNoRegister, StoresNoWord, NotIdle}
 
 -- the same once a mark has come
@@ -86,10 +85,10 @@ unfolding started startJudged Judge.judged recordsFrom firstOf newPanel fedBytes
 two-gives = record { ready = new-ready; given-is = refl; all-asked = refl }
 
 behind-gives : Gives marked one (version ∷ [])
-unfolding started startJudged Judge.judged recordsFrom firstOf newPanel fedBytes fedMark givenMark givenBytes givenByte line.asked padded headerBytes checkLength leastLength contentOf rightCheck look behind afterHeader judged cutShort isPass isReport passes stillClosed settled waiting withByte withMark checkValue checkFrom byteStep bitSteps bitStep polynomial reporting lent wordCount leastRoom handing accepting acknowledged performance registersReplying replying readRegistersOutcome replyTooLong registersReply registerRun registerAt startRegisters registerCount frameLaid mostData frameOf framed enclosed lengthByte checkBytes laid over reportWaits given givenAll after afterAll unlessRefused joined
+unfolding Typed started startJudged Judge.judged recordsFrom firstOf newPanel fedBytes fedMark givenMark givenBytes givenByte line.asked padded headerBytes checkLength leastLength contentOf rightCheck look behind afterHeader judged cutShort isPass isReport passes stillClosed settled waiting withByte withMark checkValue checkFrom byteStep bitSteps bitStep polynomial reporting lent wordCount leastRoom handing accepting acknowledged performance registersReplying replying readRegistersOutcome replyTooLong registersReply registerRun registerAt startRegisters registerCount frameLaid mostData frameOf framed enclosed lengthByte checkBytes laid over reportWaits given givenAll after afterAll unlessRefused joined
 behind-gives =
     record {
-      ready = record { reached = by-mark (new .panel) (by-start setup [] refl); checking-on = refl; nothing = (refl, refl) };
+      ready = record { arises = by-call new mark tt new-arises; checking-on = refl; nothing = (refl, refl) };
       given-is = refl;
       all-asked = refl;
     }
@@ -143,10 +142,10 @@ module _ (handsOver : HandsOver) (demand : BehindAMark handsOver) where
 pub ours-does-commands : DoesCommands asked
 ours-does-commands =
     record {
-      writes = λ now reached content done. writes-registers now reached content done;
-      reads = λ now reached content done. reads-registers now reached content done;
-      stores = λ now reached content done. stores-words now reached content done;
-      fetches = λ now reached content done. fetches-words now reached content done;
+      writes = λ now arises content done. writes-registers now arises content done;
+      reads = λ now arises content done. reads-registers now arises content done;
+      stores = λ now arises content done. writes-words now arises content done;
+      fetches = λ now arises content done. reads-words now arises content done;
     }
 
 -- a panel with checking off that has been given a frame
@@ -183,9 +182,11 @@ plain-started : started plain [] .answer ≡ start.Started
 unfolding started startJudged Judge.judged recordsFrom firstOf
 plain-started = refl
 
-fed-reached : (words frame : List ℕ) → allBytes frame ≡ true → Reachable (fed words frame .panel)
-unfolding after
-fed-reached words frame are = by-bytes (started plain [] .panel) frame (tested-bytes frame are) (by-start plain [] plain-started)
+fed-arises : (w : ℕ) (frame : List ℕ) → w < 65536 → allBytes frame ≡ true → Arises (fed (replicate 28672 w) frame)
+unfolding Typed
+fed-arises w frame below are =
+    by-call (begun plain [] (replicate 28672 w) (replicate 265 0)) (bytes frame) (tested-bytes frame are)
+    (from-start plain [] (replicate 28672 w) (replicate 265 0) (omega arith) (omega arith) (λ k. copies-below 28672 w k below) plain-started)
 
 -- such a frame is handed over and its command is done
 record Done (words frame : List ℕ) (command : ℕ) (content : List ℕ) : Type 0 where
@@ -218,19 +219,19 @@ module _ (leaves : Leaves) (demand : DoesCommands leaves) where
   unfolding allBytes afterStore leaving wordAtAddress wordsWritten wordsOf laidAt after
   word-is-500 =
       ap (λ (m : Moment). wordAtAddress (m .words) 0x0010)
-      (demand .stores (fed zeros store) (fed-reached zeros store refl) (0x00 ∷ 0x10 ∷ 0x01 ∷ 0xF4 ∷ []) (all-done .storing .done) (all-done .storing .hands))
+      (demand .stores (fed zeros store) (fed-arises 0 store (omega arith) refl) (0x00 ∷ 0x10 ∷ 0x01 ∷ 0xF4 ∷ []) (all-done .storing .done) (all-done .storing .hands))
 
   word-was-0 : wordAtAddress (fed zeros store .words) 0x0010 ≡ 0
   unfolding wordAtAddress after
   word-was-0 = refl
 
-  -- "taking frames without storing", against demand 2 (`stores-words`)
+  -- "taking frames without storing", against demand 2 (`writes-words`)
   pub stores-a-word : StoresNoWord leaves → ⊥
   stores-a-word idle =
       let same : _≡_ {A = ℕ} 500 0 = sym word-is-500 ∙ ap (λ (ws : List ℕ). wordAtAddress ws 0x0010) (idle (fed zeros store)) ∙ word-was-0 in
       omega arith
 
-  -- "refusing every frame", against demand 2 (`stores-words`)
+  -- "refusing every frame", against demand 2 (`writes-words`)
   pub does-a-command : RefusesEveryCommand leaves → ⊥
   unfolding leaving
   does-a-command idle =
@@ -241,7 +242,7 @@ module _ (leaves : Leaves) (demand : DoesCommands leaves) where
   register-is-1 : registerAt (leaves (fed zeros write) .panel .registers) 0x02 ≡ 1
   unfolding allBytes afterWrite leaving registerAt startRegisters written laidAt registerCount started startJudged Judge.judged recordsFrom firstOf newPanel after fedBytes headerBytes
   register-is-1 =
-      ap (λ (m : Moment). registerAt (m .panel .registers) 0x02) (demand .writes (fed zeros write) (fed-reached zeros write refl) (0x02 ∷ 0x01 ∷ []) (all-done .writing .done) (all-done .writing .hands))
+      ap (λ (m : Moment). registerAt (m .panel .registers) 0x02) (demand .writes (fed zeros write) (fed-arises 0 write (omega arith) refl) (0x02 ∷ 0x01 ∷ []) (all-done .writing .done) (all-done .writing .hands))
 
   register-was-0 : registerAt (fed zeros write .panel .registers) 0x02 ≡ 0
   unfolding registerAt startRegisters started startJudged Judge.judged recordsFrom firstOf newPanel after fedBytes headerBytes
@@ -256,13 +257,13 @@ module _ (leaves : Leaves) (demand : DoesCommands leaves) where
   -- the replies: byte 8 of the one is the word's low byte, byte 6 of the other the register
   replied-0 : getD (leaves (fed zeros fetch) .room) 8 0 ≡ 0
   unfolding allBytes afterFetch leaving bytesOf wordRun frameOf framed enclosed lengthByte checkLength checkBytes over acknowledgementOf started startJudged Judge.judged recordsFrom firstOf newPanel after fedBytes headerBytes
-  replied-0 = ap (λ (m : Moment). getD (m .room) 8 0) (demand .fetches (fed zeros fetch) (fed-reached zeros fetch refl) (0x00 ∷ 0x10 ∷ 0x01 ∷ []) (all-done .fetching-0 .done) (all-done .fetching-0 .hands))
+  replied-0 = ap (λ (m : Moment). getD (m .room) 8 0) (demand .fetches (fed zeros fetch) (fed-arises 0 fetch (omega arith) refl) (0x00 ∷ 0x10 ∷ 0x01 ∷ []) (all-done .fetching-0 .done) (all-done .fetching-0 .hands))
 
   replied-1 : getD (leaves (fed ones fetch) .room) 8 0 ≡ 1
   unfolding allBytes afterFetch leaving bytesOf wordRun frameOf framed enclosed lengthByte checkLength checkBytes over acknowledgementOf started startJudged Judge.judged recordsFrom firstOf newPanel after fedBytes headerBytes
-  replied-1 = ap (λ (m : Moment). getD (m .room) 8 0) (demand .fetches (fed ones fetch) (fed-reached ones fetch refl) (0x00 ∷ 0x10 ∷ 0x01 ∷ []) (all-done .fetching-1 .done) (all-done .fetching-1 .hands))
+  replied-1 = ap (λ (m : Moment). getD (m .room) 8 0) (demand .fetches (fed ones fetch) (fed-arises 1 fetch (omega arith) refl) (0x00 ∷ 0x10 ∷ 0x01 ∷ []) (all-done .fetching-1 .done) (all-done .fetching-1 .hands))
 
-  -- "replying alike to all reads", against demand 2 (`fetches-words`)
+  -- "replying alike to all reads", against demand 2 (`reads-words`)
   pub replies-by-words : RepliesAlike 0x83 leaves → ⊥
   unfolding after
   replies-by-words idle =
@@ -272,11 +273,11 @@ module _ (leaves : Leaves) (demand : DoesCommands leaves) where
 
   replied-version : getD (leaves (fed zeros readVersion) .room) 6 0 ≡ 0x10
   unfolding allBytes afterRead leaving registerRun registerAt startRegisters frameOf framed enclosed lengthByte checkLength checkBytes over acknowledgementOf started startJudged Judge.judged recordsFrom firstOf newPanel after fedBytes headerBytes
-  replied-version = ap (λ (m : Moment). getD (m .room) 6 0) (demand .reads (fed zeros readVersion) (fed-reached zeros readVersion refl) (0x00 ∷ 0x01 ∷ []) (all-done .reading-version .done) (all-done .reading-version .hands))
+  replied-version = ap (λ (m : Moment). getD (m .room) 6 0) (demand .reads (fed zeros readVersion) (fed-arises 0 readVersion (omega arith) refl) (0x00 ∷ 0x01 ∷ []) (all-done .reading-version .done) (all-done .reading-version .hands))
 
   replied-light : getD (leaves (fed zeros readLight) .room) 6 0 ≡ 0x3F
   unfolding allBytes afterRead leaving registerRun registerAt startRegisters frameOf framed enclosed lengthByte checkLength checkBytes over acknowledgementOf started startJudged Judge.judged recordsFrom firstOf newPanel after fedBytes headerBytes
-  replied-light = ap (λ (m : Moment). getD (m .room) 6 0) (demand .reads (fed zeros readLight) (fed-reached zeros readLight refl) (0x01 ∷ 0x01 ∷ []) (all-done .reading-light .done) (all-done .reading-light .hands))
+  replied-light = ap (λ (m : Moment). getD (m .room) 6 0) (demand .reads (fed zeros readLight) (fed-arises 0 readLight (omega arith) refl) (0x01 ∷ 0x01 ∷ []) (all-done .reading-light .done) (all-done .reading-light .hands))
 
   -- the same of registers, against demand 2 (`reads-registers`)
   pub replies-by-registers : RepliesAlike 0x81 leaves → ⊥

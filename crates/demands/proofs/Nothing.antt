@@ -20,11 +20,12 @@ use Rattle.panel.specs.declared.Panel.{Panel}
 use Rattle.panel.specs.declared.Handed.{Handed}
 use Rattle.panel.specs.Reporting.{lent, reporting}
 use Rattle.panel.specs.Sound.{lineOf, Sound}
+use Rattle.panel.specs.Reachable.{Reachable}
 use Rattle.panel.proofs.Invariant.{reachable-sound}
 use Rattle.demands.specs.Calls.{Moment, ask, after, afterAll, reportHanded, handedOver, Typed, AllTyped}
 use Rattle.demands.specs.Reports.{rulesOf, reportWaits, waitingReport}
 use Rattle.demands.specs.AsRead.{AlwaysUntilNothing}
-use Rattle.demands.proofs.Calls.{calls-reached}
+use Rattle.demands.proofs.Calls.{calls-reached, arises-reachable}
 use Rattle.demands.proofs.Waits.{busy-waits, sound-ask-hands}
 use Rattle.demands.proofs.Lent.{reported-words, reported-room}
 use Rattle.demands.proofs.Reading.{ask-moves}
@@ -55,7 +56,7 @@ asks-typed (suc n) = (tt, asks-typed n)
 
 pub always-until-nothing : AlwaysUntilNothing
 unfolding handedOver reportHanded reportWaits waitingReport
-always-until-nothing now reachable whole large =
+always-until-nothing now arises whole large =
     record {
       nothing-waits = λ nothing.
           handed-nothing (rulesOf (now .panel)) (keptOf (now .panel .reader))
@@ -68,6 +69,9 @@ always-until-nothing now reachable whole large =
           ∙ asks-end (rulesFor line) 258 kept (sound .reads .reached .few);
     }
   where
+    reachable : Reachable (now .panel)
+    reachable = arises-reachable now arises
+
     sound : Sound (now .panel)
     sound = reachable-sound (now .panel) reachable
 

@@ -1,10 +1,10 @@
 -- Demand 3 on what happened: no good frame is lost.
 use mathlib.Core.Path.{_≡_, refl}
 use mathlib.Core.List.{List, [], _∷_, _++_, map}
-use Prim.Native.Nat.{ℕ, zero, suc, _≤_}
+use Prim.Native.Nat.{ℕ, zero, suc, _≤_, _<_}
 use native.Mathlib.Omega.{arith}
 use lib.Dec.{lit≤}
-use lib.ListN.{length, replicate}
+use lib.ListN.{length, getD, replicate}
 use Rattle.check_value.specs.CheckValue.{polynomial, bitStep, bitSteps, byteStep, checkFrom, checkValue}
 use Rattle.frame.specs.Frame.{headerBytes, checkLength, checkBytes, lengthByte, enclosed, framed, frameOf, leastLength, mostData, contentOf, rightCheck}
 use Rattle.frame.specs.Writer.{leastRoom, frameLaid}
@@ -29,17 +29,29 @@ use Rattle.touch.specs.Table.{recordsFrom, firstOf}
 use Rattle.panel.specs.Start.{newPanel, startJudged, started}
 use Rattle.panel.specs.Inputs.{fedBytes, fedMark}
 use Rattle.panel.specs.Reporting.{lent, acknowledged, accepting, handing, reporting}
-use Rattle.panel.specs.Reachable.{by-start}
-use Rattle.demands.specs.Calls.{Call, bytes, ask, after, afterAll, handedOverAll, Typed, AllTyped}
+use Rattle.demands.specs.Calls.{Call, bytes, ask, after, afterAll, handedOverAll, Halfwords, Typed, AllTyped, Arises, from-start}
 use Rattle.demands.specs.Reports.{reportWaits}
 use Rattle.demands.specs.Given.{unlessRefused, given, givenAll}
 use Rattle.demands.specs.Demand3.{Ready, AllAskedFor}
 use Rattle.demands.specs.Story.{version, readVersion, setup, new, noise, times, story}
 use Rattle.demands.proofs.Demand3.{demand3-open}
 
+-- a word repeated
+pub copies-below : (n w k : ℕ) → w < 65536 → getD (replicate n w) k 0 < 65536
+copies-below zero w k below = omega arith
+copies-below (suc n) w zero below = below
+copies-below (suc n) w (suc k) below = copies-below n w k below
+
+pub zeros-16-bit : Halfwords (replicate 28672 0)
+zeros-16-bit k = copies-below 28672 0 k (omega arith)
+
+pub new-arises : Arises new
+unfolding started startJudged Judge.judged recordsFrom firstOf
+new-arises = from-start setup [] (replicate 28672 0) (replicate 265 0) (omega arith) (omega arith) zeros-16-bit refl
+
 pub new-ready : Ready new
 unfolding started startJudged Judge.judged recordsFrom firstOf newPanel fedBytes fedMark givenMark givenBytes givenByte asked padded headerBytes checkLength leastLength contentOf rightCheck look behind afterHeader judged cutShort isPass isReport passes stillClosed settled waiting withByte withMark checkValue checkFrom byteStep bitSteps bitStep polynomial reporting lent wordCount leastRoom handing accepting acknowledged performance registersReplying replying readRegistersOutcome replyTooLong registersReply registerRun registerAt startRegisters registerCount frameLaid mostData frameOf framed enclosed lengthByte checkBytes laid over reportWaits given givenAll after afterAll unlessRefused joined
-new-ready = record { reached = by-start setup [] refl; checking-on = refl; nothing = (refl, refl) }
+new-ready = record { arises = new-arises; checking-on = refl; nothing = (refl, refl) }
 
 pub version-good : Good (checked 0x5A 0xA5) version
 unfolding leastLength checkLength rightCheck checkValue checkFrom byteStep bitSteps bitStep polynomial

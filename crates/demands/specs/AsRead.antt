@@ -16,8 +16,7 @@ use Rattle.panel.specs.Start.{started}
 use Rattle.panel.specs.declared.Handed.the-variants as handed
 use Rattle.panel.specs.Sound.{lineOf}
 use Rattle.panel.specs.Reporting.{reporting}
-use Rattle.panel.specs.Reachable.{Reachable}
-use Rattle.demands.specs.Calls.{Moment, Call, ask, begun, afterAll, handedOverAll, AllTyped}
+use Rattle.demands.specs.Calls.{Moment, Call, ask, begun, afterAll, handedOverAll, AllTyped, Arises}
 use Rattle.demands.specs.Reports.{reportWaits}
 use Rattle.demands.specs.Given.{givenAll}
 
@@ -50,7 +49,7 @@ AlwaysAsRead =
     (setup : Setup) (table words room : List ℕ) → started setup table .answer ≡ start.Started
     → (calls : List Call) → AllTyped calls → AsRead setup (begun setup table words room) calls
 
--- "reports are then asked for one at a time until the answer is 'nothing'": at a panel that calls reach from a start, lent what it must be, the answer says
+-- "reports are then asked for one at a time until the answer is 'nothing'": at a panel that is lent what it must be, the answer says
 -- that no report waits, and 258 asks are enough for it
 pub record AskedUntilNothing (now : Moment) : Type 0 where
   pub nothing-waits : reporting (now .panel) (now .words) (now .room) .reported .handed ≡ handed.Nothing → reportWaits (now .panel) ≡ false
@@ -58,4 +57,4 @@ pub record AskedUntilNothing (now : Moment) : Type 0 where
 
 abbrev pub AlwaysUntilNothing : Type 0
 AlwaysUntilNothing =
-    (now : Moment) → Reachable (now .panel) → length (now .words) ≡ 28672 → 265 ≤ length (now .room) → AskedUntilNothing now
+    (now : Moment) → Arises now → length (now .words) ≡ 28672 → 265 ≤ length (now .room) → AskedUntilNothing now

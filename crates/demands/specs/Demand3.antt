@@ -14,8 +14,7 @@ use Rattle.touch.specs.declared.Setup.{Setup}
 use Rattle.touch.specs.Setup.{checkingOf}
 use Rattle.panel.specs.declared.StartAnswer.the-variants as start
 use Rattle.panel.specs.Start.{newPanel, started}
-use Rattle.panel.specs.Reachable.{Reachable}
-use Rattle.demands.specs.Calls.{Moment, Call, begun, afterAll, handedOverAll, AllTyped}
+use Rattle.demands.specs.Calls.{Moment, Call, begun, afterAll, handedOverAll, AllTyped, Arises}
 use Rattle.demands.specs.Reports.{rulesOf, reportWaits}
 use Rattle.demands.specs.Given.{givenAll}
 
@@ -23,9 +22,9 @@ use Rattle.demands.specs.Given.{givenAll}
 abbrev pub HandsOver : Type 0
 HandsOver = Moment → List Call → List Report
 
--- "Checking is on, nothing is held or waiting", after any calls since the start
+-- "Checking is on, nothing is held or waiting": at any moment that calls lead to from a start
 pub record Ready (now : Moment) : Type 0 where
-  pub reached : Reachable (now .panel)
+  pub arises : Arises now
   pub checking-on : checkingOf (now .panel .setup) ≡ true
   pub nothing : NothingHeldOrWaiting (rulesOf (now .panel)) (keptOf (now .panel .reader))
 

@@ -10,8 +10,7 @@ use Rattle.reading.specs.Place.{acceptedFrame}
 use Rattle.reading.specs.Line as Line
 use Rattle.reading.specs.Line.{Input}
 use Rattle.reading.specs.Demand3.{acceptedOf}
-use Rattle.panel.specs.Reachable.{Reachable}
-use Rattle.demands.specs.Calls.{Moment, Call, ask, after, afterAll, numberGiven, handedOver}
+use Rattle.demands.specs.Calls.{Moment, Call, ask, after, afterAll, numberGiven, handedOver, Arises}
 use Rattle.demands.specs.Demand2.{leaving, afterWrite, afterRead, afterStore, afterFetch}
 use Rattle.demands.specs.Given.{givenAll}
 use Rattle.demands.specs.Demand3.{HandsOver}
@@ -43,13 +42,13 @@ asked now = after now ask
 
 -- demand 2, "register and word access": what a command that is handed over and done leaves
 pub record DoesCommands (leaves : Leaves) : Type 0 where
-  pub writes : (now : Moment) → Reachable (now .panel) → (content : List ℕ) → numberGiven now ask ≡ 0
+  pub writes : (now : Moment) → Arises now → (content : List ℕ) → numberGiven now ask ≡ 0
       → handedOver now ask ≡ acceptedFrame 0x80 content ∷ [] → leaves now ≡ afterWrite now content
-  pub reads : (now : Moment) → Reachable (now .panel) → (content : List ℕ) → numberGiven now ask ≡ 0
+  pub reads : (now : Moment) → Arises now → (content : List ℕ) → numberGiven now ask ≡ 0
       → handedOver now ask ≡ acceptedFrame 0x81 content ∷ [] → leaves now ≡ afterRead now content
-  pub stores : (now : Moment) → Reachable (now .panel) → (content : List ℕ) → numberGiven now ask ≡ 0
+  pub stores : (now : Moment) → Arises now → (content : List ℕ) → numberGiven now ask ≡ 0
       → handedOver now ask ≡ acceptedFrame 0x82 content ∷ [] → leaves now ≡ afterStore now content
-  pub fetches : (now : Moment) → Reachable (now .panel) → (content : List ℕ) → numberGiven now ask ≡ 0
+  pub fetches : (now : Moment) → Arises now → (content : List ℕ) → numberGiven now ask ≡ 0
       → handedOver now ask ≡ acceptedFrame 0x83 content ∷ [] → leaves now ≡ afterFetch now content
 
 -- "refusing every frame": each command is handed over and acknowledged, and does nothing else
