@@ -13,19 +13,23 @@ use Rattle.reading.specs.Demand3.{joined, acceptedOf}
 use Rattle.reading.proofs.Settling.{quiet-nil}
 use Rattle.reading.proofs.Demand3.{accepted-open, accepted-closed}
 use Rattle.reading.proofs.AfterMark.{after-mark}
-use Rattle.line.specs.State.{rulesFor, readerOf}
+use Rattle.line.specs.declared.Reader.{Reader}
+use Rattle.line.specs.State.{rulesFor, readerOf, keptOf}
+use Rattle.line.proofs.Carried.{kept-is}
+use Rattle.touch.specs.Setup.{checkingOf}
 use Rattle.panel.specs.Start.{newPanel}
 use Rattle.panel.specs.Sound.{lineOf}
 use Rattle.panel.specs.Reachable.{by-start}
 use Rattle.panel.proofs.Invariant.{reachable-sound}
 use Rattle.demands.specs.Calls.{Moment, byte, bytes, mark, begun, afterAll, handedOverAll}
-use Rattle.demands.specs.Demand3.{Ready, OnAnOpenLine, BehindAMark, AfterAMark}
-use Rattle.demands.proofs.Calls.{arises-reachable}
+use Rattle.demands.specs.Reports.{reportWaits}
+use Rattle.demands.specs.Demand3.{Ready, OnAnOpenLine, BehindAMark, AfterAMark, ReadyAgain}
+use Rattle.demands.proofs.Calls.{calls-arise, arises-reachable}
 use Rattle.demands.proofs.Waits.{kept-same}
 use Rattle.demands.proofs.Alike.{read-alike}
 use Rattle.demands.specs.AsRead.{AlwaysAsRead, AlwaysUntilNothing}
 use Rattle.demands.proofs.GivenBytes.{all-given-bytes, bytes-of}
-use Rattle.demands.proofs.FromNew.{no-bytes-new, carried, waits-same, new-reader}
+use Rattle.demands.proofs.FromNew.{no-bytes-new, carried, waits-same, new-reader, all-setup-stays, begun-setup}
 use Rattle.demands.proofs.AsRead.{always-as-read}
 use Rattle.demands.proofs.Nothing.{always-until-nothing}
 
@@ -81,6 +85,17 @@ demand3-after-mark setup table words room is calls typed before came asked =
     record {
       new-reader = as-new;
       reads-as-new = read-alike last (begun setup table (last .words) (last .room)) (as-new ∙ sym new) refl refl;
+    }
+
+pub demand3-ready-again : ReadyAgain
+unfolding newPanel reportWaits
+demand3-ready-again setup table words room arises is calls typed before came asked checking =
+    let now = begun setup table words room in
+    let new = demand3-after-mark setup table words room is calls typed before came asked .new-reader in
+    record {
+      arises = calls-arise now calls typed arises;
+      checking-on = ap checkingOf (all-setup-stays now calls ∙ begun-setup setup table words room is) ∙ checking;
+      nothing = (ap (λ (r : Reader). keptOf r .bytes) new ∙ ap (λ (k : Kept). k .bytes) (kept-is (lineOf setup) fresh), asked);
     }
 
 -- "The reports asked for, in order, are those of the reading of all that was given. While one of them is left, a report waits; otherwise the bytes from

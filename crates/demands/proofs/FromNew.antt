@@ -19,10 +19,13 @@ use Rattle.touch.specs.declared.Setup.{Setup}
 use Rattle.panel.specs.declared.Panel.{Panel}
 use Rattle.panel.specs.declared.StartAnswer.the-variants as start
 use Rattle.panel.specs.Start.{newPanel, started}
+use Rattle.panel.specs.Inputs.{fedByte, fedMark, fedBytes}
+use Rattle.panel.specs.Reporting.{handing}
 use Rattle.panel.specs.Sound.{lineOf}
 use Rattle.panel.specs.Reachable.{Reachable}
+use Rattle.panel.proofs.Ways.{contact-ways, lift-ways, report-ways}
 use Rattle.panel.proofs.Invariant.{reachable-sound}
-use Rattle.demands.specs.Calls.{Moment, Call, bytes, begun, afterAll, handedOverAll, AllTyped}
+use Rattle.demands.specs.Calls.{Moment, Call, lend, byte, bytes, mark, ask, contact, lift, begun, after, afterAll, handedOverAll, AllTyped}
 use Rattle.demands.specs.Reports.{reportWaits}
 use Rattle.demands.specs.Given.{givenAll}
 use Rattle.demands.proofs.Calls.{calls-reached}
@@ -58,3 +61,26 @@ pub new-reader : (setup : Setup) (table words room : List ℕ) → started setup
     → begun setup table words room .panel .reader ≡ readerOf (lineOf setup) fresh
 unfolding newPanel
 new-reader setup table words room is = ap (λ (p : Panel). p .reader) (started-new setup table is)
+
+-- no call changes the setup
+setup-stays : (now : Moment) (call : Call) → after now call .panel .setup ≡ now .panel .setup
+unfolding after fedByte fedMark fedBytes handing
+setup-stays now (lend words room) = refl
+setup-stays now (byte b) = refl
+setup-stays now (bytes bs) = refl
+setup-stays now mark = refl
+setup-stays now ask =
+    report-ways (now .panel) (now .words) (now .room) (λ r. r .reported .panel .setup ≡ now .panel .setup) (λ h payload. refl) (λ command is. refl)
+    (λ command count is. refl)
+setup-stays now (contact table x y) =
+    contact-ways (now .panel) table (now .words) x y (λ c. c .contacted .panel .setup ≡ now .panel .setup) (λ answer. refl) (λ good. refl)
+setup-stays now lift = lift-ways (now .panel) (λ l. l .panel .setup ≡ now .panel .setup) refl refl refl
+
+pub all-setup-stays : (now : Moment) (calls : List Call) → afterAll now calls .panel .setup ≡ now .panel .setup
+unfolding afterAll
+all-setup-stays now [] = refl
+all-setup-stays now (call ∷ calls) = all-setup-stays (after now call) calls ∙ setup-stays now call
+
+pub begun-setup : (setup : Setup) (table words room : List ℕ) → started setup table .answer ≡ start.Started → begun setup table words room .panel .setup ≡ setup
+unfolding newPanel
+begun-setup setup table words room is = ap (λ (p : Panel). p .setup) (started-new setup table is)

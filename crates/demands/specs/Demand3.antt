@@ -74,3 +74,12 @@ AfterAMark =
     → (before : List Input) → givenAll (begun setup table words room) calls ≡ before ++ (Line.mark ∷ [])
     → AllAskedFor (begun setup table words room) calls
     → AsNew setup table (afterAll (begun setup table words room) calls)
+
+-- and so, where checking is on, the first sentence applies again
+abbrev pub ReadyAgain : Type 0
+ReadyAgain =
+    (setup : Setup) (table words room : List ℕ) → Arises (begun setup table words room) → started setup table .answer ≡ start.Started
+    → (calls : List Call) → AllTyped calls
+    → (before : List Input) → givenAll (begun setup table words room) calls ≡ before ++ (Line.mark ∷ [])
+    → AllAskedFor (begun setup table words room) calls
+    → checkingOf setup ≡ true → Ready (afterAll (begun setup table words room) calls)
