@@ -1,0 +1,141 @@
+-- Two panels with the same reader, lent as many words and as large a room, read alike: registers, page, catch and the words' values play no part in reading.
+use mathlib.Core.Path.{_≡_, refl, sym, ap, _∙_}
+use mathlib.Core.Bool.{Bool, true, false, cond}
+use mathlib.Core.List.{List, [], _∷_, map}
+use Prim.Native.Nat.{ℕ}
+use lib.ListN.{length, take}
+use Rattle.reading.specs.Place as Place
+use Rattle.reading.specs.Line as Line
+use Rattle.line.specs.declared.Reader.{Reader}
+use Rattle.line.specs.declared.Asked.{Asked}
+use Rattle.line.specs.declared.Report.{Report}
+use Rattle.line.specs.declared.Report.the-variants as line
+use Rattle.line.specs.State.{padded}
+use Rattle.line.specs.Methods.{givenByte, givenMark, givenBytes, asked}
+use Rattle.panel.specs.declared.Panel.{Panel}
+use Rattle.panel.specs.declared.Handed.the-variants as handed
+use Rattle.panel.specs.Inputs.{fedByte, fedMark, fedBytes}
+use Rattle.panel.specs.Reporting as Reporting
+use Rattle.panel.specs.Reporting.{lent, reporting}
+use Rattle.demands.specs.Calls.{Moment, Call, lend, byte, bytes, mark, ask, contact, lift, after, reportHanded, handedOver, handedOverAll}
+use Rattle.demands.specs.Given.{unlessRefused, given, givenAll}
+use Rattle.demands.specs.Demand3.{ReadAlike}
+use Rattle.demands.proofs.Lent.{reported-words, reported-room, contacted-words}
+use Rattle.demands.proofs.Reading.{contact-keeps-reader, lift-keeps-reader}
+
+-- what an ask hands over and the reader that it leaves, by the reader alone and whether enough is lent
+abbrev told : Report → (payload : List ℕ) → List Place.Report
+told line.Nothing payload = []
+told (line.BadCheck command) payload = Place.badCheck command ∷ []
+told (line.Accepted command count) payload = Place.acceptedFrame command (take count payload) ∷ []
+
+abbrev goneOn : Report → (old next : Reader) → Reader
+goneOn line.Nothing old next = old
+goneOn (line.BadCheck command) old next = next
+goneOn (line.Accepted command count) old next = next
+
+module _ (panel : Panel) (words room : List ℕ) where
+  abbrev result : Bool → Asked → Reporting.Reporting
+  result b a =
+      cond b (Reporting.handing a (a .report) panel words room)
+      (Reporting.reports (record { handed = handed.NotLent; payload = padded 254 []; panel = panel }) words room)
+
+  handing-told : (a : Asked) (report : Report)
+      → (reportHanded (Reporting.handing a report panel words room .reported .handed) (Reporting.handing a report panel words room .reported .payload) ≡ told report (a .payload))
+      × (Reporting.handing a report panel words room .reported .panel .reader ≡ goneOn report (panel .reader) (a .reader))
+  unfolding Reporting.handing reportHanded
+  handing-told a line.Nothing = (refl, refl)
+  handing-told a (line.BadCheck command) = (refl, refl)
+  handing-told a (line.Accepted command count) = (refl, refl)
+
+  ask-told : (reportHanded (reporting panel words room .reported .handed) (reporting panel words room .reported .payload)
+      ≡ cond (lent (length words) (length room)) (told (asked (panel .reader) .report) (asked (panel .reader) .payload)) [])
+      × (reporting panel words room .reported .panel .reader
+      ≡ cond (lent (length words) (length room)) (goneOn (asked (panel .reader) .report) (panel .reader) (asked (panel .reader) .reader)) (panel .reader))
+  unfolding reporting reportHanded
+  ask-told = go (lent (length words) (length room))
+    where
+      a : Asked
+      a = asked (panel .reader)
+
+      go : (b : Bool) → (reportHanded (result b a .reported .handed) (result b a .reported .payload) ≡ cond b (told (a .report) (a .payload)) [])
+          × (result b a .reported .panel .reader ≡ cond b (goneOn (a .report) (panel .reader) (a .reader)) (panel .reader))
+      go true = handing-told a (a .report)
+      go false = (refl, refl)
+
+-- what two moments share
+record Shared (one other : Moment) : Type 0 where
+  reader : one .panel .reader ≡ other .panel .reader
+  words : length (one .words) ≡ length (other .words)
+  room : length (one .room) ≡ length (other .room)
+
+module _ (one other : Moment) (same : Shared one other) where
+  given-same : (call : Call) → given one call ≡ given other call
+  unfolding given fedByte fedMark fedBytes
+  given-same (lend words room) = refl
+  given-same (byte b) = ap (λ (r : Reader). unlessRefused (givenByte r b .answer) (Line.byte b)) (same .reader)
+  given-same (bytes bs) = ap (λ (r : Reader). map Line.byte (take (givenBytes r bs .used) bs)) (same .reader)
+  given-same mark = ap (λ (r : Reader). unlessRefused (givenMark r .answer) Line.mark) (same .reader)
+  given-same ask = refl
+  given-same (contact table x y) = refl
+  given-same lift = refl
+
+  handed-same : (call : Call) → handedOver one call ≡ handedOver other call
+  unfolding handedOver
+  handed-same (lend words room) = refl
+  handed-same (byte b) = refl
+  handed-same (bytes bs) = refl
+  handed-same mark = refl
+  handed-same ask =
+      rw (ask-told (one .panel) (one .words) (one .room) .0, ask-told (other .panel) (other .words) (other .room) .0, same .reader, same .words, same .room)
+  handed-same (contact table x y) = refl
+  handed-same lift = refl
+
+  shared-after : (call : Call) → Shared (after one call) (after other call)
+  unfolding after fedByte fedMark fedBytes
+  shared-after (lend words room) = record { reader = same .reader; words = refl; room = refl }
+  shared-after (byte b) = record { reader = ap (λ (r : Reader). givenByte r b .reader) (same .reader); words = same .words; room = same .room }
+  shared-after (bytes bs) = record { reader = ap (λ (r : Reader). givenBytes r bs .reader) (same .reader); words = same .words; room = same .room }
+  shared-after mark = record { reader = ap (λ (r : Reader). givenMark r .reader) (same .reader); words = same .words; room = same .room }
+  shared-after ask =
+      record {
+        reader =
+            rw (ask-told (one .panel) (one .words) (one .room) .1, ask-told (other .panel) (other .words) (other .room) .1, same .reader, same .words, same .room);
+        words =
+            reported-words (one .panel) (one .words) (one .room) ∙ same .words ∙ sym (reported-words (other .panel) (other .words) (other .room));
+        room = reported-room (one .panel) (one .words) (one .room) ∙ same .room ∙ sym (reported-room (other .panel) (other .words) (other .room));
+      }
+  shared-after (contact table x y) =
+      record {
+        reader =
+            contact-keeps-reader (one .panel) table (one .words) x y
+            ∙ same .reader
+            ∙ sym (contact-keeps-reader (other .panel) table (other .words) x y);
+        words =
+            contacted-words (one .panel) table (one .words) x y ∙ same .words ∙ sym (contacted-words (other .panel) table (other .words) x y);
+        room = same .room;
+      }
+  shared-after lift =
+      record {
+        reader = lift-keeps-reader (one .panel) ∙ same .reader ∙ sym (lift-keeps-reader (other .panel));
+        words = same .words;
+        room = same .room;
+      }
+
+all-given-same : (one other : Moment) → Shared one other → (calls : List Call) → givenAll one calls ≡ givenAll other calls
+unfolding givenAll
+all-given-same one other same [] = refl
+all-given-same one other same (call ∷ calls) =
+    rw (given-same one other same call, all-given-same (after one call) (after other call) (shared-after one other same call) calls)
+
+all-handed-same : (one other : Moment) → Shared one other → (calls : List Call) → handedOverAll one calls ≡ handedOverAll other calls
+unfolding handedOverAll
+all-handed-same one other same [] = refl
+all-handed-same one other same (call ∷ calls) =
+    rw (handed-same one other same call, all-handed-same (after one call) (after other call) (shared-after one other same call) calls)
+
+pub read-alike : (one other : Moment) → one .panel .reader ≡ other .panel .reader → length (one .words) ≡ length (other .words)
+    → length (one .room) ≡ length (other .room) → ReadAlike one other
+read-alike one other reader words room =
+    let same : Shared one other = record { reader = reader; words = words; room = room } in
+    record { give-same = all-given-same one other same; hand-same = all-handed-same one other same }

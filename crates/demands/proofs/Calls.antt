@@ -1,0 +1,64 @@
+-- Laws of sequences of calls: one sequence behind another, and the panels that are reached.
+use mathlib.Core.Path.{_≡_, refl}
+use mathlib.Core.List.{List, [], _∷_, _++_, append-assoc}
+use Prim.Native.Nat.{ℕ, _<_}
+use Rattle.touch.specs.declared.Setup.{Setup}
+use Rattle.panel.specs.declared.StartAnswer.the-variants as start
+use Rattle.panel.specs.Start.{started}
+use Rattle.panel.specs.Sound.{Sound}
+use Rattle.panel.specs.Reachable.{Reachable, by-start, by-byte, by-mark, by-bytes, by-report, by-contact, by-lift}
+use Rattle.panel.proofs.Invariant.{reachable-sound}
+use Rattle.demands.specs.Calls.{Moment, Call, lend, byte, bytes, mark, ask, contact, lift, begun, after, afterAll, handedOver, handedOverAll, Halfwords, Typed, AllTyped, Arises, from-start, by-call}
+
+-- one sequence and then another
+pub after-then : (now : Moment) (first second : List Call) → afterAll now (first ++ second) ≡ afterAll (afterAll now first) second
+unfolding afterAll
+after-then now [] second = refl
+after-then now (call ∷ first) second = after-then (after now call) first second
+
+pub handed-then : (now : Moment) (first second : List Call)
+    → handedOverAll now (first ++ second) ≡ handedOverAll now first ++ handedOverAll (afterAll now first) second
+unfolding afterAll handedOverAll
+handed-then now [] second = refl
+handed-then now (call ∷ first) second =
+    rw (handed-then (after now call) first second, append-assoc (handedOver now call))
+
+-- every call leaves a panel that can be reached from a start
+pub call-reached : (now : Moment) (call : Call) → Typed call → Reachable (now .panel) → Reachable (after now call .panel)
+unfolding after Typed
+call-reached now (lend words room) typed reached = reached
+call-reached now (byte b) typed reached = by-byte (now .panel) b typed reached
+call-reached now (bytes bs) typed reached = by-bytes (now .panel) bs typed reached
+call-reached now mark typed reached = by-mark (now .panel) reached
+call-reached now ask typed reached = by-report (now .panel) (now .words) (now .room) reached
+call-reached now (contact table x y) typed reached = by-contact (now .panel) table (now .words) x y reached
+call-reached now lift typed reached = by-lift (now .panel) reached
+
+pub calls-reached : (now : Moment) (calls : List Call) → AllTyped calls → Reachable (now .panel) → Reachable (afterAll now calls .panel)
+unfolding afterAll AllTyped
+calls-reached now [] typed reached = reached
+calls-reached now (call ∷ calls) typed reached =
+    calls-reached (after now call) calls (typed .1) (call-reached now call (typed .0) reached)
+
+-- and so does every sequence of calls from a start
+module _ (setup : Setup) (table words room : List ℕ) (is : started setup table .answer ≡ start.Started) (calls : List Call) (typed : AllTyped calls) where
+  pub sequence-reached : Reachable (afterAll (begun setup table words room) calls .panel)
+  sequence-reached = calls-reached (begun setup table words room) calls typed (by-start setup table is)
+
+  pub sequence-sound : Sound (afterAll (begun setup table words room) calls .panel)
+  sequence-sound = reachable-sound (afterAll (begun setup table words room) calls .panel) sequence-reached
+
+-- the moments that arise are those that sequences of calls lead to
+pub calls-arise : (now : Moment) (calls : List Call) → AllTyped calls → Arises now → Arises (afterAll now calls)
+unfolding afterAll AllTyped
+calls-arise now [] typed arises = arises
+calls-arise now (call ∷ calls) typed arises = calls-arise (after now call) calls (typed .1) (by-call now call (typed .0) arises)
+
+pub sequence-arises : (setup : Setup) (table words room : List ℕ) → setup .h1 < 256 → setup .h2 < 256 → Halfwords words
+    → started setup table .answer ≡ start.Started → (calls : List Call) → AllTyped calls → Arises (afterAll (begun setup table words room) calls)
+sequence-arises setup table words room h1 h2 are is calls typed =
+    calls-arise (begun setup table words room) calls typed (from-start setup table words room h1 h2 are is)
+
+pub arises-reachable : (now : Moment) → Arises now → Reachable (now .panel)
+arises-reachable _ (from-start setup table words room h1 h2 are is) = by-start setup table is
+arises-reachable _ (by-call now call typed arises) = call-reached now call typed (arises-reachable now arises)

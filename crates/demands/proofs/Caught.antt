@@ -1,0 +1,126 @@
+-- A caught slider's begin and end are 16-bit numbers, whatever calls come; so what it stores while it is dragged is what 01 prints.
+use mathlib.Core.Path.{_≡_, refl, sym, ap, _∙_}
+use mathlib.Core.Bool.{Bool, true, false, cond}
+use mathlib.Core.List.{List}
+use Prim.Native.Nat.{ℕ, _<_}
+use native.Mathlib.Omega.{arith}
+use lib.ListN.{length, take}
+use Rattle.wire.specs.Bytes.{Bytes}
+use Rattle.line.specs.Methods.{asked}
+use Rattle.line.proofs.Truths.{never}
+use Rattle.registers.specs.declared.Registers.{Registers}
+use Rattle.registers.specs.Touched.{isDown, pageOf, withPage, withStatus, withPlace}
+use Rattle.words.specs.Words.{wordAtAddress}
+use Rattle.stores.specs.Store.{signed, valueIn}
+use Rattle.stores.specs.Slider.{roundedDown, slidTo}
+use Rattle.touch.specs.declared.Record.{Record}
+use Rattle.touch.specs.declared.Kind.{Kind}
+use Rattle.touch.specs.declared.Kind.the-variants.{Slider}
+use Rattle.touch.specs.declared.SliderFields.{SliderFields}
+use Rattle.touch.specs.declared.Found.{Found}
+use Rattle.touch.specs.declared.Found.the-variants.{Nothing, At}
+use Rattle.touch.specs.Record.{slides, isSlider, noNext, digitMode, along, firstEdge, lastEdge}
+use Rattle.touch.specs.Find.{found}
+use Rattle.touch.specs.Act.{actedOf, draggedOf}
+use Rattle.touch.proofs.Acts.{slider-acts-as-printed}
+use Rattle.touch.proofs.GoodFields.{good-word, good-kind}
+use Rattle.touch.proofs.Tables.{found-stands}
+use Rattle.contact.specs.declared.Catch.{Catch}
+use Rattle.contact.specs.declared.Catch.the-variants.{Free, Caught}
+use Rattle.contact.specs.declared.Pad.{Pad}
+use Rattle.contact.specs.Contact as Contact
+use Rattle.contact.specs.Contact.{touched}
+use Rattle.panel.specs.declared.Panel.{Panel}
+use Rattle.panel.specs.State.{padOf}
+use Rattle.panel.specs.Start.{newPanel}
+use Rattle.panel.specs.Inputs.{fedByte, fedMark, fedBytes}
+use Rattle.panel.specs.Reporting.{accepting, handing}
+use Rattle.panel.proofs.Ways.{contact-ways, lift-ways, report-ways}
+use Rattle.panel.proofs.Invariant.{reachable-sound}
+use Rattle.demands.specs.Calls.{Moment, Call, lend, byte, bytes, mark, ask, contact, lift, after, numberGiven, Typed, Arises, from-start, by-call}
+use Rattle.demands.specs.Demand2.{afterContact}
+use Rattle.demands.proofs.Calls.{arises-reachable}
+use Rattle.demands.proofs.Sizes.{started-new}
+use Rattle.demands.proofs.TouchEffects.{slider-fields-fit, contact-done, contact-leaves, dragged-words, word-set}
+
+-- a copy of a slider's record that is kept has 16-bit begin and end
+abbrev Fits : Catch → Type 0
+Fits catch = (r : Record) (f : SliderFields) → catch ≡ Caught r → r .kind ≡ Slider f → (f .begin < 65536) × (f .end < 65536)
+
+free-fits : Fits Free
+free-fits r f is kind = never (cc)
+
+either-fits : (b : Bool) (c d : Catch) → Fits c → Fits d → Fits (cond b c d)
+either-fits true c d one two = one
+either-fits false c d one two = two
+
+module _ (pad : Pad) (table words : List ℕ) (x y : ℕ) (fits : Fits (pad .catch)) (are : Bytes table) where
+  caught-fits : (i : ℕ) (r : Record) → found table (pageOf (pad .registers)) x y ≡ At i r → Fits (Caught r)
+  caught-fits i r acts q f is kind =
+      let same : r ≡ q = cc in
+      let stands = found-stands table (pageOf (pad .registers)) x y i r acts .0 in
+      slider-fields-fit table are i f (ap (λ (s : Record). s .kind) (sym stands ∙ same) ∙ kind)
+
+  touched-fits : Fits (touched pad table words x y .pad .catch)
+  unfolding touched Contact.kept Contact.pressed Contact.acting Contact.showing Contact.catching
+  touched-fits = go (isDown (pad .registers))
+    where
+      now : Registers
+      now = withPlace (withStatus (pad .registers) 0x01) x y
+
+      shown : (i : ℕ) (r : Record) → found table (pageOf (pad .registers)) x y ≡ At i r → (b : Bool)
+          → Fits (cond b (Contact.padOf now (Contact.catching r (pad .catch))) (Contact.padOf (withPage now (r .next)) Free) .catch)
+      shown i r acts true = either-fits (slides r) (Caught r) (pad .catch) (caught-fits i r acts) fits
+      shown i r acts false = free-fits
+
+      behind : (f : Found) → found table (pageOf (pad .registers)) x y ≡ f → Fits (Contact.acting f now (pad .catch) words x y .pad .catch)
+      behind Nothing acts = fits
+      behind (At i r) acts = shown i r acts (noNext r)
+
+      go : (b : Bool) → Fits (cond b (Contact.kept pad words x y) (Contact.pressed pad table words x y) .pad .catch)
+      go true = fits
+      go false = behind (found table (pageOf (pad .registers)) x y) refl
+
+call-fits : (now : Moment) (call : Call) → Typed call → Fits (now .panel .catch) → Fits (after now call .panel .catch)
+unfolding after Typed fedByte fedBytes fedMark handing Contact.lifted
+call-fits now (lend words room) typed fits = fits
+call-fits now (byte b) typed fits = fits
+call-fits now (bytes bs) typed fits = fits
+call-fits now mark typed fits = fits
+call-fits now ask typed fits =
+    report-ways (now .panel) (now .words) (now .room) (λ r. Fits (r .reported .panel .catch)) (λ h payload. fits) (λ command is. fits)
+    (λ command count is.
+    let content = take count (asked (now .panel .reader) .payload) in
+    let done = accepting (now .panel .setup) (now .panel .registers) command content (now .words) (now .room) in
+    either-fits (done .effected .performed .paged) Free (now .panel .catch) free-fits fits)
+call-fits now (contact table x y) typed fits =
+    contact-ways (now .panel) table (now .words) x y (λ c. Fits (c .contacted .panel .catch)) (λ answer. fits)
+    (λ good. touched-fits (padOf (now .panel)) table (now .words) x y fits (typed .0))
+call-fits now lift typed fits = lift-ways (now .panel) (λ l. Fits (l .panel .catch)) fits fits free-fits
+
+always-fits : (now : Moment) → Arises now → Fits (now .panel .catch)
+unfolding newPanel
+always-fits _ (from-start setup table words room h1 h2 are is) = λ r f caught kind.
+    let none : newPanel setup .catch ≡ Caught r = ap (λ (p : Panel). p .catch) (sym (started-new setup table is)) ∙ caught in
+    free-fits r f none kind
+always-fits _ (by-call now call typed arises) = call-fits now call typed (always-fits now arises)
+
+-- "Contact while down: .. a caught slider stores for the point moved to the nearest place in its area"
+pub dragged-slider-stores : (now : Moment) → Arises now → (table : List ℕ) (x y : ℕ) → numberGiven now (contact table x y) ≡ 0
+    → isDown (now .panel .registers) ≡ true → (r : Record) → now .panel .catch ≡ Caught r → (f : SliderFields) → r .kind ≡ Slider f
+    → valueIn (digitMode (r .mode)) (wordAtAddress (after now (contact table x y) .words) (r .word))
+    ≡ slidTo roundedDown (signed (f .begin)) (signed (f .end)) (firstEdge (r .mode) (r .area)) (lastEdge (r .mode) (r .area)) (along (r .mode) x y)
+unfolding afterContact numberGiven draggedOf
+dragged-slider-stores now arises table x y done down r caught f kind =
+    let sound = reachable-sound (now .panel) (arises-reachable now arises) in
+    let good = sound .pad .caught-good r caught .0 in
+    let fit = always-fits now arises r f caught kind in
+    let small = good-word (now .panel .setup) r good in
+    let whole = contact-done (now .panel) table (now .words) x y done .whole in
+    let inside : r .word < length (now .words) = omega arith in
+    let old = wordAtAddress (now .words) (r .word) in
+    ap (λ (m : Moment). valueIn (digitMode (r .mode)) (wordAtAddress (m .words) (r .word))) (contact-leaves now table x y done)
+    ∙ ap (λ (l : List ℕ). valueIn (digitMode (r .mode)) (wordAtAddress l (r .word))) (dragged-words (padOf (now .panel)) table (now .words) x y r down caught)
+    ∙ ap (valueIn (digitMode (r .mode))) (word-set (now .words) (r .word) (draggedOf r old x y) inside)
+    ∙ ap (λ (k : Kind). valueIn (digitMode (r .mode)) (cond (isSlider k) (actedOf r old x y) old)) kind
+    ∙ slider-acts-as-printed r old x y (good-kind (now .panel .setup) r good) f kind (fit .0) (fit .1)

@@ -1,0 +1,166 @@
+-- Demand 2, theorem by theorem. `Arises now`: any calls with any inputs have led to this moment from any start.
+use mathlib.Core.Path.{_≡_}
+use mathlib.Core.Logic.{_≢_, ⊎-elim}
+use mathlib.Core.Bool.{Bool, true, false}
+use mathlib.Core.List.{List, [], _∷_}
+use Prim.Native.Nat.{ℕ, _+_, _/_, _^_, _≤_, _<_}
+use lib.ListN.{length, getD, take, drop}
+use lib.Bits.{bitAnd, bitXor}
+use Rattle.wire.specs.Bytes.{Bytes}
+use Rattle.wire.specs.ByteOrder.{byteAt, wordAt}
+use Rattle.check_value.specs.CheckValue.{bitSteps}
+use Rattle.check_value.specs.Tables.{lowTable, highTable}
+use Rattle.check_value.proofs.PrintedTables.{by-tables}
+use Rattle.frame.specs.declared.Written.the-variants.{Frame}
+use Rattle.frame.specs.Frame.{frameOf, mostData, GoodFrame}
+use Rattle.frame.specs.Writer.{writing}
+use Rattle.frame.proofs.GoodFrames.{frameOf-good, good-is-frameOf}
+use Rattle.reading.specs.Place.{badCheck, acceptedFrame}
+use Rattle.reading.specs.Demand3.{NothingHeldOrWaiting}
+use Rattle.line.specs.State.{keptOf}
+use Rattle.registers.specs.Touched.{isDown, pageOf}
+use Rattle.words.specs.Words.{wordAtAddress, wordsOf}
+use Rattle.stores.specs.Store.{signed, valueIn, keyStores}
+use Rattle.stores.specs.Step.{stepped, fenced}
+use Rattle.stores.specs.Slider.{roundedDown, slidTo}
+use Rattle.touch.specs.declared.Record.{Record}
+use Rattle.touch.specs.declared.Kind.the-variants.{Key, Step, Slider}
+use Rattle.touch.specs.declared.StepFields.{StepFields}
+use Rattle.touch.specs.declared.SliderFields.{SliderFields}
+use Rattle.touch.specs.declared.Found.the-variants.{At}
+use Rattle.touch.specs.Setup.{checkingOf}
+use Rattle.touch.specs.Record.{up as stepsUp, round as goesRound, digitMode, along, firstEdge, lastEdge}
+use Rattle.touch.specs.Find.{found}
+use Rattle.contact.specs.declared.Catch.the-variants.{Caught}
+use Rattle.panel.specs.State.{headerOf, panelRegister}
+use Rattle.demands.specs.Calls.{Moment, Call, ask, contact, lift, after, afterAll, numberGiven, handedOver, AllTyped, Arises}
+use Rattle.demands.specs.Reports.{rulesOf}
+use Rattle.demands.specs.Demand2.{NamesWord, NamesRegister, Some, ReadsBack, replied, afterWrite, afterRead, afterStore, afterFetch, afterBadCheck, afterContact, afterLift}
+use Rattle.demands.proofs.Calls.{arises-reachable}
+use Rattle.demands.proofs.Named as Named
+use Rattle.demands.proofs.ReadBack as ReadBack
+use Rattle.demands.proofs.Access as Access
+use Rattle.demands.proofs.WrittenReads as WrittenReads
+use Rattle.demands.proofs.Sizes as Sizes
+use Rattle.demands.proofs.TouchEffects as TouchEffects
+use Rattle.demands.proofs.Caught as Caught
+
+-- "Frames .. are those of the .. manuals as condensed in document 01": the frame of any command and data within the limit is a good one, and every good
+-- frame is the frame of some command and data within the limit
+pub frames-are-good : (checking : Bool) (header : List ℕ) (command : ℕ) (payload : List ℕ) → length payload ≤ mostData checking
+    → GoodFrame checking header (frameOf checking header command payload)
+frames-are-good = frameOf-good
+
+pub good-frames-are-frames : (checking : Bool) (header frame : List ℕ) → GoodFrame checking header frame
+    → (command : ℕ) × (payload : List ℕ) × (length payload ≤ mostData checking) × (frame ≡ frameOf checking header command payload)
+good-frames-are-frames = good-is-frameOf
+
+-- "check values": "the value is defined bit by bit from the polynomial", and the two printed tables give eight of its steps
+pub tables-give-eight-steps : (x : ℕ)
+    → bitXor (bitXor (x / 2 ^ 8) (getD lowTable (bitAnd x 15) 0)) (getD highTable (bitAnd (x / 2 ^ 4) 15) 0) ≡ bitSteps 8 x
+tables-give-eight-steps = by-tables
+
+-- "register and word access .. are those of the .. manuals as condensed in document 01": all that asking leaves, where it hands over a command and is
+-- answered 0
+module _ (now : Moment) (arises : Arises now) (content : List ℕ) (done : numberGiven now ask ≡ 0) where
+  pub writes-registers : handedOver now ask ≡ acceptedFrame 0x80 content ∷ [] → after now ask ≡ afterWrite now content
+  writes-registers = Access.writes-registers now (arises-reachable now arises) content done
+
+  pub reads-registers : handedOver now ask ≡ acceptedFrame 0x81 content ∷ [] → after now ask ≡ afterRead now content
+  reads-registers = Access.reads-registers now (arises-reachable now arises) content done
+
+  pub writes-words : handedOver now ask ≡ acceptedFrame 0x82 content ∷ [] → after now ask ≡ afterStore now content
+  writes-words = Access.stores-words now (arises-reachable now arises) content done
+
+  pub reads-words : handedOver now ask ≡ acceptedFrame 0x83 content ∷ [] → after now ask ≡ afterFetch now content
+  reads-words = Access.fetches-words now (arises-reachable now arises) content done
+
+-- "each bad check by the same with 0x00"; "'Nothing' changes nothing, the reply room included."
+pub answers-bad-check : (now : Moment) → Arises now → (command : ℕ) → handedOver now ask ≡ badCheck command ∷ [] → after now ask ≡ afterBadCheck now command
+answers-bad-check now arises = Access.answers-bad-check now (arises-reachable now arises)
+
+pub nothing-changes-nothing : (now : Moment) → handedOver now ask ≡ [] → after now ask ≡ now
+nothing-changes-nothing = Access.nothing-changes-nothing
+
+-- what an 0x80 wrote, an 0x81 of the same run replies, whatever calls come between that name none of its registers
+pub what-80-wrote-81-replies : (now : Moment) → Arises now → (content : List ℕ) → handedOver now ask ≡ acceptedFrame 0x80 content ∷ [] → numberGiven now ask ≡ 0
+    → (calls : List Call) → AllTyped calls
+    → ((i : ℕ) → i < length (drop 1 content) → Some (λ then call. NamesRegister then (byteAt content 0 + i) call) (after now ask) calls → ⊥)
+    → handedOver (afterAll (after now ask) calls) ask ≡ acceptedFrame 0x81 (byteAt content 0 ∷ length (drop 1 content) ∷ []) ∷ []
+    → numberGiven (afterAll (after now ask) calls) ask ≡ 0
+    → after (afterAll (after now ask) calls) ask .room
+    ≡ replied (afterAll (after now ask) calls) 0x81 (byteAt content 0 ∷ length (drop 1 content) ∷ drop 1 content)
+what-80-wrote-81-replies now arises = WrittenReads.what-80-wrote-81-replies now (arises-reachable now arises)
+
+-- the same of an 0x82 and an 0x83
+pub what-82-wrote-83-replies : (now : Moment) → Arises now → (content : List ℕ) → handedOver now ask ≡ acceptedFrame 0x82 content ∷ [] → numberGiven now ask ≡ 0
+    → (calls : List Call) → AllTyped calls
+    → ((i : ℕ) → i < length (wordsOf (drop 2 content)) → Some (λ then call. NamesWord then (wordAt content 0 + i) call) (after now ask) calls → ⊥)
+    → handedOver (afterAll (after now ask) calls) ask
+    ≡ acceptedFrame 0x83 (byteAt content 0 ∷ byteAt content 1 ∷ length (wordsOf (drop 2 content)) ∷ []) ∷ []
+    → numberGiven (afterAll (after now ask) calls) ask ≡ 0
+    → after (afterAll (after now ask) calls) ask .room
+    ≡ replied (afterAll (after now ask) calls) 0x83 (byteAt content 0 ∷ byteAt content 1 ∷ length (wordsOf (drop 2 content)) ∷ drop 2 content)
+what-82-wrote-83-replies now arises = WrittenReads.what-82-wrote-83-replies now (arises-reachable now arises)
+
+-- "touch effects are those of ..": all that a contact and a lift leave that are answered 0
+pub contact-leaves : (now : Moment) (table : List ℕ) (x y : ℕ) → numberGiven now (contact table x y) ≡ 0 → after now (contact table x y) ≡ afterContact now table x y
+contact-leaves = TouchEffects.contact-leaves
+
+pub lift-leaves : (now : Moment) → numberGiven now lift ≡ 0 → after now lift ≡ afterLift now
+lift-leaves = TouchEffects.lift-leaves
+
+-- "Contact while up: .. The first record of the current page holding the point acts": what it stores
+module _ (now : Moment) (table : List ℕ) (are : Bytes table) (x y : ℕ) (done : numberGiven now (contact table x y) ≡ 0)
+    (up : isDown (now .panel .registers) ≡ false) (i : ℕ) (r : Record) (acts : found table (pageOf (now .panel .registers)) x y ≡ At i r) where
+  -- Key: "mode 0 whole word, 1 high byte, 2 low byte; 14 code"
+  pub key-stores : (code : ℕ) → r .kind ≡ Key code
+      → wordAtAddress (after now (contact table x y) .words) (r .word) ≡ keyStores (r .mode) (wordAtAddress (now .words) (r .word)) code
+  key-stores = TouchEffects.key-stores now table are x y done up i r acts
+
+  -- "Step: t is the value with the step added or taken, as whole numbers. If t is within the ends, store t. Otherwise ..": read in its mode
+  pub step-stores : (f : StepFields) → r .kind ≡ Step f
+      → valueIn (r .mode) (wordAtAddress (after now (contact table x y) .words) (r .word))
+      ≡ fenced (stepsUp f) (goesRound f) (signed (f .least)) (signed (f .greatest))
+      (stepped (stepsUp f) (valueIn (r .mode) (wordAtAddress (now .words) (r .word))) (f .step))
+  step-stores = TouchEffects.step-stores now table are x y done up i r acts
+
+  -- "Slider: .. |end − begin|·d / w rounded down is moved from begin towards end.", upward and downward alike: read in its mode
+  pub slider-stores : (f : SliderFields) → r .kind ≡ Slider f
+      → valueIn (digitMode (r .mode)) (wordAtAddress (after now (contact table x y) .words) (r .word))
+      ≡ slidTo roundedDown (signed (f .begin)) (signed (f .end)) (firstEdge (r .mode) (r .area)) (lastEdge (r .mode) (r .area)) (along (r .mode) x y)
+  slider-stores = TouchEffects.slider-stores now table are x y done up i r acts
+
+-- "Contact while down: .. a caught slider stores for the point moved to the nearest place in its area"
+pub dragged-slider-stores : (now : Moment) → Arises now → (table : List ℕ) (x y : ℕ) → numberGiven now (contact table x y) ≡ 0
+    → isDown (now .panel .registers) ≡ true → (r : Record) → now .panel .catch ≡ Caught r → (f : SliderFields) → r .kind ≡ Slider f
+    → valueIn (digitMode (r .mode)) (wordAtAddress (after now (contact table x y) .words) (r .word))
+    ≡ slidTo roundedDown (signed (f .begin)) (signed (f .end)) (firstEdge (r .mode) (r .area)) (lastEdge (r .mode) (r .area)) (along (r .mode) x y)
+dragged-slider-stores = Caught.dragged-slider-stores
+
+-- "What our frame writer writes, our reader reads back as the same command and data.": what it wrote into any room, under the header and the choice that
+-- are set up, given to the panel while nothing is held or waiting
+pub writer-reads-back : (now : Moment) → Arises now → NothingHeldOrWaiting (rulesOf (now .panel)) (keptOf (now .panel .reader))
+    → length (now .words) ≡ 28672 → 265 ≤ length (now .room) → (command : ℕ) (payload room : List ℕ) (n : ℕ)
+    → writing (checkingOf (now .panel .setup)) (headerOf (now .panel .setup)) command payload room .answer ≡ Frame n
+    → ReadsBack now (take n (writing (checkingOf (now .panel .setup)) (headerOf (now .panel .setup)) command payload room .room)) command payload
+writer-reads-back now arises = ReadBack.writer-reads-back now (arises-reachable now arises)
+
+-- "No word or register changes but those the command or touch rule names.": over any sequence of calls
+pub no-other-word-changes : (now : Moment) (calls : List Call) (k : ℕ) → wordAtAddress (afterAll now calls .words) k ≢ wordAtAddress (now .words) k
+    → Some (λ then call. NamesWord then k call) now calls
+no-other-word-changes now calls k differs = ⊎-elim (λ same. absurd (differs same)) (λ named. named) (Named.word-stays-or-is-named now calls k)
+
+pub no-other-register-changes : (now : Moment) → Arises now → (calls : List Call) → AllTyped calls → (address : ℕ)
+    → panelRegister (afterAll now calls .panel) address ≢ panelRegister (now .panel) address
+    → Some (λ then call. NamesRegister then address call) now calls
+no-other-register-changes now arises calls typed address differs =
+    ⊎-elim (λ same. absurd (differs same)) (λ named. named)
+    (Named.register-stays-or-is-named now (arises-reachable now arises) calls typed address)
+
+-- "256 register bytes and 28,672 variable words, .. lent by the caller as 16-bit numbers": they stay so
+pub registers-are-bytes : (now : Moment) → Arises now → (address : ℕ) → panelRegister (now .panel) address < 256
+registers-are-bytes = Sizes.registers-are-bytes
+
+pub words-are-16-bit : (now : Moment) → Arises now → (k : ℕ) → wordAtAddress (now .words) k < 65536
+words-are-16-bit = Sizes.words-are-16-bit

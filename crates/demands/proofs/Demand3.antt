@@ -1,0 +1,108 @@
+-- Demand 3, sentence by sentence as specs/Demand3 states it, and what 01 says of asking, as specs/AsRead states it.
+use mathlib.Core.Path.{_≡_, refl, sym, ap, _∙_}
+use mathlib.Core.Bool.{false}
+use mathlib.Core.List.{List, [], _∷_, _++_, map, append-nil}
+use Prim.Native.Nat.{ℕ, _+_}
+use Rattle.wire.specs.Bytes.{Bytes}
+use Rattle.frame.specs.Frame.{headerBytes}
+use Rattle.reading.specs.Place.{Rules}
+use Rattle.reading.specs.Line as Line
+use Rattle.reading.specs.Moves.{Kept, fresh, waiting}
+use Rattle.reading.specs.Run.{run}
+use Rattle.reading.specs.Demand3.{joined, acceptedOf}
+use Rattle.reading.proofs.Settling.{quiet-nil}
+use Rattle.reading.proofs.Demand3.{accepted-open, accepted-closed}
+use Rattle.reading.proofs.AfterMark.{after-mark}
+use Rattle.line.specs.declared.Reader.{Reader}
+use Rattle.line.specs.State.{rulesFor, readerOf, keptOf}
+use Rattle.line.proofs.Carried.{kept-is}
+use Rattle.touch.specs.Setup.{checkingOf}
+use Rattle.panel.specs.Start.{newPanel}
+use Rattle.panel.specs.Sound.{lineOf}
+use Rattle.panel.specs.Reachable.{by-start}
+use Rattle.panel.proofs.Invariant.{reachable-sound}
+use Rattle.demands.specs.Calls.{Moment, byte, bytes, mark, begun, afterAll, handedOverAll}
+use Rattle.demands.specs.Reports.{reportWaits}
+use Rattle.demands.specs.Demand3.{Ready, OnAnOpenLine, BehindAMark, AfterAMark, ReadyAgain}
+use Rattle.demands.proofs.Calls.{calls-arise, arises-reachable}
+use Rattle.demands.proofs.Waits.{kept-same}
+use Rattle.demands.proofs.Alike.{read-alike}
+use Rattle.demands.specs.AsRead.{AlwaysAsRead, AlwaysUntilNothing}
+use Rattle.demands.proofs.GivenBytes.{all-given-bytes, bytes-of}
+use Rattle.demands.proofs.FromNew.{no-bytes-new, carried, waits-same, new-reader, all-setup-stays, begun-setup}
+use Rattle.demands.proofs.AsRead.{always-as-read}
+use Rattle.demands.proofs.Nothing.{always-until-nothing}
+
+ready-new : (now : Moment) → Ready now → now .panel .reader ≡ readerOf (lineOf (now .panel .setup)) fresh
+ready-new now ready =
+    let line = lineOf (now .panel .setup) in
+    let sound = reachable-sound (now .panel) (arises-reachable now (ready .arises)) in
+    let reads = sound .reads in
+    let none : reads .kept .bytes ≡ [] = ap (λ (k : Kept). k .bytes) (sym (kept-same (now .panel) sound)) ∙ ready .nothing .0 in
+    reads .is ∙ ap (readerOf line) (no-bytes-new line (reads .kept) (reads .reached) none)
+
+idle-new : (rules : Rules) → (_≡_ {A = List ℕ} [] []) × (waiting rules fresh ≡ false)
+idle-new rules = (refl, quiet-nil rules false)
+
+pub demand3-open : OnAnOpenLine handedOverAll
+unfolding run headerBytes
+demand3-open now ready calls typed damage frames tail good cut came begins-none followed asked =
+    let line = lineOf (now .panel .setup) in
+    let rules = rulesFor line in
+    let reachable = arises-reachable now (ready .arises) in
+    let new = ready-new now ready in
+    let c = carried line now reachable new calls typed in
+    let whole = damage ++ (joined frames ++ tail) in
+    let are : Bytes whole = bytes-of whole [] (rw (append-nil (map Line.byte whole)) (rw came at (all-given-bytes now calls typed))) in
+    ap acceptedOf (sym (c .hands))
+    ∙ accepted-open rules [] (c .events) (idle-new rules) (sym (waits-same line now reachable new calls typed) ∙ asked) damage frames good tail cut are begins-none
+    (c .gives ∙ came) followed
+
+pub demand3-closed : BehindAMark handedOverAll
+unfolding run
+demand3-closed now ready calls typed damage frames good came begins-none asked =
+    let line = lineOf (now .panel .setup) in
+    let rules = rulesFor line in
+    let reachable = arises-reachable now (ready .arises) in
+    let new = ready-new now ready in
+    let c = carried line now reachable new calls typed in
+    let whole = damage ++ joined frames in
+    let are : Bytes whole = bytes-of whole (Line.mark ∷ []) (rw came at (all-given-bytes now calls typed)) in
+    ap acceptedOf (sym (c .hands))
+    ∙ accepted-closed rules [] (c .events) (idle-new rules) (sym (waits-same line now reachable new calls typed) ∙ asked) damage frames good are begins-none (c .gives ∙ came)
+
+pub demand3-after-mark : AfterAMark
+unfolding newPanel
+demand3-after-mark setup table words room is calls typed before came asked =
+    let line = lineOf setup in
+    let new = new-reader setup table words room is in
+    let now = begun setup table words room in
+    let reachable = by-start setup table is in
+    let c = carried line now reachable new calls typed in
+    let last = afterAll now calls in
+    let as-new : last .panel .reader ≡ readerOf line fresh =
+    c .reads ∙ ap (readerOf line) (after-mark (rulesFor line) (c .events) before (c .gives ∙ came) (sym (waits-same line now reachable new calls typed) ∙ asked)) in
+    record {
+      new-reader = as-new;
+      reads-as-new = read-alike last (begun setup table (last .words) (last .room)) (as-new ∙ sym new) refl refl;
+    }
+
+pub demand3-ready-again : ReadyAgain
+unfolding newPanel reportWaits
+demand3-ready-again setup table words room arises is calls typed before came asked checking =
+    let now = begun setup table words room in
+    let new = demand3-after-mark setup table words room is calls typed before came asked .new-reader in
+    record {
+      arises = calls-arise now calls typed arises;
+      checking-on = ap checkingOf (all-setup-stays now calls ∙ begun-setup setup table words room is) ∙ checking;
+      nothing = (ap (λ (r : Reader). keptOf r .bytes) new ∙ ap (λ (k : Kept). k .bytes) (kept-is (lineOf setup) fresh), asked);
+    }
+
+-- "The reports asked for, in order, are those of the reading of all that was given. While one of them is left, a report waits; otherwise the bytes from
+-- the waiting place on are held."
+pub reports-as-read : AlwaysAsRead
+reports-as-read = always-as-read
+
+-- ".. until the answer is 'nothing'"
+pub asked-until-nothing : AlwaysUntilNothing
+asked-until-nothing = always-until-nothing

@@ -1,0 +1,243 @@
+-- The words and registers that calls name: every other one stays, over one call and over a sequence.
+use mathlib.Core.Path.{_≡_, refl, ap, _∙_}
+use mathlib.Core.Logic.{_⊎_, inl, inr, ⊎-elim}
+use mathlib.Core.Bool.{Bool, true, false}
+use mathlib.Core.List.{List, [], _∷_}
+use Prim.Native.Nat.{ℕ, _+_, _≤_, _<_}
+use borrow.Author.Tests.{eqb-true, eqb-false}
+use lib.Dec.{eqb}
+use lib.ListN.{length, take, drop}
+use Rattle.wire.specs.ByteOrder.{byteAt, wordAt}
+use Rattle.reading.specs.Place.{acceptedFrame}
+use Rattle.line.specs.declared.Report.the-variants as line
+use Rattle.line.specs.Methods.{asked}
+use Rattle.registers.specs.Table.{registerAt}
+use Rattle.words.specs.Words.{wordAtAddress, wordsOf}
+use Rattle.commands.specs.declared.Outcome.{Outcome}
+use Rattle.commands.specs.declared.Outcome.the-variants.{Done, UnknownCommand, WrongData, PastEnd, Unwritable, WrongValue, ReplyTooLong}
+use Rattle.commands.specs.Outcome as Outcome
+use Rattle.commands.specs.Outcome.{outcome}
+use Rattle.commands.specs.Effect.{isDone}
+use Rattle.commands.proofs.Named as Command
+use Rattle.commands.proofs.Performing.{performs-outcome}
+use Rattle.touch.specs.Setup.{checkingOf}
+use Rattle.contact.specs.Contact as Contact
+use Rattle.contact.proofs.Named as Touch
+use Rattle.panel.specs.declared.Panel.{Panel}
+use Rattle.panel.specs.Numbers.{reportNumber, contactNumber, liftNumber}
+use Rattle.panel.specs.State.{headerOf, padOf, panelRegister}
+use Rattle.panel.specs.Inputs.{fedByte, fedMark, fedBytes}
+use Rattle.panel.specs.Reporting.{acknowledged, accepting, Reporting, handing, reporting}
+use Rattle.panel.specs.Contacts.{contacting, lifting}
+use Rattle.panel.specs.Reachable.{Reachable}
+use Rattle.panel.proofs.Ways.{contact-ways, lift-ways, report-ways}
+use Rattle.panel.proofs.Invariant.{always-256-registers}
+use Rattle.demands.specs.Calls.{Moment, Call, lend, byte, bytes, mark, ask, contact, lift, after, afterAll, numberGiven, reportHanded, handedOver, AllTyped}
+use Rattle.demands.specs.Demand2.{NamesWord, by-store, by-acting, by-dragging, by-lending, NamesRegister, by-write, by-status, by-place, by-page, by-lift, Some, here, later}
+use Rattle.demands.proofs.Calls.{call-reached}
+use Rattle.demands.proofs.TouchedRegisters as Registers
+use Rattle.demands.proofs.TouchedRegisters.{Touches, touched-register}
+
+-- what is done has number 0
+done-number : (o : Outcome) → isDone o ≡ true → Outcome.numberOf o ≡ 0
+unfolding Outcome.numberOf
+done-number Done done = refl
+done-number UnknownCommand done = cc
+done-number WrongData done = cc
+done-number PastEnd done = cc
+done-number Unwritable done = cc
+done-number WrongValue done = cc
+done-number ReplyTooLong done = cc
+
+-- an ask that hands over this command with this data, and is done
+record Handing (command : ℕ) (content : List ℕ) (r : Reporting) : Type 0 where
+  handed : reportHanded (r .reported .handed) (r .reported .payload) ≡ acceptedFrame command content ∷ []
+  done : reportNumber (r .reported .handed) ≡ 0
+
+module _ (panel : Panel) (words room : List ℕ) (command count : ℕ) where
+  abbrev content : List ℕ
+  content = take count (asked (panel .reader) .payload)
+
+  abbrev frameHanded : Reporting
+  frameHanded = handing (asked (panel .reader)) (line.Accepted command count) panel words room
+
+  frame-done : (known : ℕ) → command ≡ known → isDone (outcome (panel .setup .pages) (length words) (checkingOf (panel .setup)) known content) ≡ true
+      → Handing known content frameHanded
+  unfolding handing accepting reportHanded reportNumber
+  frame-done known is done =
+      let setup = panel .setup in
+      let answer = acknowledged setup command true room in
+      record {
+        handed = ap (λ (c : ℕ). acceptedFrame c content ∷ []) is;
+        done =
+            ap Outcome.numberOf
+            (performs-outcome (panel .registers) (setup .pages) (checkingOf setup) (headerOf setup) command content words (drop (answer .count) (answer .room)))
+            ∙ ap (λ (c : ℕ). Outcome.numberOf (outcome (setup .pages) (length words) (checkingOf setup) c content)) is
+            ∙ done-number (outcome (setup .pages) (length words) (checkingOf setup) known content) done;
+      }
+
+-- a word over an ask
+record StoredWord (k : ℕ) (r : Reporting) : Type 0 where
+  content : List ℕ
+  handing : Handing 0x82 content r
+  from : wordAt content 0 ≤ k
+  below : k < wordAt content 0 + length (wordsOf (drop 2 content))
+
+asked-word : (panel : Panel) (words room : List ℕ) (k : ℕ)
+    → (wordAtAddress (reporting panel words room .words) k ≡ wordAtAddress words k) ⊎ StoredWord k (reporting panel words room)
+unfolding handing accepting outcome
+asked-word panel words room k =
+    report-ways panel words room (λ r. (wordAtAddress (r .words) k ≡ wordAtAddress words k) ⊎ StoredWord k r) (λ h payload. inl refl) (λ command is. inl refl)
+    (λ command count is.
+    let setup = panel .setup in
+    let answer = acknowledged setup command true room in
+    let content = take count (asked (panel .reader) .payload) in
+    ⊎-elim inl
+    (λ named. inr (record {
+      content = content;
+      handing = frame-done panel words room command count 0x82 (named .writes) (named .done);
+      from = named .from;
+      below = named .below;
+    }))
+    (Command.word-named (panel .registers) (setup .pages) (checkingOf setup) (headerOf setup) content words (drop (answer .count) (answer .room)) command k))
+
+-- a word over a contact
+contacted-word : (now : Moment) (table : List ℕ) (x y k : ℕ)
+    → (wordAtAddress (contacting (now .panel) table (now .words) x y .words) k ≡ wordAtAddress (now .words) k) ⊎ NamesWord now k (contact table x y)
+unfolding numberGiven contactNumber
+contacted-word now table x y k =
+    ⊎-elim inl (λ named. inr (by-touch (named .0) (named .1)))
+    (contact-ways (now .panel) table (now .words) x y
+    (λ c. (wordAtAddress (c .words) k ≡ wordAtAddress (now .words) k)
+    ⊎ ((contactNumber (c .contacted .answer) ≡ 0) × Touch.NamesWord (padOf (now .panel)) table x y k))
+    (λ answer. inl refl)
+    (λ good. ⊎-elim inl (λ named. inr (refl, named)) (Touch.word-named (padOf (now .panel)) table (now .words) x y k)))
+  where
+    by-touch : contactNumber (contacting (now .panel) table (now .words) x y .contacted .answer) ≡ 0 → Touch.NamesWord (padOf (now .panel)) table x y k
+        → NamesWord now k (contact table x y)
+    by-touch done (Touch.acts i r up is word) = by-acting table x y i r done up is word
+    by-touch done (Touch.drags r down is word) = by-dragging table x y r done down is word
+
+-- a word over words lent anew
+lent-word : (now : Moment) (words room : List ℕ) (k : ℕ)
+    → (wordAtAddress words k ≡ wordAtAddress (now .words) k) ⊎ NamesWord now k (lend words room)
+lent-word now words room k = go (eqb (wordAtAddress words k) (wordAtAddress (now .words) k)) refl
+  where
+    go : (b : Bool) → eqb (wordAtAddress words k) (wordAtAddress (now .words) k) ≡ b
+        → (wordAtAddress words k ≡ wordAtAddress (now .words) k) ⊎ NamesWord now k (lend words room)
+    go true is = inl (eqb-true (wordAtAddress words k) (wordAtAddress (now .words) k) is)
+    go false is = inr (by-lending words room (eqb-false (wordAtAddress words k) (wordAtAddress (now .words) k) is))
+
+-- a word over any call: it stays, or the call names it
+pub call-names-word : (now : Moment) (call : Call) (k : ℕ)
+    → (wordAtAddress (after now call .words) k ≡ wordAtAddress (now .words) k) ⊎ NamesWord now k call
+unfolding after numberGiven handedOver
+call-names-word now (lend words room) k = lent-word now words room k
+call-names-word now (byte b) k = inl refl
+call-names-word now (bytes bs) k = inl refl
+call-names-word now mark k = inl refl
+call-names-word now ask k =
+    ⊎-elim inl
+    (λ stored. inr (by-store (stored .content) (stored .handing .handed) (stored .handing .done) (stored .from) (stored .below)))
+    (asked-word (now .panel) (now .words) (now .room) k)
+call-names-word now (contact table x y) k = contacted-word now table x y k
+call-names-word now lift k = inl refl
+
+-- a word over any sequence of calls: it stays, or some call of the sequence names it
+pub word-stays-or-is-named : (now : Moment) (calls : List Call) (k : ℕ)
+    → (wordAtAddress (afterAll now calls .words) k ≡ wordAtAddress (now .words) k) ⊎ Some (λ then call. NamesWord then k call) now calls
+unfolding afterAll
+word-stays-or-is-named now [] k = inl refl
+word-stays-or-is-named now (call ∷ calls) k =
+    ⊎-elim
+    (λ same. ⊎-elim (λ before. inl (same ∙ before)) (λ named. inr (here now call calls named)) (call-names-word now call k))
+    (λ named. inr (later now call calls named))
+    (word-stays-or-is-named (after now call) calls k)
+
+-- a register over an ask
+record WrittenRegister (address : ℕ) (r : Reporting) : Type 0 where
+  content : List ℕ
+  handing : Handing 0x80 content r
+  from : byteAt content 0 ≤ address
+  below : address < byteAt content 0 + length (drop 1 content)
+
+asked-register : (panel : Panel) → length (panel .registers .bytes) ≡ 256 → (words room : List ℕ) (address : ℕ)
+    → (panelRegister (reporting panel words room .reported .panel) address ≡ panelRegister panel address) ⊎ WrittenRegister address (reporting panel words room)
+unfolding handing accepting outcome
+asked-register panel whole words room address =
+    report-ways panel words room (λ r. (panelRegister (r .reported .panel) address ≡ panelRegister panel address) ⊎ WrittenRegister address r)
+    (λ h payload. inl refl) (λ command is. inl refl)
+    (λ command count is.
+    let setup = panel .setup in
+    let answer = acknowledged setup command true room in
+    let content = take count (asked (panel .reader) .payload) in
+    ⊎-elim inl
+    (λ named. inr (record {
+      content = content;
+      handing = frame-done panel words room command count 0x80 (named .writes) (named .done);
+      from = named .from;
+      below = named .below;
+    }))
+    (Command.register-named (panel .registers) (setup .pages) (checkingOf setup) (headerOf setup) content words (drop (answer .count) (answer .room)) command whole address))
+
+-- a register over a contact
+contacted-register : (now : Moment) → length (now .panel .registers .bytes) ≡ 256 → (table : List ℕ) (x y address : ℕ)
+    → (panelRegister (contacting (now .panel) table (now .words) x y .contacted .panel) address ≡ panelRegister (now .panel) address)
+    ⊎ NamesRegister now address (contact table x y)
+unfolding numberGiven contactNumber
+contacted-register now whole table x y address =
+    ⊎-elim inl (λ named. inr (by-touch (named .0) (named .1)))
+    (contact-ways (now .panel) table (now .words) x y
+    (λ c. (panelRegister (c .contacted .panel) address ≡ panelRegister (now .panel) address)
+    ⊎ ((contactNumber (c .contacted .answer) ≡ 0) × Touches (padOf (now .panel)) table x y address))
+    (λ answer. inl refl)
+    (λ good. ⊎-elim inl (λ named. inr (refl, named)) (touched-register (padOf (now .panel)) whole table x y address (now .words))))
+  where
+    by-touch : contactNumber (contacting (now .panel) table (now .words) x y .contacted .answer) ≡ 0 → Touches (padOf (now .panel)) table x y address
+        → NamesRegister now address (contact table x y)
+    by-touch done (Registers.status is) = by-status table x y done is
+    by-touch done (Registers.place flag is) = by-place table x y done flag is
+    by-touch done (Registers.page i r up is next at) = by-page table x y i r done up is next at
+
+-- a register over a lift
+lifted-register : (now : Moment) → length (now .panel .registers .bytes) ≡ 256 → (address : ℕ)
+    → (panelRegister (lifting (now .panel) .panel) address ≡ panelRegister (now .panel) address) ⊎ NamesRegister now address lift
+unfolding numberGiven liftNumber
+lifted-register now whole address =
+    ⊎-elim inl (λ named. inr (by-lift (named .0) (named .1)))
+    (lift-ways (now .panel)
+    (λ l. (panelRegister (l .panel) address ≡ panelRegister (now .panel) address) ⊎ ((liftNumber (l .answer) ≡ 0) × (address ≡ 0x06)))
+    (inl refl) (inl refl) (status-or-stays (eqb address 0x06) refl))
+  where
+    status-or-stays : (b : Bool) → eqb address 0x06 ≡ b
+        → (registerAt (Contact.lifted (padOf (now .panel)) .registers) address ≡ panelRegister (now .panel) address) ⊎ (_≡_ {A = ℕ} 0 0 × (address ≡ 0x06))
+    status-or-stays true is = inr (refl, eqb-true address 0x06 is)
+    status-or-stays false is = inl (Touch.lift-only-status (padOf (now .panel)) whole address (eqb-false address 0x06 is))
+
+-- a register over any call: it stays, or the call names it
+pub call-names-register : (now : Moment) → length (now .panel .registers .bytes) ≡ 256 → (call : Call) (address : ℕ)
+    → (panelRegister (after now call .panel) address ≡ panelRegister (now .panel) address) ⊎ NamesRegister now address call
+unfolding after numberGiven handedOver fedByte fedMark fedBytes
+call-names-register now whole (lend words room) address = inl refl
+call-names-register now whole (byte b) address = inl refl
+call-names-register now whole (bytes bs) address = inl refl
+call-names-register now whole mark address = inl refl
+call-names-register now whole ask address =
+    ⊎-elim inl
+    (λ stored. inr (by-write (stored .content) (stored .handing .handed) (stored .handing .done) (stored .from) (stored .below)))
+    (asked-register (now .panel) whole (now .words) (now .room) address)
+call-names-register now whole (contact table x y) address = contacted-register now whole table x y address
+call-names-register now whole lift address = lifted-register now whole address
+
+-- a register over any sequence of calls, from a panel that is reached: it stays, or some call of the sequence names it
+pub register-stays-or-is-named : (now : Moment) → Reachable (now .panel) → (calls : List Call) → AllTyped calls → (address : ℕ)
+    → (panelRegister (afterAll now calls .panel) address ≡ panelRegister (now .panel) address) ⊎ Some (λ then call. NamesRegister then address call) now calls
+unfolding afterAll AllTyped
+register-stays-or-is-named now reached [] typed address = inl refl
+register-stays-or-is-named now reached (call ∷ calls) typed address =
+    ⊎-elim
+    (λ same.
+    ⊎-elim (λ before. inl (same ∙ before)) (λ named. inr (here now call calls named))
+    (call-names-register now (always-256-registers (now .panel) reached) call address))
+    (λ named. inr (later now call calls named))
+    (register-stays-or-is-named (after now call) (call-reached now call (typed .0) reached) calls (typed .1) address)

@@ -1,0 +1,88 @@
+-- "reports are then asked for one at a time until the answer is 'nothing'": the answer comes, and says that no report waits.
+use mathlib.Core.Path.{_≡_, sym, ap, _∙_}
+use mathlib.Core.Bool.{true}
+use Prim.Native.Nat.{ℕ, zero, suc, _≤_}
+use borrow.Author.Tests.{eq-eqb, le-leb}
+use lib.ListN.{length, replicate}
+use Rattle.frame.specs.Writer.{leastRoom}
+use Rattle.reading.specs.Moves.{Kept, afterReport}
+use Rattle.reading.specs.Run.{run, asks}
+use Rattle.reading.proofs.Moves.{handed-nothing}
+use Rattle.reading.proofs.Asking.{asks-end}
+use Rattle.line.specs.declared.Line as Declared
+use Rattle.line.specs.declared.Reader.{Reader}
+use Rattle.line.specs.State.{rulesFor, readerOf, keptOf}
+use Rattle.line.specs.Methods.{busy}
+use Rattle.line.specs.Reached.{Reached}
+use Rattle.line.proofs.Carried.{waiting-is, reached-report}
+use Rattle.words.specs.Words.{wordCount}
+use Rattle.panel.specs.declared.Panel.{Panel}
+use Rattle.panel.specs.declared.Handed.{Handed}
+use Rattle.panel.specs.Reporting.{lent, reporting}
+use Rattle.panel.specs.Sound.{lineOf, Sound}
+use Rattle.panel.specs.Reachable.{Reachable}
+use Rattle.panel.proofs.Invariant.{reachable-sound}
+use Rattle.demands.specs.Calls.{Moment, ask, after, afterAll, reportHanded, handedOver, Typed, AllTyped}
+use Rattle.demands.specs.Reports.{rulesOf, reportWaits, waitingReport}
+use Rattle.demands.specs.AsRead.{AlwaysUntilNothing}
+use Rattle.demands.proofs.Calls.{calls-reached, arises-reachable}
+use Rattle.demands.proofs.Waits.{busy-waits, sound-ask-hands}
+use Rattle.demands.proofs.Lent.{reported-words, reported-room}
+use Rattle.demands.proofs.Reading.{ask-moves}
+
+is-lent : (now : Moment) → length (now .words) ≡ 28672 → 265 ≤ length (now .room) → lent (length (now .words)) (length (now .room)) ≡ true
+unfolding lent wordCount leastRoom
+is-lent now whole large = rw (eq-eqb (length (now .words)) 28672 whole, le-leb 265 (length (now .room)) large)
+
+-- n asks of a panel are n asks of the reading
+asks-move : (line : Declared.Line) (n : ℕ) (now : Moment) (kept : Kept) → Reached line kept → now .panel .reader ≡ readerOf line kept
+    → length (now .words) ≡ 28672 → 265 ≤ length (now .room)
+    → (afterAll now (replicate n ask) .panel .reader ≡ readerOf line (run (rulesFor line) kept (asks n) .kept))
+    × Reached line (run (rulesFor line) kept (asks n) .kept)
+unfolding afterAll after run asks
+asks-move line zero now kept reached reads whole large = (reads, reached)
+asks-move line (suc n) now kept reached reads whole large =
+    let next = after now ask in
+    let same-words : length (next .words) ≡ 28672 = reported-words (now .panel) (now .words) (now .room) ∙ whole in
+    let same-room : length (next .room) ≡ length (now .room) = reported-room (now .panel) (now .words) (now .room) in
+    let same-large : 265 ≤ length (next .room) = rw same-room large in
+    asks-move line n next (afterReport (rulesFor line) kept) (reached-report line kept reached)
+    (ask-moves line (now .panel) kept reached (now .words) (now .room) reads (is-lent now whole large)) same-words same-large
+
+asks-typed : (n : ℕ) → AllTyped (replicate n ask)
+unfolding AllTyped Typed
+asks-typed zero = tt
+asks-typed (suc n) = (tt, asks-typed n)
+
+pub always-until-nothing : AlwaysUntilNothing
+unfolding handedOver reportHanded reportWaits waitingReport
+always-until-nothing now arises whole large =
+    record {
+      nothing-waits = λ nothing.
+          handed-nothing (rulesOf (now .panel)) (keptOf (now .panel .reader))
+          (sym (sound-ask-hands now sound whole large)
+          ∙ ap (λ (h : Handed). reportHanded h (reporting (now .panel) (now .words) (now .room) .reported .payload)) nothing);
+      comes =
+          sym (busy-waits last (reachable-sound last (calls-reached now (replicate 258 ask) (asks-typed 258) reachable)))
+          ∙ ap (λ (r : Reader). busy r) (moved .0)
+          ∙ waiting-is line (run (rulesFor line) kept (asks 258) .kept) (moved .1)
+          ∙ asks-end (rulesFor line) 258 kept (sound .reads .reached .few);
+    }
+  where
+    reachable : Reachable (now .panel)
+    reachable = arises-reachable now arises
+
+    sound : Sound (now .panel)
+    sound = reachable-sound (now .panel) reachable
+
+    line : Declared.Line
+    line = lineOf (now .panel .setup)
+
+    kept : Kept
+    kept = sound .reads .kept
+
+    last : Panel
+    last = afterAll now (replicate 258 ask) .panel
+
+    moved : (last .reader ≡ readerOf line (run (rulesFor line) kept (asks 258) .kept)) × Reached line (run (rulesFor line) kept (asks 258) .kept)
+    moved = asks-move line 258 now kept (sound .reads .reached) (sound .reads .is) whole large

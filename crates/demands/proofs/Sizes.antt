@@ -1,0 +1,118 @@
+-- "There are 256 register bytes and 28,672 variable words, .. lent by the caller as 16-bit numbers": whatever calls come, every register stays a byte and
+-- every word a 16-bit number.
+use mathlib.Core.Path.{_≡_, refl}
+use mathlib.Core.Bool.{Bool, true, false, cond, not}
+use mathlib.Core.List.{List}
+use Prim.Native.Nat.{ℕ, _<_}
+use native.Mathlib.Omega.{arith}
+use lib.ListN.{take, drop}
+use Rattle.wire.specs.Bytes.{Bytes}
+use Rattle.registers.specs.Table.{registerAt}
+use Rattle.words.specs.Words.{wordAtAddress}
+use Rattle.contact.specs.Contact.{lifted}
+use Rattle.touch.specs.declared.Setup.{Setup}
+use Rattle.touch.specs.declared.Verdict.{Verdict}
+use Rattle.touch.specs.declared.Verdict.the-variants.{Good, NotRecords, Wrong}
+use Rattle.touch.specs.Setup.{checkingOf, acknowledgingOf, goodSetup}
+use Rattle.touch.specs.Judge.{judged}
+use Rattle.line.specs.Methods.{asked}
+use Rattle.line.proofs.Truths.{never}
+use Rattle.panel.specs.declared.Panel.{Panel}
+use Rattle.panel.specs.declared.StartAnswer.the-variants as start
+use Rattle.panel.specs.State as State
+use Rattle.panel.specs.State.{headerOf, panelRegister}
+use Rattle.panel.specs.Start.{refuses, newPanel, startJudged, started}
+use Rattle.panel.specs.Inputs.{fedByte, fedMark, fedBytes}
+use Rattle.panel.specs.Reporting.{acknowledged, accepting, handing}
+use Rattle.panel.specs.Sound.{Sound}
+use Rattle.panel.proofs.Ways.{contact-ways, lift-ways, report-ways}
+use Rattle.panel.proofs.Invariant.{reachable-sound}
+use Rattle.demands.specs.Calls.{Moment, Call, lend, byte, bytes, mark, ask, contact, lift, after, Halfwords, Typed, Arises, from-start, by-call}
+use Rattle.demands.proofs.Calls.{arises-reachable}
+use Rattle.demands.proofs.Contents.{payload-bytes}
+use Rattle.demands.proofs.Below.{byte-some, below-take}
+use Rattle.demands.proofs.Storing.{start-bytes, status-bytes, touched-bytes, touched-words, performed-bytes, performed-words}
+
+-- over calls
+record Sized (now : Moment) : Type 0 where
+  registers : Bytes (now .panel .registers .bytes)
+  words : Halfwords (now .words)
+
+asked-sized : (now : Moment) → Sound (now .panel) → Sized now → Sized (after now ask)
+unfolding after handing accepting
+asked-sized now sound sized =
+    let both =
+    report-ways panel (now .words) (now .room) (λ r. Bytes (r .reported .panel .registers .bytes) × Halfwords (r .words))
+    (λ h payload. (sized .registers, sized .words)) (λ command is. (sized .registers, sized .words))
+    (λ command count is.
+    let setup = panel .setup in
+    let answer = acknowledged setup command true (now .room) in
+    let content = take count (asked (panel .reader) .payload) in
+    let part = drop (answer .count) (answer .room) in
+    let are = below-take 256 byte-some count (asked (panel .reader) .payload) (payload-bytes panel sound) in (
+      performed-bytes (panel .registers) (setup .pages) (checkingOf setup) (headerOf setup) command content (now .words) part are (sized .registers),
+      performed-words (panel .registers) (setup .pages) (checkingOf setup) (headerOf setup) command content (now .words) part are (sized .words),
+    )) in
+    record { registers = both .0; words = both .1 }
+  where
+    panel : Panel
+    panel = now .panel
+
+contacted-sized : (now : Moment) (table : List ℕ) (x y : ℕ) → Bytes table → x < 65536 → y < 65536 → Sized now → Sized (after now (contact table x y))
+unfolding after
+contacted-sized now table x y are in-x in-y sized =
+    let both =
+    contact-ways (now .panel) table (now .words) x y (λ c. Bytes (c .contacted .panel .registers .bytes) × Halfwords (c .words))
+    (λ answer. (sized .registers, sized .words))
+    (λ good. (
+      touched-bytes (State.padOf (now .panel)) table (now .words) x y (sized .registers) are in-x in-y,
+      touched-words (State.padOf (now .panel)) table (now .words) x y (sized .registers) are in-x in-y (sized .words),
+    )) in
+    record { registers = both .0; words = both .1 }
+
+lifted-sized : (now : Moment) → Sized now → Sized (after now lift)
+unfolding after lifted
+lifted-sized now sized =
+    record {
+      registers = lift-ways (now .panel) (λ l. Bytes (l .panel .registers .bytes)) (sized .registers) (sized .registers)
+          (status-bytes (now .panel .registers) 0x02 (sized .registers) (omega arith));
+      words = sized .words;
+    }
+
+call-sized : (now : Moment) → Sound (now .panel) → (call : Call) → Typed call → Sized now → Sized (after now call)
+unfolding after Typed fedByte fedBytes fedMark
+call-sized now sound (lend words room) typed sized = record { registers = sized .registers; words = typed .0 }
+call-sized now sound (byte b) typed sized = record { registers = sized .registers; words = sized .words }
+call-sized now sound (bytes bs) typed sized = record { registers = sized .registers; words = sized .words }
+call-sized now sound mark typed sized = record { registers = sized .registers; words = sized .words }
+call-sized now sound ask typed sized = asked-sized now sound sized
+call-sized now sound (contact table x y) typed sized = contacted-sized now table x y (typed .0) (typed .1 .0) (typed .1 .1) sized
+call-sized now sound lift typed sized = lifted-sized now sized
+
+-- a start that is done gives a new panel
+pub started-new : (setup : Setup) (table : List ℕ) → started setup table .answer ≡ start.Started → started setup table .panel ≡ newPanel setup
+unfolding started startJudged
+started-new setup table = go (not (goodSetup setup)) (judged setup table)
+  where
+    go : (b : Bool) (v : Verdict) → cond b (refuses start.WrongSetup) (startJudged v setup) .answer ≡ start.Started
+        → cond b (refuses start.WrongSetup) (startJudged v setup) .panel ≡ newPanel setup
+    go true v is = never (cc)
+    go false Good is = refl
+    go false NotRecords is = never (cc)
+    go false (Wrong i) is = never (cc)
+
+sized : (now : Moment) → Arises now → Sized now
+unfolding newPanel
+sized _ (from-start setup table words room h1 h2 are is) =
+    let new = start-bytes (setup .h1) (setup .h2) (checkingOf setup) (acknowledgingOf setup) h1 h2 in
+    record { registers = λ i. rw (started-new setup table is) (new i); words = are }
+sized _ (by-call now call typed arises) = call-sized now (reachable-sound (now .panel) (arises-reachable now arises)) call typed (sized now arises)
+
+-- at every moment that arises
+pub registers-are-bytes : (now : Moment) → Arises now → (address : ℕ) → panelRegister (now .panel) address < 256
+unfolding registerAt
+registers-are-bytes now arises address = sized now arises .registers address
+
+pub words-are-16-bit : (now : Moment) → Arises now → (k : ℕ) → wordAtAddress (now .words) k < 65536
+unfolding wordAtAddress
+words-are-16-bit now arises k = sized now arises .words k

@@ -1,0 +1,266 @@
+-- What writes, contacts and a start store: bytes in registers, 16-bit numbers in words.
+use mathlib.Core.Path.{_≡_, refl}
+use mathlib.Core.Bool.{Bool, true, false, cond}
+use mathlib.Core.List.{List, [], _∷_, _++_}
+use Prim.Native.Nat.{ℕ, zero, suc, _+_, _*_, _<_}
+use native.Mathlib.Nat.{mod-lt}
+use native.Mathlib.Omega.{arith}
+use borrow.Author.Tests.{eqb-true}
+use lib.Dec.{eqb, leb}
+use lib.ListN.{length, getD, set, take, drop, replicate}
+use lib.IntN.{ℤ, pos, negsuc}
+use Rattle.wire.specs.Bytes.{Bytes}
+use Rattle.wire.specs.ByteOrder.{word, byteAt, wordAt, highByte, lowByte, highFirst}
+use Rattle.wire.specs.Room.{laidAt}
+use Rattle.registers.specs.declared.Registers.{Registers}
+use Rattle.registers.specs.Table.{registerCount, holding, startRegisters, registerAt}
+use Rattle.registers.specs.Run.{written}
+use Rattle.registers.specs.Touched.{pageOf, withPage, isDown, withStatus, withPlace}
+use Rattle.words.specs.Words.{wordAtAddress, wordSet, wordsOf, wordsWritten}
+use Rattle.commands.specs.Outcome.{writeRegistersOutcome, writeWordsOutcome}
+use Rattle.commands.specs.Effect.{isDone}
+use Rattle.commands.specs.Perform.{performance}
+use Rattle.commands.proofs.Named.{registers-stay, registers-as-done, words-stay, words-as-done}
+use Rattle.stores.specs.Store.{inMode, signed, wordOf, valueIn, placed}
+use Rattle.stores.specs.Step.{stepped, fenced, stepStores}
+use Rattle.stores.specs.Slider.{roundedDown, slidTo, sliderStores}
+use Rattle.touch.specs.declared.Record.{Record}
+use Rattle.touch.specs.declared.Kind.{Kind}
+use Rattle.touch.specs.declared.Kind.the-variants.{Key, Step, Slider, Other}
+use Rattle.touch.specs.declared.StepFields.{StepFields}
+use Rattle.touch.specs.declared.SliderFields.{SliderFields}
+use Rattle.touch.specs.Record.{stepFields, sliderFields, kindOf, recordOf, isSlider, up, round, digitMode, along, firstEdge, lastEdge, noNext}
+use Rattle.touch.specs.declared.Found.{Found}
+use Rattle.touch.specs.declared.Found.the-variants.{Nothing, At}
+use Rattle.touch.specs.Find.{found}
+use Rattle.touch.proofs.Tables.{found-stands}
+use Rattle.contact.specs.declared.Catch.{Catch}
+use Rattle.contact.specs.declared.Catch.the-variants.{Free, Caught}
+use Rattle.contact.specs.declared.Pad.{Pad}
+use Rattle.contact.specs.Contact.{padOf, showing, catching, acting, pressed, dragging, kept, touched}
+use Rattle.demands.specs.Calls.{Halfwords}
+use Rattle.demands.proofs.Below.{byte-some, word-some, below-take, below-drop, below-append, below-set, below-laid, below-zeros}
+use Rattle.touch.specs.Act.{actedBy, actedOf, draggedOf}
+use Rattle.touch.specs.Table.{recordAt}
+
+-- the registers of a start
+pub start-bytes : (h1 h2 : ℕ) (checking acknowledging : Bool) → h1 < 256 → h2 < 256 → Bytes (startRegisters h1 h2 checking acknowledging .bytes)
+unfolding startRegisters
+start-bytes h1 h2 checking acknowledging one two =
+    let zeros : List ℕ = replicate 256 0 in
+    let version = set zeros 0x00 0x10 in
+    let light = set version 0x01 0x3F in
+    let enable = set light 0x0B 0xFF in
+    let checks = set enable 0x12 (cond checking 0x10 0x00) in
+    let first = set checks 0x13 h1 in
+    let second = set first 0x1A h2 in
+    let a = sets zeros 0x00 0x10 (below-zeros 256 byte-some 256) (omega arith) in
+    let b = sets version 0x01 0x3F a (omega arith) in
+    let c = sets light 0x0B 0xFF b (omega arith) in
+    let d = sets enable 0x12 (cond checking 0x10 0x00) c (either checking 0x10 (omega arith)) in
+    let e = sets checks 0x13 h1 d one in
+    let f = sets first 0x1A h2 e two in
+    sets second 0x1C (cond acknowledging 0x08 0x00) f (either acknowledging 0x08 (omega arith))
+  where
+    sets : (xs : List ℕ) (k v : ℕ) → Bytes xs → v < 256 → Bytes (set xs k v)
+    sets = below-set 256 byte-some
+
+    either : (b : Bool) (v : ℕ) → v < 256 → cond b v 0x00 < 256
+    either true v is = is
+    either false v is = omega arith
+
+-- what a write, a contact and a lift set
+written-bytes : (registers : Registers) (address : ℕ) (run : List ℕ) → Bytes (registers .bytes) → Bytes run → Bytes (written registers address run .bytes)
+unfolding written
+written-bytes registers address run are new = go (leb (address + length run) registerCount)
+  where
+    go : (b : Bool) → Bytes (cond b (holding (laidAt address run (registers .bytes))) registers .bytes)
+    go true = below-laid 256 byte-some address run (registers .bytes) new are
+    go false = are
+
+high-bytes : (w : ℕ) → w < 65536 → Bytes (highFirst w)
+high-bytes w is zero = omega arith
+high-bytes w is (suc zero) = omega arith
+high-bytes w is (suc (suc i)) = omega arith
+
+pub status-bytes : (registers : Registers) (status : ℕ) → Bytes (registers .bytes) → status < 256 → Bytes (withStatus registers status .bytes)
+unfolding withStatus
+status-bytes registers status are is = below-set 256 byte-some (registers .bytes) 0x06 status are is
+
+place-bytes : (registers : Registers) (x y : ℕ) → Bytes (registers .bytes) → x < 65536 → y < 65536 → Bytes (withPlace registers x y .bytes)
+unfolding withPlace
+place-bytes registers x y are in-x in-y = go (eqb (registerAt registers 0x05) 0x5A)
+  where
+    go : (b : Bool) → Bytes (cond b registers (holding (laidAt 0x07 (highFirst x ++ highFirst y) (set (registers .bytes) 0x05 0x5A))) .bytes)
+    go true = are
+    go false =
+        below-laid 256 byte-some 0x07 (highFirst x ++ highFirst y) (set (registers .bytes) 0x05 0x5A)
+        (below-append 256 byte-some (highFirst x) (highFirst y) (high-bytes x in-x) (high-bytes y in-y))
+        (below-set 256 byte-some (registers .bytes) 0x05 0x5A are (omega arith))
+
+page-bytes : (registers : Registers) (page : ℕ) → Bytes (registers .bytes) → page < 65536 → Bytes (withPage registers page .bytes)
+unfolding withPage
+page-bytes registers page are is = below-laid 256 byte-some 0x03 (highFirst page) (registers .bytes) (high-bytes page is) are
+
+-- the records of a table of bytes
+pub word-below : (bytes : List ℕ) → Bytes bytes → (at : ℕ) → wordAt bytes at < 65536
+word-below bytes are at = omega (arith, are at, are (at + 1))
+
+module _ (table : List ℕ) (are : Bytes table) (i : ℕ) where
+  pub record-bytes : Bytes (take 32 (drop (i * 32) table))
+  record-bytes = below-take 256 byte-some 32 (drop (i * 32) table) (below-drop 256 byte-some (i * 32) table are)
+
+  next-below : recordAt table i .next < 65536
+  unfolding recordOf
+  next-below = word-below (take 32 (drop (i * 32) table)) record-bytes 0x0A
+
+-- what a record stores: a step and a slider always a word, a key its code
+wordOf-below : (z : ℤ) → wordOf z < 65536
+unfolding wordOf
+wordOf-below (pos n) = mod-lt n word-some
+wordOf-below (negsuc n) = omega arith
+
+placed-below : (mode old new : ℕ) → old < 65536 → new < 65536 → placed mode old new < 65536
+unfolding inMode
+placed-below mode old new is-old is-new = go (eqb mode 0) (eqb mode 1)
+  where
+    go : (a b : Bool) → cond a new (cond b (word (lowByte new) (lowByte old)) (word (highByte old) (lowByte new))) < 65536
+    go true b = is-new
+    go false true = omega arith
+    go false false = omega arith
+
+step-below : (r : Record) (f : StepFields) (old : ℕ) → old < 65536 → (x y : ℕ) → actedBy (Step f) r old x y < 65536
+unfolding stepStores
+step-below r f old is x y =
+    let t = fenced (up f) (round f) (signed (f .least)) (signed (f .greatest)) (stepped (up f) (valueIn (r .mode) old) (f .step)) in
+    placed-below (r .mode) old (wordOf t) is (wordOf-below t)
+
+slider-below : (r : Record) (f : SliderFields) (old : ℕ) → old < 65536 → (x y : ℕ) → actedBy (Slider f) r old x y < 65536
+unfolding sliderStores
+slider-below r f old is x y =
+    let t = slidTo roundedDown (signed (f .begin)) (signed (f .end)) (firstEdge (r .mode) (r .area)) (lastEdge (r .mode) (r .area)) (along (r .mode) x y) in
+    placed-below (digitMode (r .mode)) old (wordOf t) is (wordOf-below t)
+
+-- a record of a table of bytes
+acted-below : (table : List ℕ) → Bytes table → (i old : ℕ) → old < 65536 → (x y : ℕ) → actedOf (recordAt table i) old x y < 65536
+unfolding actedOf recordOf kindOf
+acted-below table are i old is x y = go (eqb (wordAt bytes 0x0E) 0xFE05) (eqb (wordAt bytes 0x0E) 0xFE02) (eqb (wordAt bytes 0x0E) 0xFE03)
+  where
+    bytes : List ℕ
+    bytes = take 32 (drop (i * 32) table)
+
+    go : (a b c : Bool)
+        → actedBy (cond a (Key (wordAt bytes 0x14)) (cond b (Step (stepFields bytes)) (cond c (Slider (sliderFields bytes)) Other))) (recordAt table i) old x y < 65536
+    go true b c = placed-below (recordAt table i .mode) old (wordAt bytes 0x14) is (word-below bytes (record-bytes table are i) 0x14)
+    go false true c = step-below (recordAt table i) (stepFields bytes) old is x y
+    go false false true = slider-below (recordAt table i) (sliderFields bytes) old is x y
+    go false false false = is
+
+-- a caught record: only a slider stores
+dragged-below : (r : Record) (old : ℕ) → old < 65536 → (x y : ℕ) → draggedOf r old x y < 65536
+unfolding draggedOf actedOf
+dragged-below r old is x y = go (r .kind)
+  where
+    go : (k : Kind) → cond (isSlider k) (actedBy k r old x y) old < 65536
+    go (Key code) = is
+    go (Step f) = is
+    go (Slider f) = slider-below r f old is x y
+    go Other = is
+
+-- a contact that is done, with a table of bytes
+module _ (pad : Pad) (table words : List ℕ) (x y : ℕ) (are : Bytes (pad .registers .bytes)) (table-are : Bytes table) (in-x : x < 65536) (in-y : y < 65536) where
+  marked-bytes : (status : ℕ) → status < 256 → Bytes (withPlace (withStatus (pad .registers) status) x y .bytes)
+  marked-bytes status is = place-bytes (withStatus (pad .registers) status) x y (status-bytes (pad .registers) status are is) in-x in-y
+
+  pub touched-bytes : Bytes (touched pad table words x y .pad .registers .bytes)
+  unfolding touched kept pressed acting showing
+  touched-bytes = go (isDown (pad .registers))
+    where
+      now : Registers
+      now = withPlace (withStatus (pad .registers) 0x01) x y
+
+      shown : (r : Record) (catch : Catch) → r .next < 65536 → (b : Bool)
+          → Bytes (cond b (padOf now catch) (padOf (withPage now (r .next)) Free) .registers .bytes)
+      shown r catch next true = marked-bytes 0x01 (omega arith)
+      shown r catch next false = page-bytes now (r .next) (marked-bytes 0x01 (omega arith)) next
+
+      behind : (f : Found) → found table (pageOf (pad .registers)) x y ≡ f → Bytes (acting f now (pad .catch) words x y .pad .registers .bytes)
+      behind Nothing is = marked-bytes 0x01 (omega arith)
+      behind (At i r) is =
+          let same = found-stands table (pageOf (pad .registers)) x y i r is .0 in
+          shown r (catching r (pad .catch)) (rw same (next-below table table-are i)) (noNext r)
+
+      go : (b : Bool) → Bytes (cond b (kept pad words x y) (pressed pad table words x y) .pad .registers .bytes)
+      go true = marked-bytes 0x03 (omega arith)
+      go false = behind (found table (pageOf (pad .registers)) x y) refl
+
+  pub touched-words : Halfwords words → Halfwords (touched pad table words x y .words)
+  unfolding touched kept dragging pressed acting wordSet wordAtAddress
+  touched-words old = go (isDown (pad .registers))
+    where
+      now : Registers
+      now = withPlace (withStatus (pad .registers) 0x01) x y
+
+      behind : (f : Found) → found table (pageOf (pad .registers)) x y ≡ f → Halfwords (acting f now (pad .catch) words x y .words)
+      behind Nothing is = old
+      behind (At i r) is =
+          let same = found-stands table (pageOf (pad .registers)) x y i r is .0 in
+          below-set 65536 word-some words (r .word) (actedOf r (getD words (r .word) 0) x y) old
+          (rw same (acted-below table table-are i (getD words (recordAt table i .word) 0) (old (recordAt table i .word)) x y))
+
+      drag : (c : Catch) → Halfwords (dragging c words x y)
+      drag Free = old
+      drag (Caught r) =
+          below-set 65536 word-some words (r .word) (draggedOf r (getD words (r .word) 0) x y) old
+          (dragged-below r (getD words (r .word) 0) (old (r .word)) x y)
+
+      go : (b : Bool) → Halfwords (cond b (kept pad words x y) (pressed pad table words x y) .words)
+      go true = drag (pad .catch)
+      go false = behind (found table (pageOf (pad .registers)) x y) refl
+
+-- a command with data of bytes
+wordsOf-below : (bytes : List ℕ) → Bytes bytes → Halfwords (wordsOf bytes)
+unfolding wordsOf
+wordsOf-below [] are i = word-some
+wordsOf-below (high ∷ []) are i = word-some
+wordsOf-below (high ∷ low ∷ bytes) are zero = omega (arith, are 0, are 1)
+wordsOf-below (high ∷ low ∷ bytes) are (suc i) = wordsOf-below bytes (λ j. are (suc (suc j))) i
+
+stored-words : (words : List ℕ) (address : ℕ) (bytes : List ℕ) → Halfwords words → Bytes bytes → Halfwords (wordsWritten words address bytes)
+unfolding wordsWritten
+stored-words words address bytes old are = go (leb (address + length (wordsOf bytes)) (length words))
+  where
+    go : (b : Bool) → Halfwords (cond b (laidAt address (wordsOf bytes) words) words)
+    go true = below-laid 65536 word-some address (wordsOf bytes) words (wordsOf-below bytes are) old
+    go false = old
+
+module _ (registers : Registers) (pages : ℕ) (checking : Bool) (header : List ℕ) (command : ℕ) (content words room : List ℕ) (are : Bytes content) where
+  pub performed-bytes : Bytes (registers .bytes) → Bytes (performance registers pages checking header command content words room .performed .registers .bytes)
+  performed-bytes old = go (eqb command 0x80) refl (isDone (writeRegistersOutcome pages content)) refl
+    where
+      after : Registers
+      after = performance registers pages checking header command content words room .performed .registers
+
+      go : (a : Bool) → eqb command 0x80 ≡ a → (b : Bool) → isDone (writeRegistersOutcome pages content) ≡ b → Bytes (after .bytes)
+      go false other b done = rw (registers-stay registers pages checking header content words room command other) old
+      go true is b done =
+          rw (registers-as-done registers pages checking header content words room command b (eqb-true command 0x80 is) done)
+          (either b)
+        where
+          either : (b : Bool) → Bytes (cond b (written registers (byteAt content 0) (drop 1 content)) registers .bytes)
+          either true = written-bytes registers (byteAt content 0) (drop 1 content) old (below-drop 256 byte-some 1 content are)
+          either false = old
+
+  pub performed-words : Halfwords words → Halfwords (performance registers pages checking header command content words room .words)
+  performed-words old = go (eqb command 0x82) refl (isDone (writeWordsOutcome (length words) content)) refl
+    where
+      go : (a : Bool) → eqb command 0x82 ≡ a → (b : Bool) → isDone (writeWordsOutcome (length words) content) ≡ b
+          → Halfwords (performance registers pages checking header command content words room .words)
+      go false other b done = rw (words-stay registers pages checking header content words room command other) old
+      go true is b done =
+          rw (words-as-done registers pages checking header content words room command b (eqb-true command 0x82 is) done)
+          (either b)
+        where
+          either : (b : Bool) → Halfwords (cond b (wordsWritten words (wordAt content 0) (drop 2 content)) words)
+          either true = stored-words words (wordAt content 0) (drop 2 content) old (below-drop 256 byte-some 2 content are)
+          either false = old

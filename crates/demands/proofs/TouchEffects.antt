@@ -1,0 +1,222 @@
+-- What a contact and a lift that are done leave, and what the record that acts or is caught stores.
+use mathlib.Core.Path.{_≡_, refl, sym, ap, _∙_}
+use mathlib.Core.Bool.{Bool, true, false, cond, not, _&&_}
+use mathlib.Core.List.{List}
+use Prim.Native.Nat.{ℕ, _*_, _<_}
+use native.Mathlib.Omega.{arith}
+use borrow.Author.Tests.{eqb-true}
+use lib.Dec.{eqb, ltb}
+use lib.ListN.{length, take, drop}
+use lib.Seq.{getD-set-same}
+use Rattle.wire.specs.Bytes.{Bytes}
+use Rattle.wire.specs.ByteOrder.{wordAt}
+use Rattle.line.specs.Methods.{busy}
+use Rattle.line.proofs.Truths.{never}
+use Rattle.registers.specs.Touched.{isDown, isTouchOff, pageOf, withStatus, withPlace}
+use Rattle.stores.specs.Store.{signed, valueIn, keyStores}
+use Rattle.stores.specs.Step.{stepped, fenced}
+use Rattle.stores.specs.Slider.{roundedDown, slidTo}
+use Rattle.words.specs.Words.{wordCount, wordAtAddress, wordSet}
+use Rattle.touch.specs.declared.Verdict.{Verdict}
+use Rattle.touch.specs.declared.Verdict.the-variants.{Good, NotRecords, Wrong}
+use Rattle.touch.specs.declared.Record.{Record}
+use Rattle.touch.specs.declared.Kind.the-variants.{Key, Step, Slider, Other}
+use Rattle.touch.specs.declared.StepFields.{StepFields}
+use Rattle.touch.specs.declared.SliderFields.{SliderFields}
+use Rattle.touch.specs.declared.Found.the-variants.{At}
+use Rattle.touch.specs.declared.Kind.{Kind}
+use Rattle.touch.specs.declared.Found.{Found}
+use Rattle.touch.specs.Record.{stepFields, sliderFields, kindOf, recordOf, up as stepsUp, round as goesRound, digitMode, along, firstEdge, lastEdge}
+use Rattle.touch.specs.Table.{recordAt}
+use Rattle.touch.specs.Find.{found}
+use Rattle.touch.specs.Act.{actedBy, actedOf, draggedOf}
+use Rattle.touch.proofs.Acts.{step-acts-as-printed, slider-acts-as-printed}
+use Rattle.touch.specs.Judge.{goodRecord, judged}
+use Rattle.touch.proofs.GoodFields.{good-word, good-kind}
+use Rattle.touch.proofs.Tables.{found-stands, found-good}
+use Rattle.contact.specs.declared.Catch.{Catch}
+use Rattle.contact.specs.declared.Catch.the-variants.{Caught}
+use Rattle.contact.specs.declared.Pad.{Pad}
+use Rattle.contact.specs.Contact as Contact
+use Rattle.contact.specs.Contact.{touched}
+use Rattle.panel.specs.declared.Panel.{Panel}
+use Rattle.panel.specs.declared.ContactAnswer.the-variants as contact-answer
+use Rattle.panel.specs.declared.LiftAnswer.the-variants as lift-answer
+use Rattle.panel.specs.Numbers.{contactNumber, liftNumber}
+use Rattle.panel.specs.State.{padOf, withPad}
+use Rattle.panel.specs.Contacts.{Contacting, contacts, contactOn, contactJudged, contacting, lifting}
+use Rattle.panel.proofs.Ways.{lifts}
+use Rattle.demands.specs.Calls.{Moment, contact, lift, withPanel, after, numberGiven}
+use Rattle.demands.specs.Demand2.{afterContact, afterLift}
+use Rattle.demands.proofs.Storing.{word-below, record-bytes}
+
+-- a contact that is done had all words, no report waiting, a good table, touch on and a point on the screen
+pub record Touched (panel : Panel) (table words : List ℕ) (x y : ℕ) : Type 0 where
+  pub whole : length words ≡ 28672
+  pub good : judged (panel .setup) table ≡ Good
+  pub leaves : contacting panel table words x y
+      ≡ contacts contact-answer.Done (withPad panel (touched (padOf panel) table words x y .pad)) (touched (padOf panel) table words x y .words)
+
+module _ (panel : Panel) (table words : List ℕ) (x y : ℕ) where
+  abbrev done : Contacting
+  done = contacts contact-answer.Done (withPad panel (touched (padOf panel) table words x y .pad)) (touched (padOf panel) table words x y .words)
+
+  on-done : contactNumber (contactOn panel table words x y .contacted .answer) ≡ 0 → contactOn panel table words x y ≡ done
+  unfolding contactOn contactNumber
+  on-done = go (isTouchOff (panel .registers)) (not (ltb x (panel .setup .width) && ltb y (panel .setup .height)))
+    where
+      go : (a b : Bool)
+          → contactNumber (cond a (contacts contact-answer.TouchOff panel words) (cond b (contacts contact-answer.OffScreen panel words) done) .contacted .answer) ≡ 0
+          → cond a (contacts contact-answer.TouchOff panel words) (cond b (contacts contact-answer.OffScreen panel words) done) ≡ done
+      go true b is = absurd (omega arith)
+      go false true is = absurd (omega arith)
+      go false false is = refl
+
+  pub contact-done : contactNumber (contacting panel table words x y .contacted .answer) ≡ 0 → Touched panel table words x y
+  unfolding contacting contactJudged contactNumber wordCount
+  contact-done = go (eqb (length words) 28672) refl (busy (panel .reader)) refl (judged (panel .setup) table) refl
+    where
+      judging : Verdict → Contacting
+      judging v = contactJudged v panel table words x y
+
+      go : (a : Bool) → eqb (length words) 28672 ≡ a → (b : Bool) → busy (panel .reader) ≡ b → (v : Verdict) → judged (panel .setup) table ≡ v
+          → contactNumber (cond (not a) (contacts contact-answer.NotLent panel words) (cond b (contacts contact-answer.Waits panel words) (judging v)) .contacted .answer) ≡ 0
+          → Touched panel table words x y
+      go false p b q v r is = absurd (omega arith)
+      go true p true q v r is = absurd (omega arith)
+      go true p false q NotRecords r is = absurd (omega arith)
+      go true p false q (Wrong i) r is = absurd (omega arith)
+      go true p false q Good r is =
+          record {
+            whole = eqb-true (length words) 28672 p;
+            good = r;
+            leaves = rw (p, q, r) (on-done is);
+          }
+
+-- "Contact while up: ..", "Contact while down: .."
+pub contact-leaves : (now : Moment) (table : List ℕ) (x y : ℕ) → numberGiven now (contact table x y) ≡ 0 → after now (contact table x y) ≡ afterContact now table x y
+unfolding numberGiven after afterContact
+contact-leaves now table x y is =
+    ap (λ (c : Contacting). record { panel = c .contacted .panel; words = c .words; room = now .room })
+    (contact-done (now .panel) table (now .words) x y is .leaves)
+
+-- "Lift: status 02, the catch is dropped."
+pub lift-leaves : (now : Moment) → numberGiven now lift ≡ 0 → after now lift ≡ afterLift now
+unfolding numberGiven after afterLift lifting liftNumber
+lift-leaves now is = go (busy (panel .reader)) (not (isDown (panel .registers))) is
+  where
+    panel : Panel
+    panel = now .panel
+
+    lifted : Panel
+    lifted = withPad panel (Contact.lifted (padOf panel))
+
+    go : (a b : Bool) → liftNumber (cond a (lifts lift-answer.Waits panel) (cond b (lifts lift-answer.IsUp panel) (lifts lift-answer.Done lifted)) .answer) ≡ 0
+        → withPanel now (cond a (lifts lift-answer.Waits panel) (cond b (lifts lift-answer.IsUp panel) (lifts lift-answer.Done lifted)) .panel) ≡ withPanel now lifted
+    go true b is = absurd (omega arith)
+    go false true is = absurd (omega arith)
+    go false false is = refl
+
+-- the fields of a record of a table of bytes are 16-bit numbers
+module _ (table : List ℕ) (are : Bytes table) (i : ℕ) where
+  abbrev bytes : List ℕ
+  bytes = take 32 (drop (i * 32) table)
+
+  field-below : (at : ℕ) → wordAt bytes at < 65536
+  field-below = word-below bytes (record-bytes table are i)
+
+  step-fields-fit : (f : StepFields) → recordAt table i .kind ≡ Step f → (f .least < 65536) × (f .greatest < 65536)
+  unfolding recordOf kindOf stepFields
+  step-fields-fit f = go (eqb (wordAt bytes 0x0E) 0xFE05) (eqb (wordAt bytes 0x0E) 0xFE02) (eqb (wordAt bytes 0x0E) 0xFE03)
+    where
+      go : (a b c : Bool) → cond a (Key (wordAt bytes 0x14)) (cond b (Step (stepFields bytes)) (cond c (Slider (sliderFields bytes)) Other)) ≡ Step f
+          → (f .least < 65536) × (f .greatest < 65536)
+      go true b c is = never (cc)
+      go false false true is = never (cc)
+      go false false false is = never (cc)
+      go false true c is =
+          let same : stepFields bytes ≡ f = cc in
+          let least = ap (λ (g : StepFields). g .least) same in
+          let greatest = ap (λ (g : StepFields). g .greatest) same in
+          (omega (arith, field-below 0x18), omega (arith, field-below 0x1A))
+
+  pub slider-fields-fit : (f : SliderFields) → recordAt table i .kind ≡ Slider f → (f .begin < 65536) × (f .end < 65536)
+  unfolding recordOf kindOf sliderFields
+  slider-fields-fit f = go (eqb (wordAt bytes 0x0E) 0xFE05) (eqb (wordAt bytes 0x0E) 0xFE02) (eqb (wordAt bytes 0x0E) 0xFE03)
+    where
+      go : (a b c : Bool) → cond a (Key (wordAt bytes 0x14)) (cond b (Step (stepFields bytes)) (cond c (Slider (sliderFields bytes)) Other)) ≡ Slider f
+          → (f .begin < 65536) × (f .end < 65536)
+      go true b c is = never (cc)
+      go false true c is = never (cc)
+      go false false false is = never (cc)
+      go false false true is =
+          let same : sliderFields bytes ≡ f = cc in
+          let begin = ap (λ (g : SliderFields). g .begin) same in
+          let end = ap (λ (g : SliderFields). g .end) same in
+          (omega (arith, field-below 0x1C), omega (arith, field-below 0x1E))
+
+-- the words that a record which acts, and a caught one, leave
+pressed-words : (pad : Pad) (table words : List ℕ) (x y i : ℕ) (r : Record) → isDown (pad .registers) ≡ false → found table (pageOf (pad .registers)) x y ≡ At i r
+    → touched pad table words x y .words ≡ wordSet words (r .word) (actedOf r (wordAtAddress words (r .word)) x y)
+unfolding touched Contact.pressed Contact.acting
+pressed-words pad table words x y i r up acts =
+    let now = withPlace (withStatus (pad .registers) 0x01) x y in
+    ap (λ (b : Bool). cond b (Contact.kept pad words x y) (Contact.pressed pad table words x y) .words) up
+    ∙ ap (λ (f : Found). Contact.acting f now (pad .catch) words x y .words) acts
+
+pub dragged-words : (pad : Pad) (table words : List ℕ) (x y : ℕ) (r : Record) → isDown (pad .registers) ≡ true → pad .catch ≡ Caught r
+    → touched pad table words x y .words ≡ wordSet words (r .word) (draggedOf r (wordAtAddress words (r .word)) x y)
+unfolding touched Contact.kept Contact.dragging
+dragged-words pad table words x y r down is =
+    ap (λ (b : Bool). cond b (Contact.kept pad words x y) (Contact.pressed pad table words x y) .words) down
+    ∙ ap (λ (c : Catch). Contact.dragging c words x y) is
+
+-- a word that was set
+pub word-set : (words : List ℕ) (address value : ℕ) → address < length words → wordAtAddress (wordSet words address value) address ≡ value
+unfolding wordSet wordAtAddress
+word-set words address value inside = getD-set-same words address value 0 inside
+
+-- "Contact while up: .. The first record of the current page holding the point acts"
+module _ (now : Moment) (table : List ℕ) (are : Bytes table) (x y : ℕ) (done : numberGiven now (contact table x y) ≡ 0)
+    (up : isDown (now .panel .registers) ≡ false) (i : ℕ) (r : Record) (acts : found table (pageOf (now .panel .registers)) x y ≡ At i r) where
+  acting-good : goodRecord (now .panel .setup) r ≡ true
+  unfolding numberGiven
+  acting-good =
+      found-good (now .panel .setup) table (pageOf (now .panel .registers)) x y i r (contact-done (now .panel) table (now .words) x y done .good) acts
+
+  pub acted-word : wordAtAddress (after now (contact table x y) .words) (r .word) ≡ actedOf r (wordAtAddress (now .words) (r .word)) x y
+  unfolding afterContact numberGiven
+  acted-word =
+      let small = good-word (now .panel .setup) r acting-good in
+      let whole = contact-done (now .panel) table (now .words) x y done .whole in
+      let inside : r .word < length (now .words) = omega arith in
+      ap (λ (m : Moment). wordAtAddress (m .words) (r .word)) (contact-leaves now table x y done)
+      ∙ ap (λ (l : List ℕ). wordAtAddress l (r .word)) (pressed-words (padOf (now .panel)) table (now .words) x y i r up acts)
+      ∙ word-set (now .words) (r .word) (actedOf r (wordAtAddress (now .words) (r .word)) x y) inside
+
+  same-record : r ≡ recordAt table i
+  same-record = found-stands table (pageOf (now .panel .registers)) x y i r acts .0
+
+  -- Key: "mode 0 whole word, 1 high byte, 2 low byte; 14 code"
+  pub key-stores : (code : ℕ) → r .kind ≡ Key code
+      → wordAtAddress (after now (contact table x y) .words) (r .word) ≡ keyStores (r .mode) (wordAtAddress (now .words) (r .word)) code
+  unfolding actedOf
+  key-stores code is = acted-word ∙ ap (λ (k : Kind). actedBy k r (wordAtAddress (now .words) (r .word)) x y) is
+
+  -- "Step: t is the value with the step added or taken, as whole numbers. ..": the value that the mode finds in the word
+  pub step-stores : (f : StepFields) → r .kind ≡ Step f
+      → valueIn (r .mode) (wordAtAddress (after now (contact table x y) .words) (r .word))
+      ≡ fenced (stepsUp f) (goesRound f) (signed (f .least)) (signed (f .greatest)) (stepped (stepsUp f) (valueIn (r .mode) (wordAtAddress (now .words) (r .word))) (f .step))
+  step-stores f is =
+      let fit = step-fields-fit table are i f (ap (λ (q : Record). q .kind) (sym same-record) ∙ is) in
+      ap (valueIn (r .mode)) acted-word
+      ∙ step-acts-as-printed r (wordAtAddress (now .words) (r .word)) x y (good-kind (now .panel .setup) r acting-good) f is (fit .0) (fit .1)
+
+  -- "Slider: with d the distance from the first edge and w the edge-to-edge distance, |end − begin|·d / w rounded down is moved from begin towards end."
+  pub slider-stores : (f : SliderFields) → r .kind ≡ Slider f
+      → valueIn (digitMode (r .mode)) (wordAtAddress (after now (contact table x y) .words) (r .word))
+      ≡ slidTo roundedDown (signed (f .begin)) (signed (f .end)) (firstEdge (r .mode) (r .area)) (lastEdge (r .mode) (r .area)) (along (r .mode) x y)
+  slider-stores f is =
+      let fit = slider-fields-fit table are i f (ap (λ (q : Record). q .kind) (sym same-record) ∙ is) in
+      ap (valueIn (digitMode (r .mode))) acted-word
+      ∙ slider-acts-as-printed r (wordAtAddress (now .words) (r .word)) x y (good-kind (now .panel .setup) r acting-good) f is (fit .0) (fit .1)

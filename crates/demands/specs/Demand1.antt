@@ -1,0 +1,183 @@
+-- Demand 1: "Every call takes any input and answers as document 01 lists, each number exactly under its printed condition and order."
+-- 01's table "Numbers given back" as data: for each call its numbers in the printed order, each with its printed condition. The theorems are in
+-- proofs/Demand1. That no call is ever "an undefined act or an unending one" has no theorem of its own: the checker takes no function that it
+-- has not proved to be safe and to end, on every input.
+use Prim.Native.Nat.{ℕ, _+_, _*_, _%_, _<_}
+use mathlib.Core.Path.{_≡_}
+use mathlib.Core.Bool.{Bool, true, false, cond, not, _&&_, _||_}
+use mathlib.Core.List.{List, [], _∷_, _++_, map}
+use lib.Dec.{eqb, ltb}
+use lib.ListN.{length, drop}
+use Rattle.wire.specs.Room.{over}
+use Rattle.wire.specs.ByteOrder.{byteAt, wordAt}
+use Rattle.frame.specs.Frame.{mostData}
+use Rattle.reading.specs.Place.{Report, badCheck, acceptedFrame}
+use Rattle.registers.specs.Run.{unwritableRun, wrongValue}
+use Rattle.registers.specs.Touched.{isDown, isTouchOff}
+use Rattle.words.specs.Words.{wordsOf}
+use Rattle.commands.specs.Outcome.{replyTooLong}
+use Rattle.touch.specs.declared.Setup.{Setup}
+use Rattle.touch.specs.declared.Record.{Record}
+use Rattle.touch.specs.Setup.{checkingOf, goodSetup}
+use Rattle.touch.specs.Table.{recordAt, recordsOf}
+use Rattle.touch.specs.Judge.{goodRecord}
+use Rattle.panel.specs.declared.Panel.{Panel}
+use Rattle.panel.specs.Inputs.{fedByte}
+use Rattle.demands.specs.Calls.{Moment, Call, lend, byte, bytes, mark, ask, contact, lift, after, afterAll, handedOver}
+use Rattle.demands.specs.Reports.{reportWaits, waitingReport, readBehind, acknowledgementOf}
+
+-- a number of the table and whether its condition holds
+pub record Condition : Type 0 where
+  pub number : ℕ
+  pub holds : Bool
+
+infix 20 _when_
+abbrev pub _when_ : ℕ → Bool → Condition
+n when holds = record { number = n; holds = holds }
+
+-- "The first number in order whose condition holds is given"; "0: done"
+unfoldable pub firstNumber : List Condition → ℕ
+firstNumber [] = 0
+firstNumber (c ∷ cs) = cond (c .holds) (c .number) (firstNumber cs)
+
+-- "Given exactly when": the number stands in its list under a condition that holds, and none before it does
+unfoldable pub noneHolds : List Condition → Bool
+noneHolds [] = true
+noneHolds (c ∷ cs) = not (c .holds) && noneHolds cs
+
+pub record GivenUnder (cs : List Condition) (n : ℕ) : Type 0 where
+  pub before : List Condition
+  pub condition : Condition
+  pub behind : List Condition
+  pub place : cs ≡ before ++ (condition ∷ behind)
+  pub number : condition .number ≡ n
+  pub holds : condition .holds ≡ true
+  pub none-before : noneHolds before ≡ true
+
+-- 1: "an input comes while a report waits"; of bytes one after the other, one of them does
+unfoldable pub oneComesWhileWaiting : Panel → List ℕ → Bool
+oneComesWhileWaiting panel [] = false
+oneComesWhileWaiting panel (b ∷ bs) = reportWaits panel || oneComesWhileWaiting (fedByte panel b .panel) bs
+
+-- 2 to 7: "Numbers 2 to 7 are answers beside a frame's report": conditions of the accepted frame that is handed over
+unfoldable pub ofFrame : List Report → (ℕ → List ℕ → Bool) → Bool
+ofFrame [] test = false
+ofFrame (badCheck command ∷ reports) test = false
+ofFrame (acceptedFrame command content ∷ reports) test = test command content
+
+-- 2: "command not 80 to 83"
+unfoldable pub notCommand : ℕ → List ℕ → Bool
+notCommand command content = ltb command 0x80 || ltb 0x83 command
+
+-- what is asked of the data of 0x80, 0x81, 0x82 and 0x83
+unfoldable pub byCommand : ℕ → (write read store fetch : Bool) → Bool
+byCommand command write read store fetch =
+    cond (eqb command 0x80) write (cond (eqb command 0x81) read (cond (eqb command 0x82) store (cond (eqb command 0x83) fetch false)))
+
+-- 3: "data too short, too long, or an odd word byte". "0x80, address (1), one or more bytes"; "0x81, address (1), count (1)"; "0x82, address (2),
+-- one or more words"; "0x83, address (2), count (1)"
+unfoldable pub wrongData : ℕ → List ℕ → Bool
+wrongData command content =
+    byCommand command (ltb (length content) 2) (not (eqb (length content) 2)) (ltb (length content) 4 || eqb (length content % 2) 1)
+    (not (eqb (length content) 3))
+
+-- 4: "address or its run passes the end". "Address plus count may not pass 256 (registers) or 28,672 (words)"
+unfoldable pub passesEnd : ℕ → List ℕ → Bool
+passesEnd command content =
+    byCommand command (ltb 256 (byteAt content 0 + length (drop 1 content))) (ltb 256 (byteAt content 0 + byteAt content 1))
+    (ltb 28672 (wordAt content 0 + length (wordsOf (drop 2 content)))) (ltb 28672 (wordAt content 0 + byteAt content 2))
+
+-- 5: "a write touches an unwritable register or half the page"
+unfoldable pub touchesUnwritable : ℕ → List ℕ → Bool
+touchesUnwritable command content = byCommand command (unwritableRun (byteAt content 0) (length (drop 1 content))) false false false
+
+-- 6: "backlight above 3F, or page not below P"
+unfoldable pub valueWrong : (pages : ℕ) → ℕ → List ℕ → Bool
+valueWrong pages command content = byCommand command (wrongValue (byteAt content 0) (drop 1 content) pages) false false false
+
+-- 7: "reply frame's L would pass 255". "Reply 0x81, address, count, bytes"; "Reply 0x83, address, count, words"
+unfoldable pub replyPasses : (checking : Bool) → ℕ → List ℕ → Bool
+replyPasses checking command content =
+    byCommand command false (replyTooLong checking (2 + byteAt content 1)) false (replyTooLong checking (3 + (byteAt content 2 + byteAt content 2)))
+
+-- 14: "words lent aren't 28,672, or reply .. room below 265"
+unfoldable pub wordsNotLent : List ℕ → Bool
+wordsNotLent words = not (eqb (length words) 28672)
+
+unfoldable pub roomTooSmall : List ℕ → Bool
+roomTooSmall room = ltb (length room) 265
+
+-- 12: "table longer than 128 records or not whole records". "records of 32 bytes"
+unfoldable pub notWholeRecords : List ℕ → Bool
+notWholeRecords table = ltb (128 * 32) (length table) || not (eqb (length table % 32) 0)
+
+-- 13: "a record is wrong"
+unfoldable pub oneWrong : Setup → List Record → Bool
+oneWrong setup [] = false
+oneWrong setup (r ∷ rs) = not (goodRecord setup r) || oneWrong setup rs
+
+-- 8: "contact off the screen"
+unfoldable pub offScreen : Setup → (x y : ℕ) → Bool
+offScreen setup x y = not (ltb x (setup .width) && ltb y (setup .height))
+
+-- "Order: asking for a report 14, then 2 to 7 in turn; byte or mark 1; contact 14, 1, 12, 13, 9, 8; lift 1, 10"
+unfoldable pub printed : Moment → Call → List Condition
+printed now (lend words room) = []
+printed now (byte b) = (1 when reportWaits (now .panel)) ∷ []
+printed now (bytes bs) = (1 when oneComesWhileWaiting (now .panel) bs) ∷ []
+printed now mark = (1 when reportWaits (now .panel)) ∷ []
+printed now ask =
+    let setup = now .panel .setup in
+    let report = waitingReport (now .panel) in
+    (14 when wordsNotLent (now .words) || roomTooSmall (now .room))
+    ∷ (2 when ofFrame report notCommand)
+    ∷ (3 when ofFrame report wrongData)
+    ∷ (4 when ofFrame report passesEnd)
+    ∷ (5 when ofFrame report touchesUnwritable)
+    ∷ (6 when ofFrame report (valueWrong (setup .pages)))
+    ∷ (7 when ofFrame report (replyPasses (checkingOf setup)))
+    ∷ []
+printed now (contact table x y) =
+    let setup = now .panel .setup in
+    (14 when wordsNotLent (now .words))
+    ∷ (1 when reportWaits (now .panel))
+    ∷ (12 when notWholeRecords table)
+    ∷ (13 when oneWrong setup (recordsOf table))
+    ∷ (9 when isTouchOff (now .panel .registers))
+    ∷ (8 when offScreen setup x y)
+    ∷ []
+printed now lift = (1 when reportWaits (now .panel)) ∷ (10 when not (isDown (now .panel .registers))) ∷ []
+
+-- ".. start 11, 12, 13"
+unfoldable pub printedStart : Setup → (table : List ℕ) → List Condition
+printedStart setup table =
+    (11 when not (goodSetup setup)) ∷ (12 when notWholeRecords table) ∷ (13 when oneWrong setup (recordsOf table)) ∷ []
+
+-- frame writer: "it refuses with 14, then 3". 3: "frame writer: data over the limit"
+unfoldable pub printedWriter : (checking : Bool) → (payload room : List ℕ) → List Condition
+printedWriter checking payload room = (14 when roomTooSmall room) ∷ (3 when ltb (mostData checking) (length payload)) ∷ []
+
+-- 13: "the first wrong one is named"
+pub record NamesFirstWrong (setup : Setup) (table : List ℕ) (i : ℕ) : Type 0 where
+  pub is-wrong : goodRecord setup (recordAt table i) ≡ false
+  pub first : (k : ℕ) → k < i → goodRecord setup (recordAt table k) ≡ true
+
+-- "A refused command is still handed over and acknowledged as printed": its report is, the reader goes on behind it, and the acknowledgement is laid over
+-- the room; "beyond that" panel, words and room are as they stood
+pub record OnlyHandedOver (now later : Moment) : Type 0 where
+  pub command : ℕ
+  pub content : List ℕ
+  pub handed-over : handedOver now ask ≡ acceptedFrame command content ∷ []
+  pub only-read-on : later .panel ≡ readBehind (now .panel)
+  pub words-stand : later .words ≡ now .words
+  pub only-acknowledged : later .room ≡ over (acknowledgementOf (now .panel .setup) command true) (now .room)
+
+-- what a refused call leaves
+pub data Leaves (now : Moment) : Call → Type 0 where
+  -- "beyond that a refusal leaves the panel, the variable words and the reply room as they stood"
+  as-it-stood : (call : Call) → after now call ≡ now → Leaves now call
+  -- numbers 2 to 7
+  only-handed-over : OnlyHandedOver now (after now ask) → Leaves now ask
+  -- of bytes one after the other, those in front were taken one by one, and the next comes while a report waits
+  as-those-taken : (bs taken : List ℕ) (b : ℕ) (rest : List ℕ) → bs ≡ taken ++ (b ∷ rest) → after now (bytes bs) ≡ afterAll now (map byte taken)
+      → reportWaits (after now (bytes bs) .panel) ≡ true → Leaves now (bytes bs)

@@ -1,0 +1,138 @@
+-- Demand 2: "Frames, check values, register and word access, and touch effects are those of the public SGUS and AGUS manuals as condensed in document
+-- 01. What our frame writer writes, our reader reads back as the same command and data. No word or register changes but those the command or touch
+-- rule names." The theorems are in proofs/Demand2.
+use Prim.Native.Nat.{ℕ, _+_, _≤_, _<_}
+use mathlib.Core.Path.{_≡_}
+use mathlib.Core.Logic.{_⊎_, _≢_}
+use mathlib.Core.Bool.{true, false, cond}
+use mathlib.Core.List.{List, [], _∷_, _++_}
+use lib.ListN.{length, drop}
+use Rattle.wire.specs.ByteOrder.{highFirst, byteAt, wordAt}
+use Rattle.wire.specs.Room.{over}
+use Rattle.frame.specs.Frame.{frameOf}
+use Rattle.reading.specs.Place.{acceptedFrame}
+use Rattle.reading.specs.Moves.{fresh}
+use Rattle.line.specs.State.{keptOf}
+use Rattle.registers.specs.declared.Registers.{Registers}
+use Rattle.registers.specs.Table.{registerAt, registerRun}
+use Rattle.registers.specs.Run.{covers, written}
+use Rattle.registers.specs.Touched.{pageOf, isDown}
+use Rattle.words.specs.Words.{wordAtAddress, wordsOf, bytesOf, wordRun, wordsWritten}
+use Rattle.touch.specs.declared.Record.{Record}
+use Rattle.touch.specs.declared.Found.the-variants.{At}
+use Rattle.touch.specs.Setup.{checkingOf}
+use Rattle.touch.specs.Record.{noNext}
+use Rattle.touch.specs.Find.{found}
+use Rattle.contact.specs.declared.Catch.{Catch}
+use Rattle.contact.specs.declared.Catch.the-variants.{Free, Caught}
+use Rattle.contact.specs.Contact as Contact
+use Rattle.panel.specs.State.{headerOf, padOf, withPad}
+use Rattle.demands.specs.Calls.{Moment, Call, lend, bytes, ask, contact, lift, after, numberGiven, handedOver}
+use Rattle.demands.specs.Reports.{readBehind, acknowledgementOf}
+
+-- the word is named by the call, which is done
+pub data NamesWord (now : Moment) (k : ℕ) : Call → Type 0 where
+  -- "0x82, address (2), one or more words: write variables": the word lies in the run
+  by-store : (content : List ℕ) → handedOver now ask ≡ acceptedFrame 0x82 content ∷ [] → numberGiven now ask ≡ 0
+      → wordAt content 0 ≤ k → k < wordAt content 0 + length (wordsOf (drop 2 content)) → NamesWord now k ask
+  -- "Contact while up: .. The first record of the current page holding the point acts"
+  by-acting : (table : List ℕ) (x y i : ℕ) (r : Record) → numberGiven now (contact table x y) ≡ 0 → isDown (now .panel .registers) ≡ false
+      → found table (pageOf (now .panel .registers)) x y ≡ At i r → k ≡ r .word → NamesWord now k (contact table x y)
+  -- "Contact while down: .. a caught slider stores ..; nothing else acts"
+  by-dragging : (table : List ℕ) (x y : ℕ) (r : Record) → numberGiven now (contact table x y) ≡ 0 → isDown (now .panel .registers) ≡ true
+      → now .panel .catch ≡ Caught r → k ≡ r .word → NamesWord now k (contact table x y)
+  -- the caller lends other words, with another number there
+  by-lending : (words room : List ℕ) → wordAtAddress words k ≢ wordAtAddress (now .words) k → NamesWord now k (lend words room)
+
+-- the register is named by the call, which is done
+pub data NamesRegister (now : Moment) (address : ℕ) : Call → Type 0 where
+  -- "0x80, address (1), one or more bytes: write registers": the register lies in the run
+  by-write : (content : List ℕ) → handedOver now ask ≡ acceptedFrame 0x80 content ∷ [] → numberGiven now ask ≡ 0
+      → byteAt content 0 ≤ address → address < byteAt content 0 + length (drop 1 content) → NamesRegister now address ask
+  -- "Contact while up: status 01"; "Contact while down: status 03"
+  by-status : (table : List ℕ) (x y : ℕ) → numberGiven now (contact table x y) ≡ 0 → address ≡ 0x06 → NamesRegister now address (contact table x y)
+  -- "if the flag isn't 5A, X and Y are stored and the flag becomes 5A": 05 and 07-0A
+  by-place : (table : List ℕ) (x y : ℕ) → numberGiven now (contact table x y) ≡ 0 → registerAt (now .panel .registers) 0x05 ≢ 0x5A
+      → (address ≡ 0x05) ⊎ ((0x07 ≤ address) × (address < 0x0B)) → NamesRegister now address (contact table x y)
+  -- "The first record of the current page holding the point acts, then its next page is shown.": 03-04
+  by-page : (table : List ℕ) (x y i : ℕ) (r : Record) → numberGiven now (contact table x y) ≡ 0 → isDown (now .panel .registers) ≡ false
+      → found table (pageOf (now .panel .registers)) x y ≡ At i r → noNext r ≡ false → (address ≡ 0x03) ⊎ (address ≡ 0x04)
+      → NamesRegister now address (contact table x y)
+  -- "Lift: status 02"
+  by-lift : numberGiven now lift ≡ 0 → address ≡ 0x06 → NamesRegister now address lift
+
+-- some call of a sequence does so
+pub data Some (P : Moment → Call → Type 0) : Moment → List Call → Type 0 where
+  here : (now : Moment) (call : Call) (calls : List Call) → P now call → Some P now (call ∷ calls)
+  later : (now : Moment) (call : Call) (calls : List Call) → Some P (after now call) calls → Some P now (call ∷ calls)
+
+-- "What our frame writer writes, our reader reads back as the same command and data": all its bytes are taken, asking then hands over one accepted frame
+-- with this command and data, and nothing is held or waiting
+pub record ReadsBack (now : Moment) (frame : List ℕ) (command : ℕ) (payload : List ℕ) : Type 0 where
+  pub taken : numberGiven now (bytes frame) ≡ 0
+  pub handed-over : handedOver (after now (bytes frame)) ask ≡ acceptedFrame command payload ∷ []
+  pub nothing-left : keptOf (after (after now (bytes frame)) ask .panel .reader) ≡ fresh
+
+-- "The reply follows the acknowledgement at once in the same room. .. bytes past the reported count stay.": the room with a reply of this command and data
+abbrev pub replied : Moment → (command : ℕ) → (payload : List ℕ) → List ℕ
+replied now command payload =
+    let setup = now .panel .setup in
+    over (acknowledgementOf setup command true ++ frameOf (checkingOf setup) (headerOf setup) command payload) (now .room)
+
+-- "An accepted frame takes effect when its report is handed over": what asking leaves, with the registers, catch, words and reply frame that the command
+-- makes. "The reply follows the acknowledgement at once in the same room. .. bytes past the reported count stay."
+unfoldable pub leaving : Moment → (command : ℕ) → Registers → Catch → (words reply : List ℕ) → Moment
+leaving now command registers catch words reply =
+    record {
+      panel = record { setup = now .panel .setup; registers = registers; catch = catch; reader = readBehind (now .panel) .reader };
+      words = words;
+      room = over (acknowledgementOf (now .panel .setup) command true ++ reply) (now .room);
+    }
+
+-- "0x80, address (1), one or more bytes: write registers." "Every page write by a command .. drops the catch."
+unfoldable pub afterWrite : Moment → List ℕ → Moment
+afterWrite now content =
+    let address = byteAt content 0 in
+    let run = drop 1 content in
+    leaving now 0x80 (written (now .panel .registers) address run) (cond (covers address (length run) 0x03) Free (now .panel .catch)) (now .words) []
+
+-- "0x81, address (1), count (1): read registers. Reply 0x81, address, count, bytes."
+unfoldable pub afterRead : Moment → List ℕ → Moment
+afterRead now content =
+    let setup = now .panel .setup in
+    let address = byteAt content 0 in
+    let count = byteAt content 1 in
+    leaving now 0x81 (now .panel .registers) (now .panel .catch) (now .words)
+    (frameOf (checkingOf setup) (headerOf setup) 0x81 (address ∷ count ∷ registerRun (now .panel .registers) address count))
+
+-- "0x82, address (2), one or more words: write variables."
+unfoldable pub afterStore : Moment → List ℕ → Moment
+afterStore now content =
+    leaving now 0x82 (now .panel .registers) (now .panel .catch) (wordsWritten (now .words) (wordAt content 0) (drop 2 content)) []
+
+-- "0x83, address (2), count (1): read variables. Reply 0x83, address, count, words."
+unfoldable pub afterFetch : Moment → List ℕ → Moment
+afterFetch now content =
+    let setup = now .panel .setup in
+    let address = wordAt content 0 in
+    let count = byteAt content 2 in
+    leaving now 0x83 (now .panel .registers) (now .panel .catch) (now .words)
+    (frameOf (checkingOf setup) (headerOf setup) 0x83 (highFirst address ++ (count ∷ bytesOf (wordRun (now .words) address count))))
+
+-- "each bad check by the same with 0x00"
+unfoldable pub afterBadCheck : Moment → (command : ℕ) → Moment
+afterBadCheck now command =
+    record {
+      panel = readBehind (now .panel);
+      words = now .words;
+      room = over (acknowledgementOf (now .panel .setup) command false) (now .room);
+    }
+
+-- "touch effects": what a contact and a lift leave, sentence by sentence in crate contact's specs/Contact
+unfoldable pub afterContact : Moment → (table : List ℕ) → (x y : ℕ) → Moment
+afterContact now table x y =
+    let done = Contact.touched (padOf (now .panel)) table (now .words) x y in
+    record { panel = withPad (now .panel) (done .pad); words = done .words; room = now .room }
+
+unfoldable pub afterLift : Moment → Moment
+afterLift now = record { panel = withPad (now .panel) (Contact.lifted (padOf (now .panel))); words = now .words; room = now .room }
