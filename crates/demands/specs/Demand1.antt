@@ -2,8 +2,9 @@
 -- 01's table "Numbers given back" as data: for each call its numbers in the printed order, each with its printed condition. The theorems are in
 -- proofs/Demand1. That no call is ever "an undefined act or an unending one" has no theorem of its own: the checker takes no function that it
 -- has not proved to be safe and to end, on every input.
-use Prim.Native.Nat.{ℕ, _+_, _*_, _%_, _<_}
+use Prim.Native.Nat.{ℕ, _+_, _*_, _%_, _≤_, _<_}
 use mathlib.Core.Path.{_≡_}
+use mathlib.Core.Logic.{_⊎_}
 use mathlib.Core.Bool.{Bool, true, false, cond, not, _&&_, _||_}
 use mathlib.Core.List.{List, [], _∷_, _++_, map}
 use lib.Dec.{eqb, ltb}
@@ -23,7 +24,7 @@ use Rattle.touch.specs.Table.{recordAt, recordsOf}
 use Rattle.touch.specs.Judge.{goodRecord}
 use Rattle.panel.specs.declared.Panel.{Panel}
 use Rattle.panel.specs.Inputs.{fedByte}
-use Rattle.demands.specs.Calls.{Moment, Call, lend, byte, bytes, mark, ask, contact, lift, after, afterAll, handedOver}
+use Rattle.demands.specs.Calls.{Moment, Call, lend, byte, bytes, mark, ask, contact, lift, after, afterAll, numberGiven, handedOver}
 use Rattle.demands.specs.Reports.{reportWaits, waitingReport, readBehind, acknowledgementOf}
 
 -- a number of the table and whether its condition holds
@@ -172,12 +173,12 @@ pub record OnlyHandedOver (now later : Moment) : Type 0 where
   pub words-stand : later .words ≡ now .words
   pub only-acknowledged : later .room ≡ over (acknowledgementOf (now .panel .setup) command true) (now .room)
 
--- what a refused call leaves
+-- what a refused call leaves, by its number
 pub data Leaves (now : Moment) : Call → Type 0 where
-  -- "beyond that a refusal leaves the panel, the variable words and the reply room as they stood"
-  as-it-stood : (call : Call) → after now call ≡ now → Leaves now call
-  -- numbers 2 to 7
-  only-handed-over : OnlyHandedOver now (after now ask) → Leaves now ask
+  -- 2 to 7: "answers beside a frame's report, which counts as handed over, and its acknowledgement is written"
+  only-handed-over : 2 ≤ numberGiven now ask → numberGiven now ask ≤ 7 → OnlyHandedOver now (after now ask) → Leaves now ask
+  -- "otherwise a refusal changes nothing"
+  as-it-stood : (call : Call) → (numberGiven now call ≡ 1) ⊎ (8 ≤ numberGiven now call) → after now call ≡ now → Leaves now call
   -- of bytes one after the other, those in front were taken one by one, and the next comes while a report waits
   as-those-taken : (bs taken : List ℕ) (b : ℕ) (rest : List ℕ) → bs ≡ taken ++ (b ∷ rest) → after now (bytes bs) ≡ afterAll now (map byte taken)
       → reportWaits (after now (bytes bs) .panel) ≡ true → Leaves now (bytes bs)
