@@ -70,7 +70,7 @@ ofFrame (acceptedFrame command content ∷ reports) test = test command content
 unfoldable pub notCommand : ℕ → List ℕ → Bool
 notCommand command content = ltb command 0x80 || ltb 0x83 command
 
--- what is asked of the data of 0x80, 0x81, 0x82 and 0x83
+-- a condition on 0x80, on 0x81, on 0x82 and on 0x83
 unfoldable pub byCommand : ℕ → (write read store fetch : Bool) → Bool
 byCommand command write read store fetch =
     cond (eqb command 0x80) write (cond (eqb command 0x81) read (cond (eqb command 0x82) store (cond (eqb command 0x83) fetch false)))
@@ -79,14 +79,20 @@ byCommand command write read store fetch =
 -- one or more words"; "0x83, address (2), count (1)"
 unfoldable pub wrongData : ℕ → List ℕ → Bool
 wrongData command content =
-    byCommand command (ltb (length content) 2) (not (eqb (length content) 2)) (ltb (length content) 4 || eqb (length content % 2) 1)
+    byCommand command
+    (ltb (length content) 2)
+    (not (eqb (length content) 2))
+    (ltb (length content) 4 || eqb (length content % 2) 1)
     (not (eqb (length content) 3))
 
 -- 4: "address or its run passes the end". "Address plus count may not pass 256 (registers) or 28,672 (words)"
 unfoldable pub passesEnd : ℕ → List ℕ → Bool
 passesEnd command content =
-    byCommand command (ltb 256 (byteAt content 0 + length (drop 1 content))) (ltb 256 (byteAt content 0 + byteAt content 1))
-    (ltb 28672 (wordAt content 0 + length (wordsOf (drop 2 content)))) (ltb 28672 (wordAt content 0 + byteAt content 2))
+    byCommand command
+    (ltb 256 (byteAt content 0 + length (drop 1 content)))
+    (ltb 256 (byteAt content 0 + byteAt content 1))
+    (ltb 28672 (wordAt content 0 + length (wordsOf (drop 2 content))))
+    (ltb 28672 (wordAt content 0 + byteAt content 2))
 
 -- 5: "a write touches an unwritable register or half the page"
 unfoldable pub touchesUnwritable : ℕ → List ℕ → Bool
@@ -99,7 +105,11 @@ valueWrong pages command content = byCommand command (wrongValue (byteAt content
 -- 7: "reply frame's L would pass 255". "Reply 0x81, address, count, bytes"; "Reply 0x83, address, count, words"
 unfoldable pub replyPasses : (checking : Bool) → ℕ → List ℕ → Bool
 replyPasses checking command content =
-    byCommand command false (replyTooLong checking (2 + byteAt content 1)) false (replyTooLong checking (3 + (byteAt content 2 + byteAt content 2)))
+    byCommand command
+    false
+    (replyTooLong checking (2 + byteAt content 1))
+    false
+    (replyTooLong checking (3 + (byteAt content 2 + byteAt content 2)))
 
 -- 14: "words lent aren't 28,672, or reply .. room below 265"
 unfoldable pub wordsNotLent : List ℕ → Bool
