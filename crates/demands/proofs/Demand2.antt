@@ -87,18 +87,17 @@ pub what-80-wrote-81-replies : (now : Moment) → Arises now → (content : List
     → (calls : List Call) → AllTyped calls
     → ((i : ℕ) → i < length (drop 1 content) → Some (λ then call. NamesRegister then (byteAt content 0 + i) call) (after now ask) calls → ⊥)
     → handedOver (afterAll (after now ask) calls) ask ≡ acceptedFrame 0x81 (byteAt content 0 ∷ length (drop 1 content) ∷ []) ∷ []
-    → numberGiven (afterAll (after now ask) calls) ask ≡ 0
     → after (afterAll (after now ask) calls) ask .room
     ≡ replied (afterAll (after now ask) calls) 0x81 (byteAt content 0 ∷ length (drop 1 content) ∷ drop 1 content)
 what-80-wrote-81-replies now arises = WrittenReads.what-80-wrote-81-replies now (arises-reachable now arises)
 
--- the same of an 0x82 and an 0x83
+-- the same of an 0x82 and an 0x83, of up to 124 words ("word reads of 124 and 125 with checking (0 and 7)")
 pub what-82-wrote-83-replies : (now : Moment) → Arises now → (content : List ℕ) → handedOver now ask ≡ acceptedFrame 0x82 content ∷ [] → numberGiven now ask ≡ 0
     → (calls : List Call) → AllTyped calls
     → ((i : ℕ) → i < length (wordsOf (drop 2 content)) → Some (λ then call. NamesWord then (wordAt content 0 + i) call) (after now ask) calls → ⊥)
     → handedOver (afterAll (after now ask) calls) ask
     ≡ acceptedFrame 0x83 (byteAt content 0 ∷ byteAt content 1 ∷ length (wordsOf (drop 2 content)) ∷ []) ∷ []
-    → numberGiven (afterAll (after now ask) calls) ask ≡ 0
+    → length (wordsOf (drop 2 content)) ≤ 124
     → after (afterAll (after now ask) calls) ask .room
     ≡ replied (afterAll (after now ask) calls) 0x83 (byteAt content 0 ∷ byteAt content 1 ∷ length (wordsOf (drop 2 content)) ∷ drop 2 content)
 what-82-wrote-83-replies now arises = WrittenReads.what-82-wrote-83-replies now (arises-reachable now arises)
