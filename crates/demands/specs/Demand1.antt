@@ -170,6 +170,8 @@ printedWriter checking payload room = (14 when roomTooSmall room) ∷ (3 when lt
 
 -- 13: "the first wrong one is named"
 pub record NamesFirstWrong (setup : Setup) (table : List ℕ) (i : ℕ) : Type 0 where
+  -- one of the table's records, before the one that ends it
+  pub within : i < length (recordsOf table)
   pub is-wrong : goodRecord setup (recordAt table i) ≡ false
   pub first : (k : ℕ) → k < i → goodRecord setup (recordAt table k) ≡ true
 
