@@ -35,11 +35,12 @@ use Rattle.contact.specs.declared.Catch.the-variants.{Caught}
 use Rattle.panel.specs.State.{headerOf, panelRegister}
 use Rattle.demands.specs.Calls.{Moment, Call, ask, contact, lift, after, afterAll, numberGiven, handedOver, AllTyped, Arises}
 use Rattle.demands.specs.Reports.{rulesOf}
-use Rattle.demands.specs.Demand2.{NamesWord, NamesRegister, Some, ReadsBack, replied, afterWrite, afterRead, afterStore, afterFetch, afterBadCheck, afterContact, afterLift}
+use Rattle.demands.specs.Demand2.{NamesWord, NamesRegister, Some, ReadsBack, replied, afterWrite, afterRead, afterStore, afterFetch, afterBadCheck, AskLeaves, afterContact, afterLift}
 use Rattle.demands.proofs.Calls.{arises-reachable}
 use Rattle.demands.proofs.Named as Named
 use Rattle.demands.proofs.ReadBack as ReadBack
 use Rattle.demands.proofs.Access as Access
+use Rattle.demands.proofs.Asking as Asking
 use Rattle.demands.proofs.WrittenReads as WrittenReads
 use Rattle.demands.proofs.Sizes as Sizes
 use Rattle.demands.proofs.TouchEffects as TouchEffects
@@ -74,6 +75,10 @@ module _ (now : Moment) (arises : Arises now) (content : List ℕ) (done : numbe
 
   pub reads-words : handedOver now ask ≡ acceptedFrame 0x83 content ∷ [] → after now ask ≡ afterFetch now content
   reads-words = Access.fetches-words now (arises-reachable now arises) content done
+
+-- and all that asking can leave at all: nothing is handed over, a bad check, a command that is refused, or one of these four
+pub asking-leaves : (now : Moment) → Arises now → AskLeaves now
+asking-leaves now arises = Asking.asking-leaves now (arises-reachable now arises)
 
 -- "each bad check by the same with 0x00"; "'Nothing' changes nothing, the reply room included."
 pub answers-bad-check : (now : Moment) → Arises now → (command : ℕ) → handedOver now ask ≡ badCheck command ∷ [] → after now ask ≡ afterBadCheck now command

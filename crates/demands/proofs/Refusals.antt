@@ -63,10 +63,14 @@ refused-numbers WrongValue above = omega arith
 refused-numbers ReplyTooLong above = omega arith
 
 -- an ask that hands over an accepted frame whose command is refused
-frame-refused : (now : Moment) → Sound (now .panel) → (command : ℕ) (content : List ℕ) → Asks now command content
-    → handedOver now ask ≡ acceptedFrame command content ∷ [] → 0 < numberGiven now ask → Leaves now ask
-unfolding leaving readBehind
-frame-refused now sound command content asks hands above =
+pub record FrameRefused (now : Moment) (command : ℕ) : Type 0 where
+  pub at-least : 2 ≤ numberGiven now ask
+  pub at-most : numberGiven now ask ≤ 7
+  pub left : after now ask ≡ leaving now command (now .panel .registers) (now .panel .catch) (now .words) []
+
+pub refused-frame : (now : Moment) → Sound (now .panel) → (command : ℕ) (content : List ℕ) → Asks now command content → 0 < numberGiven now ask
+    → FrameRefused now command
+refused-frame now sound command content asks above =
     let setup = now .panel .setup in
     let o = outcome (setup .pages) 28672 (checkingOf setup) command content in
     let number : numberGiven now ask ≡ Outcome.numberOf o = done-number now sound command content asks in
@@ -75,18 +79,28 @@ frame-refused now sound command content asks hands above =
     let part = drop (length answer) (over answer (now .room)) in
     let p = outcome (setup .pages) (length (now .words)) (checkingOf setup) command content in
     let refused : isDone p ≡ false = rw (asks .whole) (number-refuses o given) in
-    let left : after now ask ≡ leaving now command (now .panel .registers) (now .panel .catch) (now .words) [] =
-    leaves now sound command content asks (now .panel .registers) false (now .words) [] p 0
-    (refusal-changes-nothing (now .panel .registers) (setup .pages) (checkingOf setup) (headerOf setup) content (now .words) part command refused
-    ∙ ap (λ (r : List ℕ). performs (besideReply (now .panel .registers) (noReply p)) (now .words) r) (sym (over-nil part))) in
-    only-handed-over (omega (arith, refused-numbers o given)) (omega (arith, number-at-most-7 o))
+    record {
+      at-least = omega (arith, refused-numbers o given);
+      at-most = omega (arith, number-at-most-7 o);
+      left = leaves now sound command content asks (now .panel .registers) false (now .words) [] p 0
+          (refusal-changes-nothing (now .panel .registers) (setup .pages) (checkingOf setup) (headerOf setup) content (now .words) part command refused
+          ∙ ap (λ (r : List ℕ). performs (besideReply (now .panel .registers) (noReply p)) (now .words) r) (sym (over-nil part)));
+    }
+
+frame-refused : (now : Moment) → Sound (now .panel) → (command : ℕ) (content : List ℕ) → Asks now command content
+    → handedOver now ask ≡ acceptedFrame command content ∷ [] → 0 < numberGiven now ask → Leaves now ask
+unfolding leaving readBehind
+frame-refused now sound command content asks hands above =
+    let answer = acknowledgementOf (now .panel .setup) command true in
+    let only = refused-frame now sound command content asks above in
+    only-handed-over (only .at-least) (only .at-most)
     (record {
       command = command;
       content = content;
       handed-over = hands;
-      only-read-on = ap (λ (m : Moment). m .panel) left;
-      words-stand = ap (λ (m : Moment). m .words) left;
-      only-acknowledged = ap (λ (m : Moment). m .room) left ∙ ap (λ (l : List ℕ). over l (now .room)) (append-nil answer);
+      only-read-on = ap (λ (m : Moment). m .panel) (only .left);
+      words-stand = ap (λ (m : Moment). m .words) (only .left);
+      only-acknowledged = ap (λ (m : Moment). m .room) (only .left) ∙ ap (λ (l : List ℕ). over l (now .room)) (append-nil answer);
     })
 
 -- an ask that is lent what it must be is refused only at an accepted frame
