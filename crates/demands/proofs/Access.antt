@@ -131,7 +131,7 @@ module _ (now : Moment) (sound : Sound (now .panel)) (command : ℕ) (content : 
       ∙ ap (λ (answered : Laid). left content answered (a .reader)) (acknowledged-laid setup command true (now .room) (asks .large))
       ∙ ap (left content (lays (length answer) (over answer (now .room)))) (asked-reader (now .panel) sound)
 
-  done-number : numberGiven now ask ≡ Outcome.numberOf (outcome (setup .pages) 28672 (checkingOf setup) command content)
+  pub done-number : numberGiven now ask ≡ Outcome.numberOf (outcome (setup .pages) 28672 (checkingOf setup) command content)
   unfolding numberGiven handing reportNumber accepting
   done-number =
       let a = asked (now .panel .reader) in
@@ -145,7 +145,7 @@ module _ (now : Moment) (sound : Sound (now .panel)) (command : ℕ) (content : 
       ∙ ap (λ (c : List ℕ). Outcome.numberOf (outcome (setup .pages) 28672 (checkingOf setup) command c)) (asks .given)
 
   -- a command that does this to registers, page, words and room leaves this
-  leaves : (registers : Registers) (paged : Bool) (words reply : List ℕ) (o : Outcome) (count : ℕ)
+  pub leaves : (registers : Registers) (paged : Bool) (words reply : List ℕ) (o : Outcome) (count : ℕ)
       → performance (now .panel .registers) (setup .pages) (checkingOf setup) (headerOf setup) command content (now .words)
       (drop (length answer) (over answer (now .room)))
       ≡ performs (record { outcome = o; registers = registers; paged = paged; count = count }) words (over reply (drop (length answer) (over answer (now .room))))

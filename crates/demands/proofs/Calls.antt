@@ -5,9 +5,7 @@ use Prim.Native.Nat.{ℕ, _<_}
 use Rattle.touch.specs.declared.Setup.{Setup}
 use Rattle.panel.specs.declared.StartAnswer.the-variants as start
 use Rattle.panel.specs.Start.{started}
-use Rattle.panel.specs.Sound.{Sound}
 use Rattle.panel.specs.Reachable.{Reachable, by-start, by-byte, by-mark, by-bytes, by-report, by-contact, by-lift}
-use Rattle.panel.proofs.Invariant.{reachable-sound}
 use Rattle.demands.specs.Calls.{Moment, Call, lend, byte, bytes, mark, ask, contact, lift, begun, after, afterAll, handedOver, handedOverAll, Halfwords, Typed, AllTyped, Arises, from-start, by-call}
 
 -- one sequence and then another
@@ -39,14 +37,6 @@ unfolding afterAll AllTyped
 calls-reached now [] typed reached = reached
 calls-reached now (call ∷ calls) typed reached =
     calls-reached (after now call) calls (typed .1) (call-reached now call (typed .0) reached)
-
--- and so does every sequence of calls from a start
-module _ (setup : Setup) (table words room : List ℕ) (is : started setup table .answer ≡ start.Started) (calls : List Call) (typed : AllTyped calls) where
-  pub sequence-reached : Reachable (afterAll (begun setup table words room) calls .panel)
-  sequence-reached = calls-reached (begun setup table words room) calls typed (by-start setup table is)
-
-  pub sequence-sound : Sound (afterAll (begun setup table words room) calls .panel)
-  sequence-sound = reachable-sound (afterAll (begun setup table words room) calls .panel) sequence-reached
 
 -- the moments that arise are those that sequences of calls lead to
 pub calls-arise : (now : Moment) (calls : List Call) → AllTyped calls → Arises now → Arises (afterAll now calls)

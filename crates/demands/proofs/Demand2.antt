@@ -35,11 +35,12 @@ use Rattle.contact.specs.declared.Catch.the-variants.{Caught}
 use Rattle.panel.specs.State.{headerOf, panelRegister}
 use Rattle.demands.specs.Calls.{Moment, Call, ask, contact, lift, after, afterAll, numberGiven, handedOver, AllTyped, Arises}
 use Rattle.demands.specs.Reports.{rulesOf}
-use Rattle.demands.specs.Demand2.{NamesWord, NamesRegister, Some, ReadsBack, replied, afterWrite, afterRead, afterStore, afterFetch, afterBadCheck, afterContact, afterLift}
+use Rattle.demands.specs.Demand2.{NamesWord, NamesRegister, Some, ReadsBack, replied, afterWrite, afterRead, afterStore, afterFetch, afterBadCheck, AskLeaves, afterContact, afterLift}
 use Rattle.demands.proofs.Calls.{arises-reachable}
 use Rattle.demands.proofs.Named as Named
 use Rattle.demands.proofs.ReadBack as ReadBack
 use Rattle.demands.proofs.Access as Access
+use Rattle.demands.proofs.Asking as Asking
 use Rattle.demands.proofs.WrittenReads as WrittenReads
 use Rattle.demands.proofs.Sizes as Sizes
 use Rattle.demands.proofs.TouchEffects as TouchEffects
@@ -75,6 +76,10 @@ module _ (now : Moment) (arises : Arises now) (content : List ℕ) (done : numbe
   pub reads-words : handedOver now ask ≡ acceptedFrame 0x83 content ∷ [] → after now ask ≡ afterFetch now content
   reads-words = Access.fetches-words now (arises-reachable now arises) content done
 
+-- and all that asking can leave at all: nothing is handed over, a bad check, a command that is refused, or one of these four
+pub asking-leaves : (now : Moment) → Arises now → AskLeaves now
+asking-leaves now arises = Asking.asking-leaves now (arises-reachable now arises)
+
 -- "each bad check by the same with 0x00"; "'Nothing' changes nothing, the reply room included."
 pub answers-bad-check : (now : Moment) → Arises now → (command : ℕ) → handedOver now ask ≡ badCheck command ∷ [] → after now ask ≡ afterBadCheck now command
 answers-bad-check now arises = Access.answers-bad-check now (arises-reachable now arises)
@@ -87,18 +92,17 @@ pub what-80-wrote-81-replies : (now : Moment) → Arises now → (content : List
     → (calls : List Call) → AllTyped calls
     → ((i : ℕ) → i < length (drop 1 content) → Some (λ then call. NamesRegister then (byteAt content 0 + i) call) (after now ask) calls → ⊥)
     → handedOver (afterAll (after now ask) calls) ask ≡ acceptedFrame 0x81 (byteAt content 0 ∷ length (drop 1 content) ∷ []) ∷ []
-    → numberGiven (afterAll (after now ask) calls) ask ≡ 0
     → after (afterAll (after now ask) calls) ask .room
     ≡ replied (afterAll (after now ask) calls) 0x81 (byteAt content 0 ∷ length (drop 1 content) ∷ drop 1 content)
 what-80-wrote-81-replies now arises = WrittenReads.what-80-wrote-81-replies now (arises-reachable now arises)
 
--- the same of an 0x82 and an 0x83
+-- the same of an 0x82 and an 0x83, of up to 124 words ("word reads of 124 and 125 with checking (0 and 7)")
 pub what-82-wrote-83-replies : (now : Moment) → Arises now → (content : List ℕ) → handedOver now ask ≡ acceptedFrame 0x82 content ∷ [] → numberGiven now ask ≡ 0
     → (calls : List Call) → AllTyped calls
     → ((i : ℕ) → i < length (wordsOf (drop 2 content)) → Some (λ then call. NamesWord then (wordAt content 0 + i) call) (after now ask) calls → ⊥)
     → handedOver (afterAll (after now ask) calls) ask
     ≡ acceptedFrame 0x83 (byteAt content 0 ∷ byteAt content 1 ∷ length (wordsOf (drop 2 content)) ∷ []) ∷ []
-    → numberGiven (afterAll (after now ask) calls) ask ≡ 0
+    → length (wordsOf (drop 2 content)) ≤ 124
     → after (afterAll (after now ask) calls) ask .room
     ≡ replied (afterAll (after now ask) calls) 0x83 (byteAt content 0 ∷ byteAt content 1 ∷ length (wordsOf (drop 2 content)) ∷ drop 2 content)
 what-82-wrote-83-replies now arises = WrittenReads.what-82-wrote-83-replies now (arises-reachable now arises)

@@ -43,7 +43,7 @@ use Rattle.touch.specs.declared.Verdict.{Verdict}
 use Rattle.touch.specs.declared.Verdict.the-variants.{Good, NotRecords, Wrong}
 use Rattle.touch.specs.Setup.{checkingOf, goodSetup}
 use Rattle.touch.specs.Table.{firstOf, recordsOf}
-use Rattle.touch.specs.Judge.{goodRecord, wrong, namedWrong, judged}
+use Rattle.touch.specs.Judge.{goodRecord, wrong, namedWrong, notRecords, judged}
 use Rattle.contact.specs.Contact.{Touching, touched, lifted}
 use Rattle.touch.proofs.Tables.{thirteen-names-first}
 use Rattle.panel.specs.declared.Panel.{Panel}
@@ -418,8 +418,32 @@ given-is-first cs n given =
     ∙ rw (given .holds) (given .number)
 
 -- 13: "the first wrong one is named"
+picked-within : (picks : Record → Bool) (rs : List Record) (i j : ℕ) (r : Record) → firstOf picks i rs ≡ At j r → j < i + length rs
+unfolding firstOf
+picked-within picks [] i j r is = never (cc)
+picked-within picks (q ∷ rs) i j r is = go (picks q) is (picked-within picks rs (i + 1) j r)
+  where
+    go : (b : Bool) → cond b (At i q) (firstOf picks (i + 1) rs) ≡ At j r → (firstOf picks (i + 1) rs ≡ At j r → j < i + 1 + length rs)
+        → j < i + suc (length rs)
+    go true is further = let same : i ≡ j = cc in omega arith
+    go false is further = let below = further is in omega arith
+
+wrong-within : (setup : Setup) (table : List ℕ) (i : ℕ) → judged setup table ≡ Wrong i → i < length (recordsOf table)
+unfolding judged
+wrong-within setup table i = go (notRecords table) (firstOf (wrong setup) 0 (recordsOf table)) refl
+  where
+    go : (b : Bool) (f : Found) → firstOf (wrong setup) 0 (recordsOf table) ≡ f → cond b NotRecords (namedWrong f) ≡ Wrong i → i < length (recordsOf table)
+    go true f finds is = never (cc)
+    go false Nothing finds is = never (cc)
+    go false (At j r) finds is =
+        let same : j ≡ i = cc in
+        let below = picked-within (wrong setup) (recordsOf table) 0 j r finds in
+        omega arith
+
 names-first : (setup : Setup) (table : List ℕ) (i : ℕ) → judged setup table ≡ Wrong i → NamesFirstWrong setup table i
-names-first setup table i is = let named = thirteen-names-first setup table i is in record { is-wrong = named .0; first = named .1 .1 }
+names-first setup table i is =
+    let named = thirteen-names-first setup table i is in
+    record { within = wrong-within setup table i is; is-wrong = named .0; first = named .1 .1 }
 
 on-names-none : (panel : Panel) (table words : List ℕ) (x y i : ℕ) → contactOn panel table words x y .contacted .answer ≡ contact-answer.WrongRecord i → ⊥
 unfolding contactOn

@@ -1,121 +1,202 @@
 -- What a call with a number above 0 leaves, call by call.
 use mathlib.Core.Path.{_≡_, refl, sym, ap, _∙_}
+use mathlib.Core.Logic.{_⊎_, inl, inr}
 use mathlib.Core.Bool.{Bool, true, false, cond}
-use mathlib.Core.List.{List, [], _∷_, _++_, map}
+use mathlib.Core.List.{List, [], _∷_, _++_, map, append-nil}
 use Prim.Native.Nat.{ℕ, suc, _≤_, _<_}
 use native.Mathlib.Omega.{arith}
-use borrow.Author.Tests.{leb-true}
-use lib.Dec.{eqb, leb}
-use lib.ListN.{length, take}
+use lib.Dec.{eqb}
+use lib.ListN.{length, take, drop}
 use Rattle.wire.specs.Bytes.{Bytes}
-use Rattle.wire.specs.Room.{Laid}
-use Rattle.frame.specs.Writer.{leastRoom}
+use Rattle.wire.specs.Room.{over}
+use Rattle.wire.proofs.Over.{over-nil}
 use Rattle.reading.specs.Place.{acceptedFrame}
 use Rattle.line.specs.declared.Reader.{Reader}
 use Rattle.line.specs.declared.Given.{Given}
 use Rattle.line.specs.declared.Gave.{Gave}
 use Rattle.line.specs.declared.Answer.{Answer}
 use Rattle.line.specs.declared.Answer.the-variants as line-answer
+use Rattle.line.specs.declared.Report.{Report}
 use Rattle.line.specs.declared.Report.the-variants as line
 use Rattle.line.specs.Methods as Line
 use Rattle.line.specs.Methods.{busy, givenByte, givenMark, givenBytes, gave, plus, asked}
-use Rattle.line.proofs.Truths.{never, and-right}
-use Rattle.words.specs.Words.{wordCount}
+use Rattle.line.proofs.Truths.{never}
+use Rattle.commands.specs.declared.Outcome.{Outcome}
+use Rattle.commands.specs.declared.Outcome.the-variants.{Done, UnknownCommand, WrongData, PastEnd, Unwritable, WrongValue, ReplyTooLong}
+use Rattle.commands.specs.Outcome as Outcome
+use Rattle.commands.specs.Outcome.{outcome}
+use Rattle.commands.specs.Effect.{isDone}
+use Rattle.commands.specs.Perform.{performs, besideReply, noReply}
+use Rattle.commands.proofs.Refusals.{number-refuses, number-at-most-7, refusal-changes-nothing}
+use Rattle.touch.specs.Setup.{checkingOf}
 use Rattle.panel.specs.declared.Panel.{Panel}
-use Rattle.panel.specs.State.{withReader}
+use Rattle.panel.specs.declared.ContactAnswer.{ContactAnswer}
+use Rattle.panel.specs.declared.ContactAnswer.the-variants as contact-answer
+use Rattle.panel.specs.declared.LiftAnswer.{LiftAnswer}
+use Rattle.panel.specs.declared.LiftAnswer.the-variants as lift-answer
+use Rattle.panel.specs.Numbers.{reportNumber, contactNumber, liftNumber}
+use Rattle.panel.specs.State.{headerOf, withReader}
 use Rattle.panel.specs.Inputs.{fedByte, fedMark, fedBytes}
 use Rattle.panel.specs.Reporting.{lent, Reporting, handing, reporting}
-use Rattle.panel.specs.Contacts.{Contacting, lifting}
+use Rattle.panel.specs.Contacts.{Contacting, contacting, lifting}
 use Rattle.panel.specs.Sound.{Sound}
 use Rattle.panel.specs.Reachable.{Reachable, by-byte}
-use Rattle.panel.proofs.Refusals.{refused-report-14-changes-nothing, RefusedReport, not-lent, handed-over, refused-report-only-handed, refused-contact-changes-nothing, refused-lift-changes-nothing}
+use Rattle.panel.proofs.Refusals.{refused-report-14-changes-nothing, refused-contact-changes-nothing, refused-lift-changes-nothing}
 use Rattle.panel.proofs.Invariant.{reachable-sound}
 use Rattle.demands.specs.Calls.{Moment, Call, lend, byte, bytes, mark, ask, contact, lift, withPanel, after, afterAll, numberGiven, reportHanded, handedOver, Typed}
-use Rattle.demands.specs.Reports.{reportWaits, readBehind}
+use Rattle.demands.specs.Reports.{reportWaits, readBehind, acknowledgementOf}
 use Rattle.demands.specs.Demand1.{Leaves, as-it-stood, only-handed-over, as-those-taken}
-use Rattle.demands.proofs.Waits.{busy-waits, asked-reader}
-use Rattle.demands.proofs.Rooms.{acknowledged-laid}
+use Rattle.demands.specs.Demand2.{leaving}
+use Rattle.demands.proofs.Waits.{busy-waits}
 use Rattle.demands.proofs.Numbers.{one-more}
+use Rattle.demands.proofs.Access.{Asks, handed-asks, done-number, leaves}
 
--- a room that is lent has 265 bytes
-lent-room : (words room : ℕ) → lent words room ≡ true → 265 ≤ room
-unfolding lent leastRoom
-lent-room words room is = leb-true 265 room (and-right (eqb words wordCount) (leb 265 room) is)
+-- the numbers of a refused command
+refused-numbers : (o : Outcome) → 0 < Outcome.numberOf o → 2 ≤ Outcome.numberOf o
+unfolding Outcome.numberOf
+refused-numbers Done above = absurd (omega arith)
+refused-numbers UnknownCommand above = omega arith
+refused-numbers WrongData above = omega arith
+refused-numbers PastEnd above = omega arith
+refused-numbers Unwritable above = omega arith
+refused-numbers WrongValue above = omega arith
+refused-numbers ReplyTooLong above = omega arith
 
--- an ask, where words and room are lent and an accepted frame waits
-module _ (now : Moment) (is : lent (length (now .words)) (length (now .room)) ≡ true) where
-  frame-handed : (command count : ℕ) → asked (now .panel .reader) .report ≡ line.Accepted command count
-      → handedOver now ask ≡ acceptedFrame command (take count (asked (now .panel .reader) .payload)) ∷ []
-  unfolding handedOver reporting handing reportHanded
-  frame-handed command count told = rw (is, told)
+-- an ask that hands over an accepted frame whose command is refused
+pub record FrameRefused (now : Moment) (command : ℕ) : Type 0 where
+  pub at-least : 2 ≤ numberGiven now ask
+  pub at-most : numberGiven now ask ≤ 7
+  pub left : after now ask ≡ leaving now command (now .panel .registers) (now .panel .catch) (now .words) []
 
-  refused-ask : Sound (now .panel) → RefusedReport (now .panel) (now .words) (now .room) (reporting (now .panel) (now .words) (now .room)) → Leaves now ask
-  unfolding after readBehind
-  refused-ask sound (not-lent panel words room) = as-it-stood ask (rw (panel, words, room))
-  refused-ask sound (handed-over command count told only) =
-      only-handed-over
-      (record {
-        command = command;
-        content = take count (asked (now .panel .reader) .payload);
-        handed-over = frame-handed command count told;
-        only-read-on = only .panel-read ∙ ap (λ (r : Reader). withReader (now .panel) r) (asked-reader (now .panel) sound);
-        words-stand = only .words-stand;
-        only-acknowledged =
-            only .only-acknowledged
-            ∙ ap (λ (l : Laid). l .room)
-            (acknowledged-laid (now .panel .setup) command true (now .room) (lent-room (length (now .words)) (length (now .room)) is));
-      })
+pub refused-frame : (now : Moment) → Sound (now .panel) → (command : ℕ) (content : List ℕ) → Asks now command content → 0 < numberGiven now ask
+    → FrameRefused now command
+refused-frame now sound command content asks above =
+    let setup = now .panel .setup in
+    let o = outcome (setup .pages) 28672 (checkingOf setup) command content in
+    let number : numberGiven now ask ≡ Outcome.numberOf o = done-number now sound command content asks in
+    let given : 0 < Outcome.numberOf o = omega arith in
+    let answer = acknowledgementOf setup command true in
+    let part = drop (length answer) (over answer (now .room)) in
+    let p = outcome (setup .pages) (length (now .words)) (checkingOf setup) command content in
+    let refused : isDone p ≡ false = rw (asks .whole) (number-refuses o given) in
+    record {
+      at-least = omega (arith, refused-numbers o given);
+      at-most = omega (arith, number-at-most-7 o);
+      left = leaves now sound command content asks (now .panel .registers) false (now .words) [] p 0
+          (refusal-changes-nothing (now .panel .registers) (setup .pages) (checkingOf setup) (headerOf setup) content (now .words) part command refused
+          ∙ ap (λ (r : List ℕ). performs (besideReply (now .panel .registers) (noReply p)) (now .words) r) (sym (over-nil part)));
+    }
+
+frame-refused : (now : Moment) → Sound (now .panel) → (command : ℕ) (content : List ℕ) → Asks now command content
+    → handedOver now ask ≡ acceptedFrame command content ∷ [] → 0 < numberGiven now ask → Leaves now ask
+unfolding leaving readBehind
+frame-refused now sound command content asks hands above =
+    let answer = acknowledgementOf (now .panel .setup) command true in
+    let only = refused-frame now sound command content asks above in
+    only-handed-over (only .at-least) (only .at-most)
+    (record {
+      command = command;
+      content = content;
+      handed-over = hands;
+      only-read-on = ap (λ (m : Moment). m .panel) (only .left);
+      words-stand = ap (λ (m : Moment). m .words) (only .left);
+      only-acknowledged = ap (λ (m : Moment). m .room) (only .left) ∙ ap (λ (l : List ℕ). over l (now .room)) (append-nil answer);
+    })
+
+-- an ask that is lent what it must be is refused only at an accepted frame
+lent-number : (now : Moment) → lent (length (now .words)) (length (now .room)) ≡ true → (told : Report) → asked (now .panel .reader) .report ≡ told
+    → numberGiven now ask ≡ reportNumber (handing (asked (now .panel .reader)) told (now .panel) (now .words) (now .room) .reported .handed)
+unfolding numberGiven reporting
+lent-number now is told tells = rw (is, tells)
+
+lent-handed : (now : Moment) → lent (length (now .words)) (length (now .room)) ≡ true → (command count : ℕ)
+    → asked (now .panel .reader) .report ≡ line.Accepted command count
+    → handedOver now ask ≡ acceptedFrame command (take count (asked (now .panel .reader) .payload)) ∷ []
+unfolding handedOver reporting handing reportHanded
+lent-handed now is command count tells = rw (is, tells)
+
+lent-leaves : (now : Moment) → Sound (now .panel) → lent (length (now .words)) (length (now .room)) ≡ true → (told : Report)
+    → asked (now .panel .reader) .report ≡ told → 0 < numberGiven now ask → Leaves now ask
+unfolding handing reportNumber
+lent-leaves now sound is line.Nothing tells above = let none = lent-number now is line.Nothing tells in absurd (omega arith)
+lent-leaves now sound is (line.BadCheck c) tells above = let none = lent-number now is (line.BadCheck c) tells in absurd (omega arith)
+lent-leaves now sound is (line.Accepted c n) tells above =
+    let content = take n (asked (now .panel .reader) .payload) in
+    let hands = lent-handed now is c n tells in
+    frame-refused now sound c content (handed-asks now c content hands) hands above
+
+-- 14
+not-lent-leaves : (now : Moment) → lent (length (now .words)) (length (now .room)) ≡ false → Leaves now ask
+unfolding numberGiven after reporting reportNumber
+not-lent-leaves now is =
+    let number : numberGiven now ask ≡ 14 = rw is in
+    as-it-stood ask (inr (omega arith))
+    (ap (λ (r : Reporting). record { panel = r .reported .panel; words = r .words; room = r .room })
+    (refused-report-14-changes-nothing (now .panel) (now .words) (now .room) is))
 
 -- the panel put back as it stood
 same-moment : (now : Moment) (panel : Panel) → panel ≡ now .panel → withPanel now panel ≡ now
 same-moment now panel is = rw is
 
 ask-leaves : (now : Moment) → Sound (now .panel) → 0 < numberGiven now ask → Leaves now ask
-unfolding numberGiven after
-ask-leaves now sound above = go (lent (length (now .words)) (length (now .room))) refl
+ask-leaves now sound above = go (lent (length (now .words)) (length (now .room))) refl (asked (now .panel .reader) .report) refl
   where
-    go : (l : Bool) → lent (length (now .words)) (length (now .room)) ≡ l → Leaves now ask
-    go true is = refused-ask now is sound (refused-report-only-handed (now .panel) (now .words) (now .room) above)
-    go false is =
-        as-it-stood ask
-        (ap (λ (r : Reporting). record { panel = r .reported .panel; words = r .words; room = r .room })
-        (refused-report-14-changes-nothing (now .panel) (now .words) (now .room) is))
+    go : (l : Bool) → lent (length (now .words)) (length (now .room)) ≡ l → (told : Report) → asked (now .panel .reader) .report ≡ told → Leaves now ask
+    go false is told tells = not-lent-leaves now is
+    go true is told tells = lent-leaves now sound is told tells above
 
 -- a byte and a mark
 abbrev given : Answer → Reader → Given
 given answer reader = record { answer = answer; reader = reader }
 
+fed-leaves : (now : Moment) (w : Bool) (r : Reader)
+    → 0 < Line.numberOf (cond w (given line-answer.Waits (now .panel .reader)) (given line-answer.Done r) .answer)
+    → (Line.numberOf (cond w (given line-answer.Waits (now .panel .reader)) (given line-answer.Done r) .answer) ≡ 1)
+    × (withPanel now (withReader (now .panel) (cond w (given line-answer.Waits (now .panel .reader)) (given line-answer.Done r) .reader)) ≡ now)
+unfolding Line.numberOf
+fed-leaves now true r above = (refl, refl)
+fed-leaves now false r above = absurd (omega arith)
+
 byte-leaves : (now : Moment) (b : ℕ) → 0 < numberGiven now (byte b) → Leaves now (byte b)
 unfolding numberGiven after fedByte givenByte Line.numberOf
-byte-leaves now b above = as-it-stood (byte b) (go (busy (now .panel .reader)) _ above)
-  where
-    go : (w : Bool) (r : Reader)
-        → 0 < Line.numberOf (cond w (given line-answer.Waits (now .panel .reader)) (given line-answer.Done r) .answer)
-        → withPanel now (withReader (now .panel) (cond w (given line-answer.Waits (now .panel .reader)) (given line-answer.Done r) .reader)) ≡ now
-    go true r above = refl
-    go false r above = absurd (omega arith)
+byte-leaves now b above =
+    let left = fed-leaves now (busy (now .panel .reader)) _ above in
+    as-it-stood (byte b) (inl (left .0)) (left .1)
 
 mark-leaves : (now : Moment) → 0 < numberGiven now mark → Leaves now mark
 unfolding numberGiven after fedMark givenMark Line.numberOf
-mark-leaves now above = as-it-stood mark (go (busy (now .panel .reader)) _ above)
-  where
-    go : (w : Bool) (r : Reader)
-        → 0 < Line.numberOf (cond w (given line-answer.Waits (now .panel .reader)) (given line-answer.Done r) .answer)
-        → withPanel now (withReader (now .panel) (cond w (given line-answer.Waits (now .panel .reader)) (given line-answer.Done r) .reader)) ≡ now
-    go true r above = refl
-    go false r above = absurd (omega arith)
+mark-leaves now above =
+    let left = fed-leaves now (busy (now .panel .reader)) _ above in
+    as-it-stood mark (inl (left .0)) (left .1)
 
 -- a contact and a lift
+contact-numbers : (a : ContactAnswer) → 0 < contactNumber a → (contactNumber a ≡ 1) ⊎ (8 ≤ contactNumber a)
+unfolding contactNumber
+contact-numbers contact-answer.Done above = absurd (omega arith)
+contact-numbers contact-answer.NotLent above = inr (omega arith)
+contact-numbers contact-answer.Waits above = inl refl
+contact-numbers contact-answer.NotRecords above = inr (omega arith)
+contact-numbers (contact-answer.WrongRecord i) above = inr (omega arith)
+contact-numbers contact-answer.TouchOff above = inr (omega arith)
+contact-numbers contact-answer.OffScreen above = inr (omega arith)
+
+lift-numbers : (a : LiftAnswer) → 0 < liftNumber a → (liftNumber a ≡ 1) ⊎ (8 ≤ liftNumber a)
+unfolding liftNumber
+lift-numbers lift-answer.Done above = absurd (omega arith)
+lift-numbers lift-answer.Waits above = inl refl
+lift-numbers lift-answer.IsUp above = inr (omega arith)
+
 contact-leaves : (now : Moment) (table : List ℕ) (x y : ℕ) → 0 < numberGiven now (contact table x y) → Leaves now (contact table x y)
 unfolding numberGiven after
 contact-leaves now table x y above =
-    as-it-stood (contact table x y)
+    as-it-stood (contact table x y) (contact-numbers (contacting (now .panel) table (now .words) x y .contacted .answer) above)
     (ap (λ (c : Contacting). record { panel = c .contacted .panel; words = c .words; room = now .room })
     (refused-contact-changes-nothing (now .panel) table (now .words) x y above))
 
 lift-leaves : (now : Moment) → 0 < numberGiven now lift → Leaves now lift
 unfolding numberGiven after
-lift-leaves now above = as-it-stood lift (same-moment now (lifting (now .panel) .panel) (refused-lift-changes-nothing (now .panel) above))
+lift-leaves now above =
+    as-it-stood lift (lift-numbers (lifting (now .panel) .answer) above) (same-moment now (lifting (now .panel) .panel) (refused-lift-changes-nothing (now .panel) above))
 
 -- bytes one after the other
 record Stops (now : Moment) (bs : List ℕ) : Type 0 where

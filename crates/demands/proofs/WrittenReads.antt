@@ -32,6 +32,7 @@ use Rattle.demands.specs.Calls.{Moment, Call, ask, after, afterAll, numb
 use Rattle.demands.specs.Reports.{acknowledgementOf}
 use Rattle.demands.specs.Demand2.{NamesWord, NamesRegister, Some, replied, leaving, afterWrite, afterRead, afterStore, afterFetch}
 use Rattle.demands.proofs.Calls.{calls-reached}
+use Rattle.demands.proofs.ReadsDone.{read-of-written-is-done, fetch-of-stored-is-done}
 use Rattle.demands.proofs.Contents.{content-bytes}
 use Rattle.demands.proofs.Named.{word-stays-or-is-named, register-stays-or-is-named}
 use Rattle.demands.proofs.Access.{handed-asks, is-done, writes-registers, stores-words, reads-registers, fetches-words}
@@ -80,15 +81,15 @@ module _ (now : Moment) (reached : Reachable (now .panel)) (content : List ℕ) 
   -- "Reply 0x81, address, count, bytes": those bytes, as a frame right behind the acknowledgement
   pub what-80-wrote-81-replies :
       handedOver (afterAll (after now ask) calls) ask ≡ acceptedFrame 0x81 (byteAt content 0 ∷ length (drop 1 content) ∷ []) ∷ []
-      → numberGiven (afterAll (after now ask) calls) ask ≡ 0
       → after (afterAll (after now ask) calls) ask .room
       ≡ replied (afterAll (after now ask) calls) 0x81 (byteAt content 0 ∷ length (drop 1 content) ∷ drop 1 content)
   unfolding afterRead leaving
-  what-80-wrote-81-replies reads answered =
+  what-80-wrote-81-replies reads =
       let then = afterAll (after now ask) calls in
       let setup = then .panel .setup in
-      ap (λ (m : Moment). m .room)
-      (reads-registers then (calls-reached (after now ask) calls typed reached-next) (byteAt content 0 ∷ length (drop 1 content) ∷ []) answered reads)
+      let there = calls-reached (after now ask) calls typed reached-next in
+      let answered = read-of-written-is-done now reached content writes done then there reads in
+      ap (λ (m : Moment). m .room) (reads-registers then there (byteAt content 0 ∷ length (drop 1 content) ∷ []) answered reads)
       ∙ ap (λ (run : List ℕ).
       over (acknowledgementOf setup 0x81 true ++ frameOf (checkingOf setup) (headerOf setup) 0x81 (byteAt content 0 ∷ length (drop 1 content) ∷ run)) (then .room)) run-still
 
@@ -137,14 +138,15 @@ module _ (now : Moment) (reached : Reachable (now .panel)) (content : List ℕ) 
   pub what-82-wrote-83-replies :
       handedOver (afterAll (after now ask) calls) ask
       ≡ acceptedFrame 0x83 (byteAt content 0 ∷ byteAt content 1 ∷ length (wordsOf (drop 2 content)) ∷ []) ∷ []
-      → numberGiven (afterAll (after now ask) calls) ask ≡ 0
+      → length (wordsOf (drop 2 content)) ≤ 124
       → after (afterAll (after now ask) calls) ask .room
       ≡ replied (afterAll (after now ask) calls) 0x83 (byteAt content 0 ∷ byteAt content 1 ∷ length (wordsOf (drop 2 content)) ∷ drop 2 content)
   unfolding afterFetch leaving after
-  what-82-wrote-83-replies reads answered =
+  what-82-wrote-83-replies reads few =
       let setup = then .panel .setup in
       let question = byteAt content 0 ∷ byteAt content 1 ∷ n ∷ [] in
       let there : Reachable (then .panel) = calls-reached (after now ask) calls typed (by-report (now .panel) (now .words) (now .room) reached) in
+      let answered = fetch-of-stored-is-done now reached content writes done few then there reads in
       let are : Bytes content = content-bytes now reached 0x82 content writes in
       let low : byteAt content 1 < 256 = are 1 in
       let first : highByte (wordAt content 0) ≡ byteAt content 0 = omega arith in

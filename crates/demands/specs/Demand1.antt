@@ -2,8 +2,9 @@
 -- 01's table "Numbers given back" as data: for each call its numbers in the printed order, each with its printed condition. The theorems are in
 -- proofs/Demand1. That no call is ever "an undefined act or an unending one" has no theorem of its own: the checker takes no function that it
 -- has not proved to be safe and to end, on every input.
-use Prim.Native.Nat.{ℕ, _+_, _*_, _%_, _<_}
+use Prim.Native.Nat.{ℕ, _+_, _*_, _%_, _≤_, _<_}
 use mathlib.Core.Path.{_≡_}
+use mathlib.Core.Logic.{_⊎_}
 use mathlib.Core.Bool.{Bool, true, false, cond, not, _&&_, _||_}
 use mathlib.Core.List.{List, [], _∷_, _++_, map}
 use lib.Dec.{eqb, ltb}
@@ -23,7 +24,7 @@ use Rattle.touch.specs.Table.{recordAt, recordsOf}
 use Rattle.touch.specs.Judge.{goodRecord}
 use Rattle.panel.specs.declared.Panel.{Panel}
 use Rattle.panel.specs.Inputs.{fedByte}
-use Rattle.demands.specs.Calls.{Moment, Call, lend, byte, bytes, mark, ask, contact, lift, after, afterAll, handedOver}
+use Rattle.demands.specs.Calls.{Moment, Call, lend, byte, bytes, mark, ask, contact, lift, after, afterAll, numberGiven, handedOver}
 use Rattle.demands.specs.Reports.{reportWaits, waitingReport, readBehind, acknowledgementOf}
 
 -- a number of the table and whether its condition holds
@@ -69,7 +70,7 @@ ofFrame (acceptedFrame command content ∷ reports) test = test command content
 unfoldable pub notCommand : ℕ → List ℕ → Bool
 notCommand command content = ltb command 0x80 || ltb 0x83 command
 
--- what is asked of the data of 0x80, 0x81, 0x82 and 0x83
+-- a condition on 0x80, on 0x81, on 0x82 and on 0x83
 unfoldable pub byCommand : ℕ → (write read store fetch : Bool) → Bool
 byCommand command write read store fetch =
     cond (eqb command 0x80) write (cond (eqb command 0x81) read (cond (eqb command 0x82) store (cond (eqb command 0x83) fetch false)))
@@ -78,14 +79,20 @@ byCommand command write read store fetch =
 -- one or more words"; "0x83, address (2), count (1)"
 unfoldable pub wrongData : ℕ → List ℕ → Bool
 wrongData command content =
-    byCommand command (ltb (length content) 2) (not (eqb (length content) 2)) (ltb (length content) 4 || eqb (length content % 2) 1)
+    byCommand command
+    (ltb (length content) 2)
+    (not (eqb (length content) 2))
+    (ltb (length content) 4 || eqb (length content % 2) 1)
     (not (eqb (length content) 3))
 
 -- 4: "address or its run passes the end". "Address plus count may not pass 256 (registers) or 28,672 (words)"
 unfoldable pub passesEnd : ℕ → List ℕ → Bool
 passesEnd command content =
-    byCommand command (ltb 256 (byteAt content 0 + length (drop 1 content))) (ltb 256 (byteAt content 0 + byteAt content 1))
-    (ltb 28672 (wordAt content 0 + length (wordsOf (drop 2 content)))) (ltb 28672 (wordAt content 0 + byteAt content 2))
+    byCommand command
+    (ltb 256 (byteAt content 0 + length (drop 1 content)))
+    (ltb 256 (byteAt content 0 + byteAt content 1))
+    (ltb 28672 (wordAt content 0 + length (wordsOf (drop 2 content))))
+    (ltb 28672 (wordAt content 0 + byteAt content 2))
 
 -- 5: "a write touches an unwritable register or half the page"
 unfoldable pub touchesUnwritable : ℕ → List ℕ → Bool
@@ -98,7 +105,11 @@ valueWrong pages command content = byCommand command (wrongValue (byteAt content
 -- 7: "reply frame's L would pass 255". "Reply 0x81, address, count, bytes"; "Reply 0x83, address, count, words"
 unfoldable pub replyPasses : (checking : Bool) → ℕ → List ℕ → Bool
 replyPasses checking command content =
-    byCommand command false (replyTooLong checking (2 + byteAt content 1)) false (replyTooLong checking (3 + (byteAt content 2 + byteAt content 2)))
+    byCommand command
+    false
+    (replyTooLong checking (2 + byteAt content 1))
+    false
+    (replyTooLong checking (3 + (byteAt content 2 + byteAt content 2)))
 
 -- 14: "words lent aren't 28,672, or reply .. room below 265"
 unfoldable pub wordsNotLent : List ℕ → Bool
@@ -159,6 +170,8 @@ printedWriter checking payload room = (14 when roomTooSmall room) ∷ (3 when lt
 
 -- 13: "the first wrong one is named"
 pub record NamesFirstWrong (setup : Setup) (table : List ℕ) (i : ℕ) : Type 0 where
+  -- one of the table's records, before the one that ends it
+  pub within : i < length (recordsOf table)
   pub is-wrong : goodRecord setup (recordAt table i) ≡ false
   pub first : (k : ℕ) → k < i → goodRecord setup (recordAt table k) ≡ true
 
@@ -172,12 +185,12 @@ pub record OnlyHandedOver (now later : Moment) : Type 0 where
   pub words-stand : later .words ≡ now .words
   pub only-acknowledged : later .room ≡ over (acknowledgementOf (now .panel .setup) command true) (now .room)
 
--- what a refused call leaves
+-- what a refused call leaves, by its number
 pub data Leaves (now : Moment) : Call → Type 0 where
-  -- "beyond that a refusal leaves the panel, the variable words and the reply room as they stood"
-  as-it-stood : (call : Call) → after now call ≡ now → Leaves now call
-  -- numbers 2 to 7
-  only-handed-over : OnlyHandedOver now (after now ask) → Leaves now ask
+  -- 2 to 7: "answers beside a frame's report, which counts as handed over, and its acknowledgement is written"
+  only-handed-over : 2 ≤ numberGiven now ask → numberGiven now ask ≤ 7 → OnlyHandedOver now (after now ask) → Leaves now ask
+  -- "otherwise a refusal changes nothing"
+  as-it-stood : (call : Call) → (numberGiven now call ≡ 1) ⊎ (8 ≤ numberGiven now call) → after now call ≡ now → Leaves now call
   -- of bytes one after the other, those in front were taken one by one, and the next comes while a report waits
   as-those-taken : (bs taken : List ℕ) (b : ℕ) (rest : List ℕ) → bs ≡ taken ++ (b ∷ rest) → after now (bytes bs) ≡ afterAll now (map byte taken)
       → reportWaits (after now (bytes bs) .panel) ≡ true → Leaves now (bytes bs)

@@ -6,11 +6,12 @@ use mathlib.Core.Path.{_≡_}
 use mathlib.Core.Logic.{_⊎_, _≢_}
 use mathlib.Core.Bool.{true, false, cond}
 use mathlib.Core.List.{List, [], _∷_, _++_}
+use lib.Dec.{eqb}
 use lib.ListN.{length, drop}
 use Rattle.wire.specs.ByteOrder.{highFirst, byteAt, wordAt}
 use Rattle.wire.specs.Room.{over}
 use Rattle.frame.specs.Frame.{frameOf}
-use Rattle.reading.specs.Place.{acceptedFrame}
+use Rattle.reading.specs.Place.{badCheck, acceptedFrame}
 use Rattle.reading.specs.Moves.{fresh}
 use Rattle.line.specs.State.{keptOf}
 use Rattle.registers.specs.declared.Registers.{Registers}
@@ -136,3 +137,21 @@ afterContact now table x y =
 
 unfoldable pub afterLift : Moment → Moment
 afterLift now = record { panel = withPad (now .panel) (Contact.lifted (padOf (now .panel))); words = now .words; room = now .room }
+
+-- what the four commands leave where they are done
+unfoldable pub afterCommand : Moment → (command : ℕ) → List ℕ → Moment
+afterCommand now command content =
+    cond (eqb command 0x80) (afterWrite now content)
+    (cond (eqb command 0x81) (afterRead now content)
+    (cond (eqb command 0x82) (afterStore now content)
+    (afterFetch now content)))
+
+-- All that asking can leave, by what it hands over and the number it is answered: nothing, a bad check, a command that is refused, or one that is done.
+pub data AskLeaves (now : Moment) : Type 0 where
+  nothing : handedOver now ask ≡ [] → (numberGiven now ask ≡ 0) ⊎ (numberGiven now ask ≡ 14) → after now ask ≡ now → AskLeaves now
+  bad-check : (command : ℕ) → handedOver now ask ≡ badCheck command ∷ [] → numberGiven now ask ≡ 0 → after now ask ≡ afterBadCheck now command
+      → AskLeaves now
+  refused : (command : ℕ) (content : List ℕ) → handedOver now ask ≡ acceptedFrame command content ∷ [] → 2 ≤ numberGiven now ask → numberGiven now ask ≤ 7
+      → after now ask ≡ leaving now command (now .panel .registers) (now .panel .catch) (now .words) [] → AskLeaves now
+  done : (command : ℕ) (content : List ℕ) → handedOver now ask ≡ acceptedFrame command content ∷ [] → numberGiven now ask ≡ 0
+      → 0x80 ≤ command → command ≤ 0x83 → after now ask ≡ afterCommand now command content → AskLeaves now

@@ -1,0 +1,108 @@
+-- All that asking can leave: the cases of specs/Demand2's AskLeaves are all there are.
+use mathlib.Core.Path.{_≡_, refl, ap, _∙_}
+use mathlib.Core.Logic.{_⊎_, inl, inr}
+use mathlib.Core.Bool.{Bool, true, false}
+use mathlib.Core.List.{List, [], _∷_}
+use Prim.Native.Nat.{ℕ}
+use native.Mathlib.Omega.{arith}
+use borrow.Author.Tests.{eqb-true, ltb-true, ltb-false}
+use lib.Dec.{eqb, ltb}
+use Rattle.reading.specs.Place as Place
+use Rattle.reading.specs.Place.{badCheck, acceptedFrame}
+use Rattle.line.specs.declared.Report.{Report}
+use Rattle.line.proofs.Truths.{never}
+use Rattle.commands.specs.Outcome as Outcome
+use Rattle.commands.specs.Outcome.{outcome}
+use Rattle.touch.specs.Setup.{checkingOf}
+use Rattle.panel.specs.declared.Handed.{Handed}
+use Rattle.panel.specs.declared.Handed.the-variants as handed
+use Rattle.panel.specs.Numbers.{reportNumber}
+use Rattle.panel.specs.Reporting.{Reporting, reports, reporting}
+use Rattle.panel.specs.Reachable.{Reachable}
+use Rattle.panel.proofs.Invariant.{reachable-sound}
+use Rattle.demands.specs.Calls.{Moment, ask, numberGiven, reportHanded, handedOver}
+use Rattle.demands.specs.Demand2.{afterCommand, AskLeaves, nothing, bad-check, refused, done}
+use Rattle.demands.proofs.Access.{handed-asks, done-number, writes-registers, reads-registers, stores-words, fetches-words, answers-bad-check, nothing-changes-nothing}
+use Rattle.demands.proofs.Refusals.{refused-frame}
+
+-- one report at most, and its number where it is none or a bad check
+one-report : (h : Handed) (payload : List ℕ) (r : Place.Report) (rest : List Place.Report) → reportHanded h payload ≡ r ∷ rest → rest ≡ []
+unfolding reportHanded
+one-report handed.NotLent payload r rest is = never (cc)
+one-report handed.Nothing payload r rest is = never (cc)
+one-report (handed.BadCheck command acknowledged) payload r rest is = cc
+one-report (handed.Accepted command count o acknowledged replied) payload r rest is = cc
+
+none-number : (h : Handed) (payload : List ℕ) → reportHanded h payload ≡ [] → (reportNumber h ≡ 0) ⊎ (reportNumber h ≡ 14)
+unfolding reportHanded reportNumber
+none-number handed.NotLent payload is = inr refl
+none-number handed.Nothing payload is = inl refl
+none-number (handed.BadCheck command acknowledged) payload is = never (cc)
+none-number (handed.Accepted command count o acknowledged replied) payload is = never (cc)
+
+bad-number : (h : Handed) (payload : List ℕ) (command : ℕ) → reportHanded h payload ≡ badCheck command ∷ [] → reportNumber h ≡ 0
+unfolding reportHanded reportNumber
+bad-number handed.NotLent payload command is = never (cc)
+bad-number handed.Nothing payload command is = never (cc)
+bad-number (handed.BadCheck c acknowledged) payload command is = refl
+bad-number (handed.Accepted c count o acknowledged replied) payload command is = never (cc)
+
+-- an accepted frame that is done is one of the four commands
+module _ (now : Moment) (reached : Reachable (now .panel)) (command : ℕ) (content : List ℕ) (hands : handedOver now ask ≡ acceptedFrame command content ∷ [])
+    (zero : numberGiven now ask ≡ 0) where
+  known : (eqb command 0x80 ≡ false) → (eqb command 0x81 ≡ false) → (eqb command 0x82 ≡ false) → (eqb command 0x83 ≡ false) → ⊥
+  unfolding outcome Outcome.numberOf
+  known a b c d =
+      let setup = now .panel .setup in
+      let number = done-number now (reachable-sound (now .panel) reached) command content (handed-asks now command content hands) in
+      let unknown : Outcome.numberOf (outcome (setup .pages) 28672 (checkingOf setup) command content) ≡ 2 = rw (a, b, c, d) in
+      omega arith
+
+  frame-done : AskLeaves now
+  unfolding afterCommand
+  frame-done = go (eqb command 0x80) refl (eqb command 0x81) refl (eqb command 0x82) refl (eqb command 0x83) refl
+    where
+      as-command : (c : ℕ) → command ≡ c → handedOver now ask ≡ acceptedFrame c content ∷ []
+      as-command c is = hands ∙ ap (λ (k : ℕ). acceptedFrame k content ∷ []) is
+
+      go : (a : Bool) → eqb command 0x80 ≡ a → (b : Bool) → eqb command 0x81 ≡ b → (c : Bool) → eqb command 0x82 ≡ c → (d : Bool) → eqb command 0x83 ≡ d
+          → AskLeaves now
+      go true p b q c r d s =
+          let is = eqb-true command 0x80 p in
+          done command content hands zero (omega arith) (omega arith) (writes-registers now reached content zero (as-command 0x80 is) ∙ rw p)
+      go false p true q c r d s =
+          let is = eqb-true command 0x81 q in
+          done command content hands zero (omega arith) (omega arith) (reads-registers now reached content zero (as-command 0x81 is) ∙ rw (p, q))
+      go false p false q true r d s =
+          let is = eqb-true command 0x82 r in
+          done command content hands zero (omega arith) (omega arith) (stores-words now reached content zero (as-command 0x82 is) ∙ rw (p, q, r))
+      go false p false q false r true s =
+          let is = eqb-true command 0x83 s in
+          done command content hands zero (omega arith) (omega arith) (fetches-words now reached content zero (as-command 0x83 is) ∙ rw (p, q, r))
+      go false p false q false r false s = absurd (known p q r s)
+
+pub asking-leaves : (now : Moment) → Reachable (now .panel) → AskLeaves now
+unfolding numberGiven handedOver
+asking-leaves now reached = go (handedOver now ask) refl
+  where
+    by : Reporting
+    by = reporting (now .panel) (now .words) (now .room)
+
+    frame : (command : ℕ) (content : List ℕ) → handedOver now ask ≡ acceptedFrame command content ∷ [] → (b : Bool) → ltb 0 (numberGiven now ask) ≡ b → AskLeaves now
+    frame command content hands true above =
+        let only =
+        refused-frame now (reachable-sound (now .panel) reached) command content (handed-asks now command content hands) (ltb-true 0 (numberGiven now ask) above) in
+        refused command content hands (only .at-least) (only .at-most) (only .left)
+    frame command content hands false none =
+        let most = ltb-false 0 (numberGiven now ask) none in
+        frame-done now reached command content hands (omega arith)
+
+    go : (reports : List Place.Report) → handedOver now ask ≡ reports → AskLeaves now
+    go [] hands = nothing hands (none-number (by .reported .handed) (by .reported .payload) hands) (nothing-changes-nothing now hands)
+    go (badCheck command ∷ rest) hands =
+        let alone = one-report (by .reported .handed) (by .reported .payload) (badCheck command) rest hands in
+        let bad : handedOver now ask ≡ badCheck command ∷ [] = hands ∙ ap (λ (l : List Place.Report). badCheck command ∷ l) alone in
+        bad-check command bad (bad-number (by .reported .handed) (by .reported .payload) command bad) (answers-bad-check now reached command bad)
+    go (acceptedFrame command content ∷ rest) hands =
+        let alone = one-report (by .reported .handed) (by .reported .payload) (acceptedFrame command content) rest hands in
+        frame command content (hands ∙ ap (λ (l : List Place.Report). acceptedFrame command content ∷ l) alone) (ltb 0 (numberGiven now ask)) refl
