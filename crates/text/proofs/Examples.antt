@@ -26,6 +26,11 @@ pub page-line : lineText (End 0x0000) ≡ 0x45 ∷ 0x20 ∷ 0x30 ∷ 0x30 ∷ 0x
 unfolding lineText lined hexByte hexDigit
 page-line = refl
 
+-- E A0FC
+pub letters-line : lineText (End 0xA0FC) ≡ 0x45 ∷ 0x20 ∷ 0x41 ∷ 0x30 ∷ 0x46 ∷ 0x43 ∷ 0x0A ∷ []
+unfolding lineText lined hexByte hexDigit
+letters-line = refl
+
 -- B 82
 pub bad-check-line : lineText (BadCheck 0x82) ≡ 0x42 ∷ 0x20 ∷ 0x38 ∷ 0x32 ∷ 0x0A ∷ []
 unfolding lineText lined hexByte hexDigit
@@ -40,3 +45,8 @@ trace-wrong-line = refl
 pub record-line : lineText (WrongRecord 5) ≡ 0x58 ∷ 0x20 ∷ 0x31 ∷ 0x33 ∷ 0x20 ∷ 0x35 ∷ 0x0A ∷ []
 unfolding lineText lined decimal
 record-line = refl
+
+-- X 13 255, the longest line but for the frames written
+pub longest-line : lineText (WrongRecord 255) ≡ 0x58 ∷ 0x20 ∷ 0x31 ∷ 0x33 ∷ 0x20 ∷ 0x32 ∷ 0x35 ∷ 0x35 ∷ 0x0A ∷ []
+unfolding lineText lined decimal
+longest-line = refl
