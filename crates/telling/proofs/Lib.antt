@@ -1,0 +1,4 @@
+pub mod Printing
+pub mod Bounds
+pub mod Telling
+pub mod Determined
