@@ -1,0 +1,21 @@
+-- `trace::put_record` meets its contract.
+use borrow.Author.Needs.{needs}
+use Rattle.trace.proofs.Items.{record-laid, not-put}
+use Rattle.trace.proofs.put_record.Statement.{statement}
+use Rattle.trace.proofs.put_record.Tie as tie
+
+pub put-record-spec : {M : Type 1} → statement M
+put-record-spec =
+    tie.close
+    (tie.spec
+    (λ c. search needs)
+    (λ c. search needs)
+    (λ c. search needs)
+    (λ c. search needs)
+    (λ c. search needs)
+    (λ c. search needs)
+    (λ c. search needs)
+    (λ c κs. search needs)
+    (λ c. search needs)
+    (λ c. search record-laid)
+    (λ c. search not-put))

@@ -1,0 +1,6 @@
+pub mod State
+pub mod Items
+pub mod Lines
+pub mod Events
+pub mod Steps
+pub mod Output

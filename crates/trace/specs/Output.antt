@@ -1,0 +1,82 @@
+-- What the trace program prints for an input.
+use Prim.Native.Nat.{ℕ, zero, suc}
+use mathlib.Core.Bool.{cond, _&&_}
+use mathlib.Core.List.{List, [], _∷_, _++_}
+use lib.Dec.{eqb, leb}
+use lib.ListN.{length, replicate}
+use Rattle.wire.specs.Room.{over}
+use Rattle.registers.specs.Touched.{pageOf}
+use Rattle.words.specs.Words.{wordCount}
+use Rattle.text.specs.declared.Line.the-variants as line
+use Rattle.text.specs.Text.{lineText}
+use Rattle.panel.specs.declared.Panel.{Panel}
+use Rattle.panel.specs.declared.StartAnswer.{StartAnswer}
+use Rattle.panel.specs.declared.StartAnswer.the-variants as start
+use Rattle.trace.specs.declared.Stage.{Stage}
+use Rattle.trace.specs.declared.Stage.the-variants.{Bare, Ready, Started, Over}
+use Rattle.trace.specs.declared.Trace.{Trace}
+use Rattle.trace.specs.declared.Ended.{Ended}
+use Rattle.trace.specs.declared.Answer.the-variants.{Done, NotLent}
+use Rattle.telling.specs.Told.{leastText}
+use Rattle.trace.specs.State.{Held, holds, Shown, showsTold, following, newTrace, tableBytes, tableOf, waits}
+use Rattle.trace.specs.Lines.{refusalText, wrongText}
+use Rattle.trace.specs.Events.{startedBy, tookByte}
+use Rattle.telling.specs.Events.{askedOnce}
+
+-- "Reports are asked for after each event until 'nothing'." Each leaves fewer of the at most 258 bytes kept, so 258 are enough.
+unfoldable pub allReports : ℕ → Held → Shown
+allReports zero held = record { held = held; text = [] }
+allReports (suc n) held =
+    let one = showsTold (held .trace) (held .table) (askedOnce (held .trace .panel) (held .words)) in
+    cond (waits (held .trace)) (following (one .text) (allReports n (one .held))) (record { held = held; text = [] })
+
+-- "at the end `E pppp` the page"; "`X n` instead, where start .. fails"
+unfoldable pub endAnswered : StartAnswer → Panel → List ℕ
+endAnswered start.Started panel = lineText (line.End (pageOf (panel .registers)))
+endAnswered start.WrongSetup panel = refusalText start.WrongSetup
+endAnswered start.NotRecords panel = refusalText start.NotRecords
+endAnswered (start.WrongRecord i) panel = refusalText (start.WrongRecord i)
+
+unfoldable pub endStarted : Trace → List ℕ → List ℕ
+endStarted trace table =
+    let begun = startedBy trace (tableOf (trace .records) table) in
+    endAnswered (begun .answer) (begun .panel)
+
+-- "else 15, as for a cut record, .. or no setup"
+unfoldable pub endAt : Stage → Trace → List ℕ → List ℕ
+endAt Bare trace table = wrongText
+endAt Ready trace table = endStarted trace table
+endAt Started trace table = endStarted trace table
+endAt Over trace table = []
+
+unfoldable pub endText : Trace → List ℕ → List ℕ
+endText trace table = cond (eqb (trace .have) 0) (endAt (trace .stage) trace table) wrongText
+
+-- what the end of the input answers, and the room as it leaves it
+pub record Ending : Type 0 where
+  pub ended : Ended
+  pub room : List ℕ
+
+abbrev pub ends : Ended → List ℕ → Ending
+ends ended room = record { ended = ended; room = room }
+
+unfoldable pub ending : Trace → List ℕ → List ℕ → Ending
+ending trace table room =
+    let text = endText trace table in
+    cond (leb tableBytes (length table) && leb leastText (length room)) (ends (record { answer = Done; count = length text }) (over text room))
+    (ends (record { answer = NotLent; count = 0 }) room)
+
+-- after each byte the reports; at the end the last line; nothing after an X
+unfoldable pub printed : Held → List ℕ → List ℕ
+printed held [] = endText (held .trace) (held .table)
+printed held (b ∷ input) =
+    let one = tookByte (held .trace) (held .table) (held .words) b in
+    let all = allReports 258 (one .held) in
+    one .text ++ (all .text ++ printed (all .held) input)
+
+-- "The words begin as 0."
+unfoldable pub newHeld : Held
+newHeld = holds newTrace (replicate tableBytes 0) (replicate wordCount 0)
+
+unfoldable pub traceOutput : List ℕ → List ℕ
+traceOutput input = printed newHeld input
