@@ -1,0 +1,149 @@
+-- Laws of `allReports`: each report leaves fewer of the at most 258 bytes kept, so asking more often changes nothing.
+use mathlib.Core.Path.{_≡_, refl, sym, ap, _∙_}
+use mathlib.Core.Bool.{Bool, true, false, not, _&&_}
+use mathlib.Core.List.{List, []}
+use Prim.Native.Nat.{ℕ, zero, suc, _≤_, _<_}
+use native.Mathlib.Omega.{arith}
+use borrow.Author.Tests.{eq-eqb, ltb-true, not-false}
+use lib.Dec.{ltb}
+use lib.ListN.{length}
+use Rattle.frame.specs.Writer.{leastRoom}
+use Rattle.reading.specs.Place.{Rules, Seen, pass, wait, bad, accepted, look, reportOf}
+use Rattle.reading.specs.Moves.{Kept, isReport, waiting, handed, afterReport}
+use Rattle.reading.proofs.Moves.{report-shorter}
+use Rattle.line.specs.declared.Line.{Line}
+use Rattle.line.specs.declared.Reader.{Reader}
+use Rattle.line.specs.declared.Report.{Report}
+use Rattle.line.specs.declared.Report.the-variants as line
+use Rattle.line.specs.declared.Asked.{Asked}
+use Rattle.line.specs.State.{rulesFor, readerOf}
+use Rattle.line.specs.Methods.{busy, isAnswer, asked}
+use Rattle.line.specs.Reached.{reportAs}
+use Rattle.line.proofs.Carried.{waiting-is, ask-carried}
+use Rattle.line.proofs.Truths.{never, and-left}
+use Rattle.words.specs.Words.{wordCount}
+use Rattle.panel.specs.declared.Panel.{Panel}
+use Rattle.panel.specs.Reporting.{lent, handing, reporting}
+use Rattle.panel.specs.Sound.{lineOf, Sound}
+use Rattle.trace.specs.State.{Held, Shown, showsTold, following, waits, isStarted}
+use Rattle.telling.specs.Events.{replyRoom, askedOnce}
+use Rattle.trace.specs.Output.{allReports}
+use Rattle.printing.proofs.HeldSound.{HeldSound, waits-started, report-held-sound}
+
+-- ---- A report that waits is handed over, and leaves fewer bytes
+
+some-report : (rules : Rules) (seen : Seen) → isReport seen ≡ true → reportAs (reportOf rules seen) ≡ line.Nothing → ⊥
+unfolding isReport reportOf reportAs
+some-report rules pass is none = never (cc)
+some-report rules wait is none = never (cc)
+some-report rules (bad body) is none = never (cc)
+some-report rules (accepted body) is none = never (cc)
+
+-- with all the words lent, the reader is left as asking it leaves it
+handed-reader : (a : Asked) (report : Report) (panel : Panel) (words room : List ℕ) → (report ≡ line.Nothing → ⊥)
+    → handing a report panel words room .reported .panel .reader ≡ a .reader
+unfolding handing
+handed-reader a line.Nothing panel words room some = absurd (some refl)
+handed-reader a (line.BadCheck command) panel words room some = refl
+handed-reader a (line.Accepted command count) panel words room some = refl
+
+all-lent : (words : List ℕ) → length words ≡ wordCount → lent (length words) (length replyRoom) ≡ true
+unfolding lent replyRoom leastRoom
+all-lent words long = rw (eq-eqb (length words) wordCount long)
+
+module _ (panel : Panel) (words : List ℕ) (sound : Sound panel) (is-busy : busy (panel .reader) ≡ true) where
+  abbrev line-is : Line
+  line-is = lineOf (panel .setup)
+
+  abbrev kept-is : Kept
+  kept-is = sound .reads .kept
+
+  is-waiting : waiting (rulesFor line-is) kept-is ≡ true
+  is-waiting = sym (waiting-is line-is kept-is (sound .reads .reached)) ∙ ap (λ (r : Reader). busy r) (sym (sound .reads .is)) ∙ is-busy
+
+  asked-is : asked (panel .reader) ≡ asked (readerOf line-is kept-is)
+  asked-is = ap (λ (r : Reader). asked r) (sound .reads .is)
+
+  not-nothing : asked (panel .reader) .report ≡ line.Nothing → ⊥
+  unfolding waiting handed
+  not-nothing is =
+      some-report (rulesFor line-is) (look (rulesFor line-is) (kept-is .closed) (kept-is .bytes)) is-waiting
+      (sym (ap (λ (a : Asked). a .report) (asked-is ∙ ask-carried line-is kept-is (sound .reads .reached .few))) ∙ is)
+
+  reader-left : length words ≡ wordCount → askedOnce panel words .panel .reader ≡ asked (panel .reader) .reader
+  unfolding askedOnce reporting
+  reader-left long = rw (all-lent words long) (handed-reader (asked (panel .reader)) (asked (panel .reader) .report) panel words replyRoom not-nothing)
+
+  pub report-less : length words ≡ wordCount → askedOnce panel words .panel .reader .len < panel .reader .len
+  report-less long =
+      let before : panel .reader .len ≡ length (kept-is .bytes) = ap (λ (r : Reader). r .len) (sound .reads .is) in
+      let left : askedOnce panel words .panel .reader ≡ readerOf line-is (afterReport (rulesFor line-is) kept-is) =
+      reader-left long ∙ ap (λ (a : Asked). a .reader) (asked-is ∙ ask-carried line-is kept-is (sound .reads .reached .few)) in
+      let after : askedOnce panel words .panel .reader .len ≡ length (afterReport (rulesFor line-is) kept-is .bytes) = ap (λ (r : Reader). r .len) left in
+      omega (arith, report-shorter (rulesFor line-is) kept-is is-waiting)
+
+-- ---- Asking again and again
+
+-- how many bytes the reader keeps
+abbrev pub keptBy : Held → ℕ
+keptBy held = held .trace .panel .reader .len
+
+-- one report handed over
+abbrev pub reportShown : Held → Shown
+reportShown held = showsTold (held .trace) (held .table) (askedOnce (held .trace .panel) (held .words))
+
+pub report-fewer : (held : Held) → HeldSound held → waits (held .trace) ≡ true → keptBy (reportShown held .held) < keptBy held
+report-fewer held sound is =
+    report-less (held .trace .panel) (held .words) (sound .panel (waits-started (held .trace) (held .table) (held .words) sound is)) is (sound .words)
+
+pub report-stays-sound : (held : Held) → HeldSound held → waits (held .trace) ≡ true → HeldSound (reportShown held .held)
+report-stays-sound held sound is = report-held-sound (held .trace) (held .table) (held .words) sound is
+
+-- never more than 258 bytes are kept
+pub kept-258 : (held : Held) → HeldSound held → keptBy held ≤ 258
+kept-258 held sound = go (isStarted (held .trace .stage)) refl
+  where
+    go : (b : Bool) → isStarted (held .trace .stage) ≡ b → keptBy held ≤ 258
+    go true is =
+        let reads = sound .panel is .reads in
+        let long : keptBy held ≡ length (reads .kept .bytes) = ap (λ (r : Reader). r .len) (reads .is) in
+        omega (arith, reads .reached .few)
+    go false is =
+        let room = ltb (keptBy held) 258 in
+        let free : (room && not (isAnswer (held .trace .panel .reader .head))) ≡ true = not-false _ (sound .quiet is) in
+        omega (arith, ltb-true (keptBy held) 258 (and-left room (not (isAnswer (held .trace .panel .reader .head))) free))
+
+pub none-reported : (n : ℕ) (held : Held) → waits (held .trace) ≡ false → allReports n held ≡ record { held = held; text = [] }
+unfolding allReports
+none-reported zero held quiet = refl
+none-reported (suc n) held quiet = rw quiet
+
+one-reported : (n : ℕ) (held : Held) → waits (held .trace) ≡ true
+    → allReports (suc n) held ≡ following (reportShown held .text) (allReports n (reportShown held .held))
+unfolding allReports
+one-reported n held is = rw is
+
+enough : (n : ℕ) (held : Held) → HeldSound held → keptBy held ≤ n → allReports (suc n) held ≡ allReports n held
+enough zero held sound few = go (waits (held .trace)) refl
+  where
+    go : (b : Bool) → waits (held .trace) ≡ b → allReports 1 held ≡ allReports 0 held
+    go true is = absurd (omega (arith, report-fewer held sound is))
+    go false is = none-reported 1 held is ∙ sym (none-reported 0 held is)
+enough (suc n) held sound few = go (waits (held .trace)) refl (enough n (reportShown held .held))
+  where
+    go : (b : Bool) → waits (held .trace) ≡ b
+        → (HeldSound (reportShown held .held) → keptBy (reportShown held .held) ≤ n → allReports (suc n) (reportShown held .held) ≡ allReports n (reportShown held .held))
+        → allReports (suc (suc n)) held ≡ allReports (suc n) held
+    go true is rest =
+        one-reported (suc n) held is
+        ∙ ap (λ (s : Shown). following (reportShown held .text) s) (rest (report-stays-sound held sound is) (omega (arith, report-fewer held sound is)))
+        ∙ sym (one-reported n held is)
+    go false is rest = none-reported (suc (suc n)) held is ∙ sym (none-reported (suc n) held is)
+
+-- a report that waits is the first of all
+pub first-reported : (held : Held) → HeldSound held → waits (held .trace) ≡ true
+    → allReports 258 held ≡ following (reportShown held .text) (allReports 258 (reportShown held .held))
+first-reported held sound is =
+    one-reported 257 held is
+    ∙ ap (λ (s : Shown). following (reportShown held .text) s)
+    (sym (enough 257 (reportShown held .held) (report-stays-sound held sound is) (omega (arith, report-fewer held sound is, kept-258 held sound))))

@@ -1,0 +1,236 @@
+-- What every trace keeps that is reached from a new one, with what is lent to it: every byte, report and run of line bytes keeps it.
+use mathlib.Core.Path.{_≡_, refl, sym, _∙_}
+use mathlib.Core.Bool.{Bool, true, false, not, _&&_}
+use mathlib.Core.List.{List, [], _∷_}
+use Prim.Native.Nat.{ℕ, zero, suc, _+_, _*_, _≤_, _<_}
+use native.Mathlib.Omega.{arith}
+use borrow.Author.Tests.{ltb-true}
+use lib.Dec.{eqb, ltb, leb}
+use lib.ListN.{length, drop, set, replicate, length-set, length-replicate, length-drop}
+use Rattle.wire.specs.Bytes.{Bytes}
+use Rattle.wire.specs.ByteOrder.{byteAt, wordAt}
+use Rattle.wire.proofs.LaidAt.{length-laidAt}
+use Rattle.frame.specs.Frame.{headerBytes}
+use Rattle.reading.specs.Place.{look, behind, cutShort}
+use Rattle.line.proofs.Truths.{never}
+use Rattle.words.specs.Words.{wordCount}
+use Rattle.panel.specs.declared.Panel.{Panel}
+use Rattle.panel.specs.declared.Start.{Start}
+use Rattle.panel.specs.declared.StartAnswer.{StartAnswer}
+use Rattle.panel.specs.declared.StartAnswer.the-variants as start
+use Rattle.panel.specs.Start.{newPanel, noPanel}
+use Rattle.panel.specs.Inputs.{fedBytes}
+use Rattle.panel.specs.Sound.{Sound}
+use Rattle.panel.proofs.Soundness.{byte-sound, mark-sound, bytes-sound, report-sound, contact-sound, lift-sound}
+use Rattle.panel.proofs.Invariant.{started-sound}
+use Rattle.trace.specs.declared.Trace.{Trace}
+use Rattle.telling.specs.Told.{Told, tells}
+use Rattle.trace.specs.State.{Held, holds, Shown, showsTold, noItem, keptRecords, tableBytes, tableOf, newTrace, idle, withPanel, stopped, waits, isStarted, isOver}
+use Rattle.trace.specs.Items.{bodyLength, mayCome, recordPut}
+use Rattle.telling.specs.Events.{contactTold, liftTold, event}
+use Rattle.trace.specs.Events.{startedBy, eventAnswered, eventDone, itemDone, grown, tookByte}
+use Rattle.telling.specs.Events.{replyRoom, askedOnce}
+use Rattle.trace.specs.Output.{newHeld}
+use Rattle.printing.proofs.ByTest.{by-test}
+use Rattle.printing.proofs.WordLengths.{reported-words, contacted-words}
+
+-- an item is gathered in 33 bytes, all 0 between two items
+pub record ItemSound (trace : Trace) : Type 0 where
+  pub long : length (trace .item) ≡ 33
+  pub are-bytes : Bytes (trace .item)
+  pub none : trace .have ≡ 0 → trace .item ≡ noItem
+
+pub record HeldSound (held : Held) : Type 0 where
+  -- the panel is sound once it is started; before that, and after an X, no report waits
+  pub panel : isStarted (held .trace .stage) ≡ true → Sound (held .trace .panel)
+  pub quiet : isStarted (held .trace .stage) ≡ false → waits (held .trace) ≡ false
+  pub item : ItemSound (held .trace)
+  pub table : tableBytes ≤ length (held .table)
+  pub words : length (held .words) ≡ wordCount
+
+bytes-zeros : (n : ℕ) → Bytes (replicate n 0)
+bytes-zeros zero i = omega arith
+bytes-zeros (suc n) zero = omega arith
+bytes-zeros (suc n) (suc i) = bytes-zeros n i
+
+bytes-set : (xs : List ℕ) (k b : ℕ) → b < 256 → Bytes xs → Bytes (set xs k b)
+bytes-set [] k b byte are i = are i
+bytes-set (x ∷ xs) zero b byte are zero = byte
+bytes-set (x ∷ xs) zero b byte are (suc i) = are (suc i)
+bytes-set (x ∷ xs) (suc k) b byte are zero = are 0
+bytes-set (x ∷ xs) (suc k) b byte are (suc i) = bytes-set xs k b byte (λ j. are (suc j)) i
+
+no-item-sound : (trace : Trace) → ItemSound (idle trace)
+unfolding noItem
+no-item-sound trace = record { long = length-replicate {A = ℕ} 33 0; are-bytes = bytes-zeros 33; none = λ zero. refl }
+
+-- ---- A new trace
+
+pub new-quiet : waits newTrace ≡ false
+unfolding newTrace noPanel newPanel look behind cutShort headerBytes
+new-quiet = refl
+
+pub new-held-sound : HeldSound newHeld
+unfolding newHeld newTrace isStarted
+new-held-sound =
+    record {
+      panel = λ is. never (cc);
+      quiet = λ is. new-quiet;
+      item = no-item-sound newTrace;
+      table = omega (arith, length-replicate {A = ℕ} tableBytes 0);
+      words = length-replicate {A = ℕ} wordCount 0;
+    }
+
+-- ---- An event and a report, of the panel
+
+record ToldSound (told : Told) : Type 0 where
+  panel : Sound (told .panel)
+  words : length (told .words) ≡ wordCount
+
+event-sound : (panel : Panel) (table words item : List ℕ) → Sound panel → length words ≡ wordCount → Bytes item → ToldSound (event panel table words item)
+unfolding event contactTold liftTold
+event-sound panel table words item sound long are =
+    by-test ToldSound (eqb (byteAt item 0) 1) _ _ (λ is. record { panel = byte-sound panel sound (byteAt item 1) (are 1); words = long })
+    (λ not-1. by-test ToldSound (eqb (byteAt item 0) 2) _ _ (λ is. record { panel = mark-sound panel sound; words = long })
+    (λ not-2. by-test ToldSound (eqb (byteAt item 0) 3) _ _
+    (λ is. record {
+      panel = contact-sound panel sound table words (wordAt item 1) (wordAt item 3);
+      words = contacted-words panel table words (wordAt item 1) (wordAt item 3) ∙ long;
+    })
+    (λ not-3. record { panel = lift-sound panel sound; words = long })))
+
+asked-sound : (panel : Panel) (words : List ℕ) → Sound panel → length words ≡ wordCount → ToldSound (askedOnce panel words)
+unfolding askedOnce
+asked-sound panel words sound long =
+    record { panel = report-sound panel sound words replyRoom; words = reported-words panel words replyRoom ∙ long }
+
+-- a panel that a start gave is sound
+begun-sound : (trace : Trace) (part : List ℕ) → (isStarted (trace .stage) ≡ true → Sound (trace .panel)) → startedBy trace part .answer ≡ start.Started
+    → Sound (startedBy trace part .panel)
+unfolding startedBy
+begun-sound trace part sound =
+    by-test (λ (s : Start). s .answer ≡ start.Started → Sound (s .panel)) (isStarted (trace .stage)) _ _ (λ is answer. sound is)
+    (λ not-yet answer. started-sound (trace .setup) part answer)
+
+-- ---- The trace with one thing changed
+
+module _ (trace : Trace) (table words : List ℕ) (item : ItemSound trace) (lent : tableBytes ≤ length table) where
+  told-sound : (told : Told) → ToldSound told → HeldSound (showsTold trace table told .held)
+  unfolding isStarted
+  told-sound told sound =
+      record {
+        panel = λ is. sound .panel;
+        quiet = λ is. never (cc);
+        item = record { long = item .long; are-bytes = item .are-bytes; none = item .none };
+        table = lent;
+        words = sound .words;
+      }
+
+  module _ (long : length words ≡ wordCount) (none-waits : waits trace ≡ false) where
+    stopped-sound : HeldSound (holds (stopped trace) table words)
+    unfolding isStarted
+    stopped-sound =
+        record {
+          panel = λ is. never (cc);
+          quiet = λ is. none-waits;
+          item = record { long = item .long; are-bytes = item .are-bytes; none = item .none };
+          table = lent;
+          words = long;
+        }
+
+    module _ (sound : isStarted (trace .stage) ≡ true → Sound (trace .panel)) where
+      answered-sound : (answer : StartAnswer) (panel : Panel) (gathered : List ℕ) → Bytes gathered → (answer ≡ start.Started → Sound panel)
+          → HeldSound (eventAnswered answer panel trace table words gathered .held)
+      unfolding eventAnswered
+      answered-sound start.Started panel gathered are begun =
+          told-sound (event panel (tableOf (trace .records) table) words gathered)
+          (event-sound panel (tableOf (trace .records) table) words gathered (begun refl) long are)
+      answered-sound start.WrongSetup panel gathered are begun = stopped-sound
+      answered-sound start.NotRecords panel gathered are begun = stopped-sound
+      answered-sound (start.WrongRecord i) panel gathered are begun = stopped-sound
+
+      event-done-sound : (gathered : List ℕ) → Bytes gathered → HeldSound (eventDone trace table words gathered .held)
+      unfolding eventDone
+      event-done-sound gathered are =
+          let part = tableOf (trace .records) table in
+          answered-sound (startedBy trace part .answer) (startedBy trace part .panel) gathered are (begun-sound trace part sound)
+
+put-table : (records : ℕ) (gathered table : List ℕ) → length gathered ≡ 33 → tableBytes ≤ length table → tableBytes ≤ length (recordPut records gathered table)
+unfolding recordPut tableBytes keptRecords
+put-table records gathered table long lent =
+    by-test (λ (l : List ℕ). 4128 ≤ length l) (ltb records 129) _ _
+    (λ more.
+    let fits : records * 32 + length (drop 1 gathered) ≤ length table = simp length-drop (omega (arith, ltb-true records 129 more)) in
+    omega (arith, length-laidAt table (drop 1 gathered) (records * 32) fits))
+    (λ full. lent)
+
+-- ---- One byte
+
+item-sound : (trace : Trace) (table words gathered : List ℕ) → HeldSound (holds trace table words) → waits trace ≡ false → length gathered ≡ 33 → Bytes gathered
+    → HeldSound (itemDone trace table words gathered .held)
+unfolding itemDone isStarted
+item-sound trace table words gathered sound none-waits long are =
+    by-test (λ (s : Shown). HeldSound (s .held)) (eqb (byteAt gathered 0) 0) _ _
+    (λ is. record {
+      panel = λ no. never (cc);
+      quiet = λ no. none-waits;
+      item = record { long = sound .item .long; are-bytes = sound .item .are-bytes; none = sound .item .none };
+      table = sound .table;
+      words = sound .words;
+    })
+    (λ not-0. by-test (λ (s : Shown). HeldSound (s .held)) (eqb (byteAt gathered 0) 5) _ _
+    (λ is. record {
+      panel = sound .panel;
+      quiet = sound .quiet;
+      item = record { long = sound .item .long; are-bytes = sound .item .are-bytes; none = sound .item .none };
+      table = put-table (trace .records) gathered table long (sound .table);
+      words = sound .words;
+    })
+    (λ not-5. event-done-sound trace table words (sound .item) (sound .table) (sound .words) none-waits (sound .panel) gathered are))
+
+module _ (trace : Trace) (table words : List ℕ) (b : ℕ) (byte : b < 256) (sound : HeldSound (holds trace table words)) (none-waits : waits trace ≡ false) where
+  grown-sound : HeldSound (grown trace table words b .held)
+  unfolding grown
+  grown-sound =
+      let gathered = set (trace .item) (trace .have) b in
+      let long : length gathered ≡ 33 = length-set (trace .item) (trace .have) b ∙ sound .item .long in
+      let are : Bytes gathered = bytes-set (trace .item) (trace .have) b byte (sound .item .are-bytes) in
+      by-test (λ (s : Shown). HeldSound (s .held)) (leb (bodyLength (byteAt gathered 0)) (trace .have)) _ _
+      (λ whole. item-sound (idle trace) table words gathered
+      (record { panel = sound .panel; quiet = sound .quiet; item = no-item-sound trace; table = sound .table; words = sound .words }) none-waits long are)
+      (λ more. record {
+        panel = sound .panel;
+        quiet = sound .quiet;
+        item = record { long = long; are-bytes = are; none = λ is. absurd (omega arith) };
+        table = sound .table;
+        words = sound .words;
+      })
+
+  pub byte-held-sound : HeldSound (tookByte trace table words b .held)
+  unfolding tookByte
+  byte-held-sound =
+      by-test (λ (s : Shown). HeldSound (s .held)) (isOver (trace .stage)) _ _ (λ over. sound)
+      (λ going. by-test (λ (s : Shown). HeldSound (s .held)) (eqb (trace .have) 0 && not (mayCome (trace .stage) b)) _ _
+      (λ wrong. stopped-sound trace table words (sound .item) (sound .table) (sound .words) none-waits) (λ right. grown-sound))
+
+-- ---- A report, and a run
+
+module _ (trace : Trace) (table words : List ℕ) (sound : HeldSound (holds trace table words)) where
+  -- a report waits only in a panel that is started
+  pub waits-started : waits trace ≡ true → isStarted (trace .stage) ≡ true
+  waits-started is = go (isStarted (trace .stage)) refl
+    where
+      go : (b : Bool) → isStarted (trace .stage) ≡ b → b ≡ true
+      go true so = refl
+      go false so = let z : _≡_ {A = Bool} true false = sym is ∙ sound .quiet so in never (cc)
+
+  pub report-held-sound : waits trace ≡ true → HeldSound (showsTold trace table (askedOnce (trace .panel) words) .held)
+  report-held-sound is =
+      told-sound trace table words (sound .item) (sound .table) (askedOnce (trace .panel) words)
+      (asked-sound (trace .panel) words (sound .panel (waits-started is)) (sound .words))
+
+  pub run-held-sound : (bytes : List ℕ) → isStarted (trace .stage) ≡ true → Bytes bytes
+      → HeldSound (holds (withPanel trace (fedBytes (trace .panel) bytes .panel)) table words)
+  run-held-sound bytes is are =
+      told-sound trace table words (sound .item) (sound .table) (tells (fedBytes (trace .panel) bytes .panel) words [])
+      (record { panel = bytes-sound (trace .panel) (sound .panel is) bytes are; words = sound .words })

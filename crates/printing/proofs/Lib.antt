@@ -1,0 +1,8 @@
+pub mod ByTest
+pub mod WordLengths
+pub mod HeldSound
+pub mod AllReports
+pub mod Outputs
+pub mod Onward
+pub mod Feeding
+pub mod Example

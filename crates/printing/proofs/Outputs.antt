@@ -1,0 +1,111 @@
+-- Laws of what is printed from some point on: of a report, of a byte, and of a run of line bytes.
+use mathlib.Core.Path.{_≡_, refl, ap, _∙_}
+use mathlib.Core.Bool.{Bool, true, false, cond}
+use mathlib.Core.List.{List, [], _∷_, _++_, append-assoc}
+use Prim.Native.Nat.{ℕ, zero, suc, _+_, _*_}
+use native.Mathlib.Omega.{arith}
+use borrow.Author.Tests.{eqb-true}
+use lib.Dec.{eqb}
+use lib.ListN.{drop, set}
+use Rattle.line.specs.Methods.{busy, givenBytes}
+use Rattle.touch.specs.declared.Setup.{Setup}
+use Rattle.panel.specs.declared.Panel.{Panel}
+use Rattle.panel.specs.declared.FedBytes.{FedBytes}
+use Rattle.panel.specs.Inputs.{fedByte, fedBytes}
+use Rattle.trace.specs.declared.Stage.the-variants.{Started}
+use Rattle.trace.specs.declared.Trace.{Trace}
+use Rattle.trace.specs.State.{Held, holds, Shown, noItem, gathering, waits, isStarted, isOver}
+use Rattle.trace.specs.Items.{bodyLength, mayCome}
+use Rattle.telling.specs.Events.{event}
+use Rattle.trace.specs.Events.{startedBy, eventAnswered, eventDone, itemDone, grown, tookByte}
+use Rattle.trace.specs.Steps.{lineRun}
+use Rattle.trace.specs.Output.{allReports, printed}
+use Rattle.printing.proofs.HeldSound.{HeldSound}
+use Rattle.printing.proofs.AllReports.{reportShown, none-reported, first-reported}
+
+-- the reports that wait, and then what the input prints
+unfoldable pub outputFrom : Held → List ℕ → List ℕ
+outputFrom held input = allReports 258 held .text ++ printed (allReports 258 held .held) input
+
+pub quiet-output : (held : Held) (input : List ℕ) → waits (held .trace) ≡ false → outputFrom held input ≡ printed held input
+unfolding outputFrom
+quiet-output held input quiet = ap (λ (s : Shown). s .text ++ printed (s .held) input) (none-reported 258 held quiet)
+
+pub report-output : (held : Held) (input : List ℕ) → HeldSound held → waits (held .trace) ≡ true
+    → outputFrom held input ≡ reportShown held .text ++ outputFrom (reportShown held .held) input
+unfolding outputFrom
+report-output held input sound is =
+    let later = allReports 258 (reportShown held .held) in
+    ap (λ (s : Shown). s .text ++ printed (s .held) input) (first-reported held sound is)
+    ∙ append-assoc (reportShown held .text) (later .text) (printed (later .held) input)
+
+pub byte-output : (held : Held) (b : ℕ) (input : List ℕ) → waits (held .trace) ≡ false
+    → outputFrom held (b ∷ input)
+    ≡ tookByte (held .trace) (held .table) (held .words) b .text ++ outputFrom (tookByte (held .trace) (held .table) (held .words) b .held) input
+unfolding outputFrom printed
+byte-output held b input quiet = ap (λ (s : Shown). s .text ++ printed (s .held) (b ∷ input)) (none-reported 258 held quiet)
+
+-- ---- A run of line bytes
+
+pub fed-none : (panel : Panel) (b : ℕ) (bytes : List ℕ) → busy (panel .reader) ≡ true → fedBytes panel (b ∷ bytes) ≡ record { used = 0; panel = panel }
+unfolding fedBytes givenBytes
+fed-none panel b bytes is = rw is
+
+pub fed-more : (panel : Panel) (b : ℕ) (bytes : List ℕ) → busy (panel .reader) ≡ false
+    → fedBytes panel (b ∷ bytes) ≡ record { used = 1 + fedBytes (fedByte panel b .panel) bytes .used; panel = fedBytes (fedByte panel b .panel) bytes .panel }
+unfolding fedBytes fedByte givenBytes
+fed-more panel b bytes is = rw is
+
+-- between two items of a panel that is started
+abbrev pub between : Setup → ℕ → Panel → Trace
+between setup records panel = record { stage = Started; item = noItem; have = 0; setup = setup; records = records; panel = panel }
+
+module _ (setup : Setup) (records : ℕ) (table words : List ℕ) where
+  abbrev pub lined : Panel → Held
+  lined panel = holds (between setup records panel) table words
+
+  abbrev kindTaken : Panel → Held
+  kindTaken panel = holds (gathering (between setup records panel) (set noItem 0 1) 1) table words
+
+  kind-taken : (panel : Panel) → tookByte (between setup records panel) table words 1 ≡ record { held = kindTaken panel; text = [] }
+  unfolding tookByte isOver mayCome grown bodyLength noItem
+  kind-taken panel = refl
+
+  byte-taken : (panel : Panel) (b : ℕ) → tookByte (kindTaken panel .trace) table words b ≡ record { held = lined (fedByte panel b .panel); text = [] }
+  unfolding tookByte isOver isStarted grown bodyLength noItem itemDone eventDone startedBy eventAnswered event
+  byte-taken panel b = refl
+
+  line-byte-output : (panel : Panel) (b : ℕ) (input : List ℕ) → busy (panel .reader) ≡ false
+      → outputFrom (lined panel) (1 ∷ b ∷ input) ≡ outputFrom (lined (fedByte panel b .panel)) input
+  line-byte-output panel b input quiet =
+      byte-output (lined panel) 1 (b ∷ input) quiet
+      ∙ ap (λ (s : Shown). s .text ++ outputFrom (s .held) (b ∷ input)) (kind-taken panel)
+      ∙ byte-output (kindTaken panel) b input quiet
+      ∙ ap (λ (s : Shown). s .text ++ outputFrom (s .held) input) (byte-taken panel b)
+
+  -- what is printed from before a run is printed from behind it
+  module _ (rest : List ℕ) where
+    abbrev pub RanOver : Panel → List ℕ → FedBytes → Type 0
+    RanOver panel chunk fed = outputFrom (lined panel) (chunk ++ rest) ≡ outputFrom (lined (fed .panel)) (drop (fed .used * 2) chunk ++ rest)
+
+    item-ran : (panel : Panel) (b : ℕ) (chunk bytes : List ℕ) → RanOver (fedByte panel b .panel) chunk (fedBytes (fedByte panel b .panel) bytes)
+        → RanOver panel (1 ∷ b ∷ chunk) (fedBytes panel (b ∷ bytes))
+    item-ran panel b chunk bytes later = go (busy (panel .reader)) refl
+      where
+        go : (w : Bool) → busy (panel .reader) ≡ w → RanOver panel (1 ∷ b ∷ chunk) (fedBytes panel (b ∷ bytes))
+        go true is = rw (fed-none panel b bytes is)
+        go false is =
+            let two : (1 + fedBytes (fedByte panel b .panel) bytes .used) * 2 ≡ suc (suc (fedBytes (fedByte panel b .panel) bytes .used * 2)) = omega arith in
+            rw (fed-more panel b bytes is, two) (line-byte-output panel b (chunk ++ rest) is ∙ later)
+
+    pub run-output : (n : ℕ) (panel : Panel) (chunk : List ℕ) → RanOver panel chunk (fedBytes panel (lineRun n chunk))
+    unfolding lineRun fedBytes givenBytes
+    run-output zero panel chunk = refl
+    run-output (suc n) panel [] = refl
+    run-output (suc n) panel (kind ∷ []) = refl
+    run-output (suc n) panel (kind ∷ b ∷ chunk) = go (eqb kind 1) refl (run-output n (fedByte panel b .panel) chunk)
+      where
+        go : (is-line : Bool) → eqb kind 1 ≡ is-line → RanOver (fedByte panel b .panel) chunk (fedBytes (fedByte panel b .panel) (lineRun n chunk))
+            → RanOver panel (kind ∷ b ∷ chunk) (fedBytes panel (cond is-line (b ∷ lineRun n chunk) []))
+        go true is later = rw (eqb-true kind 1 is) (item-ran panel b chunk (lineRun n chunk) later)
+        go false is later = refl

@@ -1,0 +1,48 @@
+-- The library called on an input: steps on any front part of what is left, with any room, and the end once nothing is left and no report waits.
+use Prim.Native.Nat.{ℕ, zero, suc, _≤_}
+use mathlib.Core.Path.{_≡_}
+use mathlib.Core.Bool.{false, cond, _||_}
+use mathlib.Core.List.{List, [], _++_}
+use lib.Dec.{leb}
+use lib.ListN.{length, take, drop}
+use Rattle.trace.specs.declared.Answer.the-variants.{Done}
+use Rattle.telling.specs.Told.{leastText}
+use Rattle.trace.specs.State.{Held, holds, waits}
+use Rattle.trace.specs.Steps.{Stepping, stepping}
+use Rattle.trace.specs.Output.{Ending, ending}
+
+-- one call of `step`, and what is lent again at the next
+abbrev pub stepCalled : Held → List ℕ → List ℕ → Stepping
+stepCalled held chunk room = stepping (held .trace) chunk (held .table) (held .words) room
+
+abbrev pub heldAfter : Stepping → Held
+heldAfter s = holds (s .stepped .trace) (s .table) (s .words)
+
+-- the call of `end`
+abbrev pub endCalled : Held → List ℕ → Ending
+endCalled held room = ending (held .trace) (held .table) room
+
+-- from what is held and the input that is left, the calls that are done write this text over the fronts of their rooms
+pub data Fed : Held → List ℕ → List ℕ → Type 0 where
+  by-step : (held : Held) (chunk rest room text : List ℕ) → stepCalled held chunk room .stepped .answer ≡ Done
+      → Fed (heldAfter (stepCalled held chunk room)) (drop (stepCalled held chunk room .stepped .used) chunk ++ rest) text
+      → Fed held (chunk ++ rest) (take (stepCalled held chunk room .stepped .count) (stepCalled held chunk room .room) ++ text)
+  by-end : (held : Held) (room : List ℕ) → waits (held .trace) ≡ false → endCalled held room .ended .answer ≡ Done
+      → Fed held [] (take (endCalled held room .ended .count) (endCalled held room .room))
+
+-- a caller: how many bytes it hands over behind the first, and the room it lends, whatever is held and left
+pub record Caller : Type 0 where
+  pub more : Held → List ℕ → ℕ
+  pub room : Held → List ℕ → List ℕ
+  pub lent : (held : Held) (left : List ℕ) → leastText ≤ length (room held left)
+
+-- what its calls write, at most n of them: steps while a report waits or input is left, and then the end
+unfoldable pub calls : Caller → ℕ → Held → List ℕ → List ℕ
+calls caller zero held left = []
+calls caller (suc n) held left =
+    let room = caller .room held left in
+    let s = stepCalled held (take (suc (caller .more held left)) left) room in
+    let e = endCalled held room in
+    cond (waits (held .trace) || leb 1 (length left))
+    (take (s .stepped .count) (s .room) ++ calls caller n (heldAfter s) (drop (s .stepped .used) left))
+    (take (e .ended .count) (e .room))
