@@ -25,7 +25,7 @@ module _ (k n : ℕ) (obeyed : (eqb k 0 || ltb n k || ltb 258 n) ≡ false) wher
   pub frame-held : k ≤ n
   frame-held = ltb-false n k (or-right (eqb k 0) (ltb n k) (or-left (eqb k 0 || ltb n k) (ltb 258 n) obeyed))
 
-  held-fits : n ≤ 258
+  pub held-fits : n ≤ 258
   held-fits = ltb-false 258 n (or-right (eqb k 0 || ltb n k) (ltb 258 n) obeyed)
 
   pub part-inside : (held : List ℕ) → length held ≡ 258 → n ≤ length held
