@@ -18,7 +18,6 @@ use Rattle.frame.specs.Writer.{leastRoom, acknowledgementLaid}
 use Rattle.line.specs.declared.Report.{Report}
 use Rattle.line.specs.declared.Report.the-variants as line
 use Rattle.line.specs.declared.Asked.{Asked}
-use Rattle.line.specs.State.{padded}
 use Rattle.line.specs.Methods.{asked}
 use Rattle.registers.specs.declared.Registers.{Registers}
 use Rattle.words.specs.Words.{wordCount}
@@ -31,7 +30,7 @@ use Rattle.panel.specs.declared.Panel.{Panel}
 use Rattle.panel.specs.declared.Handed.the-variants as handed
 use Rattle.panel.specs.declared.Effected.{Effected}
 use Rattle.panel.specs.declared.Reported.{Reported}
-use Rattle.panel.specs.State.{headerFor, headerOf, answering, withReader}
+use Rattle.panel.specs.State.{headerFor, headerOf, answering}
 use Rattle.panel.specs.Reporting.{lent, acknowledged, Effects, effects, accepting, catchAfter, reports, handing, reporting}
 
 pub lent-judged : (words room : ℕ) → (eqb words 28672 && leb 265 room) ≡ lent words room
