@@ -9,12 +9,11 @@ use borrow.Author.Tests.{eqb-true}
 use mir.Val.{Fits}
 use mir.Syntax.{w64}
 use lib.Dec.{eqb}
-use lib.ListN.{length, getD, drop}
+use lib.ListN.{length, getD}
 use lib.Bits.{bitXor, bitAnd, and-mask, mask-lt}
-use Rattle.check_value.specs.CheckValue.{polynomial, bitStep, bitSteps, byteStep, checkFrom}
+use Rattle.check_value.specs.CheckValue.{polynomial, bitStep, bitSteps, byteStep}
 use Rattle.check_value.specs.Tables.{lowTable, highTable}
 use Rattle.check_value.proofs.Steps.{by-nibbles}
-use Rattle.check_value.proofs.ReadingOn.{one-more}
 
 -- the test: every entry, counted from i, is what the rule gives for its place
 unfoldable agrees : (ℕ → ℕ) → ℕ → List ℕ → Bool
@@ -80,9 +79,17 @@ by-tables x =
     (high-at (bitAnd (x / 2 ^ 4) 15) (nibble< (x / 2 ^ 4)) ∙ ap (λ (k : ℕ). bitSteps 8 (k * 2 ^ 4)) (and-mask (x / 2 ^ 4) 4))
     ∙ sym (by-nibbles x)
 
--- a turn of the loop: the byte at i goes through the tables
-pub table-turn : (value i byte : ℕ) (xs : List ℕ) → byte ≡ getD xs i 0 → i < length xs
-    → checkFrom (bitXor (bitXor (bitXor value byte / 2 ^ 8) (getD lowTable (bitAnd (bitXor value byte) 15) 0))
-    (getD highTable (bitAnd (bitXor value byte / 2 ^ 4) 15) 0)) (drop (i + 1) xs) ≡ checkFrom value (drop i xs)
+pub low-inside : (x : ℕ) (low : List ℕ) → low ≡ lowTable → bitAnd x 15 < length low
+unfolding lowTable
+low-inside x low is = rw is (nibble< x)
+
+pub high-inside : (x : ℕ) (high : List ℕ) → high ≡ highTable → bitAnd x 15 < length high
+unfolding highTable
+high-inside x high is = rw is (nibble< x)
+
+-- a byte goes through the tables
+pub table-read : (low high : List ℕ) (value byte wide : ℕ) → low ≡ lowTable → high ≡ highTable → wide ≡ byte
+    → bitXor (bitXor (bitXor value wide / 2 ^ 8) (getD low (bitAnd (bitXor value wide) 15) 0))
+    (getD high (bitAnd (bitXor value wide / 2 ^ 4) 15) 0) ≡ byteStep value byte
 unfolding byteStep
-table-turn value i byte xs is h = one-more value i xs (by-tables (bitXor value byte) ∙ ap (byteStep value) is) h
+table-read low high value byte wide is-low is-high is = rw (is-low, is-high, is) (by-tables (bitXor value byte))

@@ -1,7 +1,7 @@
 -- Laws of `checkFrom`, by which callers go on without its text.
 use mathlib.Core.Path.{_≡_, refl, ap, _∙_}
 use mathlib.Core.List.{List, [], _∷_, _++_}
-use Prim.Native.Nat.{ℕ, zero, suc, _+_, _*_, _/_, _%_, _^_, _≤_, _<_}
+use Prim.Native.Nat.{ℕ, zero, suc, _+_, _-_, _*_, _/_, _%_, _^_, _≤_, _<_}
 use native.Mathlib.Omega.{arith}
 use native.Mathlib.Numerals.{add-one}
 use lib.Bits.{bitXor, xor-lt}
@@ -53,3 +53,17 @@ one-more value i xs e h = rw (e, add-one, drop-cons xs i 0)
 pub all-read : (value i : ℕ) (xs : List ℕ) → length xs ≤ i → value ≡ checkFrom value (drop i xs)
 unfolding checkFrom
 all-read value i xs h = rw (drop-of-length-le xs h)
+
+-- a turn that reads two bytes, and the two ways to end: with a byte left over, and with none
+module _ (whole value i : ℕ) (xs : List ℕ) (so-far : checkFrom value (drop i xs) ≡ checkFrom whole xs) where
+  pub two-more : (first r : ℕ) → first ≡ byteStep value (getD xs i 0) → r ≡ byteStep first (getD xs (i + 1) 0) → 1 < length xs - i
+      → checkFrom r (drop (i + 2) xs) ≡ checkFrom whole xs
+  two-more first r e f h =
+      let place : i + 2 ≡ i + 1 + 1 = omega arith in
+      rw place (one-more first (i + 1) xs f (omega arith) ∙ one-more value i xs e (omega arith) ∙ so-far)
+
+  pub one-last : (r : ℕ) → r ≡ byteStep value (getD xs i 0) → i < length xs → length xs - i ≤ 1 → r ≡ checkFrom whole xs
+  one-last r e h last = all-read r (i + 1) xs (omega arith) ∙ one-more value i xs e h ∙ so-far
+
+  pub none-left : length xs ≤ i → value ≡ checkFrom whole xs
+  none-left h = all-read value i xs h ∙ so-far

@@ -1,6 +1,7 @@
 // The check value of 01, "Frame", with the two nibble tables that the manuals print.
 ghost use mathlib.Core.Path.{_≡_};
-ghost use Rattle.check_value.specs.CheckValue.{checkFrom, checkValue};
+ghost use Rattle.check_value.specs.CheckValue.{byteStep, checkFrom, checkValue};
+ghost use Rattle.check_value.specs.Tables.{lowTable, highTable};
 
 // What a byte's low four bits contribute.
 const LOW: [u16; 16] = [
@@ -42,6 +43,15 @@ const HIGH: [u16; 16] = [
     0x4400,
 ];
 
+// Reads one byte on from a value, with the two tables.
+fn read_byte(low: &[u16], high: &[u16], value: u16, byte: u8) -> u16
+    requires { ⌜ (now low ≡ lowTable) × (now high ≡ highTable) ⌝ }
+    ensures { λ r. ⌜ r ≡ byteStep value byte ⌝ }
+{
+    let x = value ^ wire::wide(byte);
+    (x >> 8) ^ low[(x & 15) as usize] ^ high[((x >> 4) & 15) as usize]
+}
+
 // Reads on from a value that was reached before.
 pub fn check_from(value: u16, bytes: &[u8]) -> u16
     ensures { λ r. ⌜ r ≡ checkFrom value (now (bytes .entry)) ⌝ }
@@ -51,12 +61,17 @@ pub fn check_from(value: u16, bytes: &[u8]) -> u16
     let high = HIGH;
     let mut reached = value;
     let mut i = 0;
-    while i < bytes.len() {
-        let x = reached ^ wire::wide(bytes[i]);
-        reached = (x >> 8) ^ low[(x & 15) as usize] ^ high[((x >> 4) & 15) as usize];
-        i += 1;
+    // Two bytes a turn: the test and the step of the loop cost as much as half a byte.
+    while 1 < bytes.len() - i {
+        let first = read_byte(&low, &high, reached, bytes[i]);
+        reached = read_byte(&low, &high, first, bytes[i + 1]);
+        i += 2;
     }
-    reached
+    if i < bytes.len() {
+        read_byte(&low, &high, reached, bytes[i])
+    } else {
+        reached
+    }
 }
 
 // The check value of a list of bytes.

@@ -1,6 +1,6 @@
 -- Laws of asking.
 use mathlib.Core.Path.{_≡_, refl, sym}
-use mathlib.Core.Bool.{true, false, _||_}
+use mathlib.Core.Bool.{Bool, true, false, cond, _||_}
 use mathlib.Core.List.{List, []}
 use Prim.Native.Nat.{ℕ, _+_, _-_, _≤_}
 use native.Mathlib.Omega.{arith}
@@ -20,12 +20,15 @@ use Rattle.line.specs.Methods.{bodyLength, span, told, asked}
 use Rattle.line.proofs.Padding.{drop-take}
 use Rattle.line.proofs.Truths.{or-left, or-right}
 
+abbrev answers : Report → List ℕ → Reader → Asked
+answers report payload reader = record { report = report; payload = payload; reader = reader }
+
 -- a head that is obeyed: its frame is all held
 module _ (k n : ℕ) (obeyed : (eqb k 0 || ltb n k || ltb 258 n) ≡ false) where
   pub frame-held : k ≤ n
   frame-held = ltb-false n k (or-right (eqb k 0) (ltb n k) (or-left (eqb k 0 || ltb n k) (ltb 258 n) obeyed))
 
-  held-fits : n ≤ 258
+  pub held-fits : n ≤ 258
   held-fits = ltb-false 258 n (or-right (eqb k 0 || ltb n k) (ltb 258 n) obeyed)
 
   pub part-inside : (held : List ℕ) → length held ≡ 258 → n ≤ length held
@@ -70,3 +73,29 @@ module _ (reader : Reader) (k : ℕ) (is-k : k ≡ span (headerBytes (reader .li
       let rest : take (reader .len - k) (drop k (reader .held)) ≡ drop k (take (reader .len) (reader .held)) =
       sym (drop-take k (reader .len) (reader .held)) in
       rw (is-report, is-payload, is-next, body, rest, ← is-k, obeyed)
+
+-- "'Nothing' changes nothing."
+none-there : (header : List ℕ) (checking : Bool) (head : Look) (body : List ℕ) (n : ℕ) → told checking head body ≡ Nothing
+    → (eqb (span header head) 0 || ltb n (span header head) || ltb 258 n) ≡ true
+none-there header checking Pass body n none = refl
+none-there header checking Wait body n none = refl
+none-there header checking (Bad command) body n none = absurd (let z : _≡_ {A = ℕ} 0 1 = cc in omega arith)
+none-there header checking (Good l) body n none = absurd (let z : _≡_ {A = ℕ} 0 1 = cc in omega arith)
+
+keeps-if : (none : Bool) (reader next : Reader) (report : Report) (payload empty : List ℕ) → (report ≡ Nothing → none ≡ true)
+    → cond none (answers Nothing empty reader) (answers report payload next) .report ≡ Nothing
+    → cond none (answers Nothing empty reader) (answers report payload next) .reader ≡ reader
+keeps-if true reader next report payload empty only is = refl
+keeps-if false reader next report payload empty only is =
+    let e : false ≡ true = only is in
+    absurd (let z : _≡_ {A = ℕ} 0 1 = cc in omega arith)
+
+pub nothing-keeps : (reader : Reader) → asked reader .report ≡ Nothing → asked reader .reader ≡ reader
+unfolding asked
+nothing-keeps reader is =
+    let header : List ℕ = headerBytes (reader .line .header) in
+    let body : List ℕ = take (bodyLength (reader .head)) (drop (length header + 1) (take (reader .len) (reader .held))) in
+    keeps-if (eqb (span header (reader .head)) 0 || ltb (reader .len) (span header (reader .head)) || ltb 258 (reader .len)) reader
+    (settledReader (reader .line) (reader .closed) (drop (span header (reader .head)) (take (reader .len) (reader .held))))
+    (told (reader .line .checking) (reader .head) body) (padded 254 (drop 1 (contentOf (reader .line .checking) body))) (padded 254 [])
+    (none-there header (reader .line .checking) (reader .head) body (reader .len)) is

@@ -14,7 +14,7 @@ use Rattle.place.specs.declared.Look.the-variants.{Bad, Good}
 use Rattle.line.specs.declared.Report.the-variants.{Accepted, BadCheck}
 use Rattle.line.specs.State.{padded, decidedAt}
 use Rattle.line.specs.Methods.{isAnswer, takes, span, told}
-use Rattle.line.proofs.Padding.{drop-take, laid-empty}
+use Rattle.line.proofs.Padding.{drop-take}
 
 pub taken-if : (n : ℕ) (head : Look) (r : Bool) → r ≡ isAnswer head → (ltb n 258 && not r) ≡ takes n head
 taken-if n head r is = rw is
@@ -40,25 +40,12 @@ content-long checking body =
     length-drop 1 (take (length body - checkLength checking) body)
     ∙ omega (arith, length-take-le (length body - checkLength checking) body (omega arith))
 
-content-part : (checking : Bool) (body : List ℕ) (c end : ℕ) → c ≡ checkLength checking → end ≡ length body - c
+pub content-part : (checking : Bool) (body : List ℕ) (c end : ℕ) → c ≡ checkLength checking → end ≡ length body - c
     → drop 1 (contentOf checking body) ≡ take (end - 1) (drop 1 body)
 unfolding contentOf
 content-part checking body c end is-c is-end =
     let same : length body - checkLength checking ≡ end = omega arith in
     rw same (drop-take 1 end body)
-
-pub payload-laid : (checking : Bool) (body out to : List ℕ) (c end : ℕ) → c ≡ checkLength checking → end ≡ length body - c
-    → out ≡ padded 254 [] → to ≡ take (length (take (end - 1) (drop 1 body))) (take (end - 1) (drop 1 body))
-    ++ drop (length (take (end - 1) (drop 1 body))) out
-    → to ≡ padded 254 (drop 1 (contentOf checking body))
-payload-laid checking body out to c end is-c is-end empty is =
-    laid-empty 254 (take (end - 1) (drop 1 body)) out to empty is ∙ ap (padded 254) (sym (content-part checking body c end is-c is-end))
-
-pub payload-none : (checking : Bool) (body out : List ℕ) (c end : ℕ) → c ≡ checkLength checking → end ≡ length body - c → end ≤ 1
-    → out ≡ padded 254 [] → out ≡ padded 254 (drop 1 (contentOf checking body))
-payload-none checking body out c end is-c is-end short empty =
-    let none : end - 1 ≡ 0 = omega arith in
-    empty ∙ ap (padded 254) (sym (content-part checking body c end is-c is-end ∙ rw none))
 
 pub told-bad : (checking : Bool) (look : Look) (body : List ℕ) (command : ℕ) → look ≡ Bad command → BadCheck command ≡ told checking look body
 told-bad checking look body command is = rw is

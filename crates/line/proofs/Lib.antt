@@ -9,3 +9,4 @@ pub mod Blindness
 pub mod Feeding
 pub mod Carried
 pub mod Determined
+pub mod Handing

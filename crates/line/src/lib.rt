@@ -2,15 +2,19 @@
 // A reader is a value: a method takes it and hands back the next one.
 use frame::Header;
 use place::Look;
+use place::Stop;
 ghost use mathlib.Core.Path.{_≡_};
 ghost use mathlib.Core.List.{[], _∷_, _++_};
 ghost use Prim.Native.Nat.{_+_, _-_, _≤_, _<_};
 ghost use lib.ListN.{length, take, drop};
 ghost use Rattle.frame.specs.Frame.{headerBytes, contentOf};
 ghost use Rattle.reading.specs.Moves.{fresh};
-ghost use Rattle.line.specs.State.{padded, readerOf, opened, settledReader, leftOf, restOf, stepOf, decidedAt, noiseLength};
+ghost use Rattle.wire.specs.Room.{over};
+ghost use Rattle.line.specs.State.{rulesFor, padded, readerOf, opened, settledReader, leftOf, restOf, stepOf, decidedAt, noiseLength};
 ghost use Rattle.place.specs.declared.Look.the-variants.{Wait};
-ghost use Rattle.line.specs.Methods.{isAnswer, takes, busy, bodyLength, span, told, givenByte, givenMark, gave, givenBytes, asked};
+ghost use Rattle.place.specs.Looks.{stopOf};
+ghost use Rattle.line.specs.declared.Report.the-variants.{Nothing};
+ghost use Rattle.line.specs.Methods.{isAnswer, takes, busy, bodyLength, span, told, givenByte, givenMark, gave, givenBytes, readerWith, askedWith, taken, asked};
 
 // What is fixed at setup.
 pub struct Line {
@@ -69,6 +73,14 @@ struct Step {
     len: usize,
     head: Look,
     need: usize,
+}
+
+// What an ask answers and leaves, but for its arrays.
+struct Taken {
+    report: Report,
+    len: usize,
+    closed: bool,
+    head: Look,
 }
 
 // How many bytes were taken, how many are held then, and what stands at the first of them.
@@ -215,6 +227,11 @@ fn take_block(held: &mut [u8], n: usize, need: usize, bytes: &[u8]) -> usize
     ensures { λ r. ⌜ (0 < r) × (n + r < need) × (r ≤ length (now (bytes .entry))) × (now (held .exit) ≡ padded 258 (take n (now (held .entry)) ++ take r (now (bytes .entry)))) ⌝ }
 {
     let k = smaller(need - 1 - n, bytes.len());
+    // Below some 16 bytes a call that copies a block costs more than it saves.
+    if k < 16 {
+        held[n] = bytes[0];
+        return 1;
+    }
     bytes::copy(&bytes[..k], &mut held[n..]);
     k
 }
@@ -306,17 +323,146 @@ fn report_on(checking: bool, look: Look, body: &[u8]) -> Report
     }
 }
 
-// The data among the L bytes of a frame, zeros behind it.
-fn payload_in(checking: bool, body: &[u8]) -> [u8; 254]
-    requires { ⌜ length (now body) ≤ 255 ⌝ }
-    ensures { λ r. ⌜ r ≡ padded 254 (drop 1 (contentOf checking (now (body .entry)))) ⌝ }
+// Lays the bytes held from one place to another over the front of an array.
+fn copy_held(reader: Reader, from: usize, to: usize, out: &mut [u8])
+    requires { ⌜ (from ≤ to) × (to ≤ 258) × (to - from ≤ length (now out)) ⌝ }
+    ensures { λ _. ⌜ now (out .exit) ≡ over (take (to - from) (drop from (reader .held))) (now (out .entry)) ⌝ }
 {
-    let mut out = no_payload();
-    let end = above(body.len(), frame::check_length(checking));
-    if 1 < end {
-        bytes::copy(&body[1..end], &mut out);
+    let held = reader.held;
+    bytes::copy(&held[from..to], out);
+}
+
+// The same, where nothing may be there to lay. A reader lent by value is copied at a call: so the call stands behind the test.
+fn put_held(reader: Reader, from: usize, to: usize, out: &mut [u8])
+    requires { ⌜ (from ≤ to) × (to ≤ 258) × (to - from ≤ length (now out)) ⌝ }
+    ensures { λ _. ⌜ now (out .exit) ≡ over (take (to - from) (drop from (reader .held))) (now (out .entry)) ⌝ }
+{
+    if from < to {
+        copy_held(reader, from, to, out);
     }
-    out
+}
+
+// Lays up to three bytes of data, as reads have them, one by one; `end` is how many of the L bytes are command and data.
+fn put_short(body: &[u8], end: usize, out: &mut [u8])
+    requires { ⌜ (end ≤ 4) × (end ≤ length (now body)) × (now out ≡ padded 254 []) ⌝ }
+    ensures { λ _. ⌜ now (out .exit) ≡ padded 254 (take (end - 1) (drop 1 (now (body .entry)))) ⌝ }
+{
+    if end < 2 {
+        return;
+    }
+    out[0] = body[1];
+    if end < 3 {
+        return;
+    }
+    out[1] = body[2];
+    if end < 4 {
+        return;
+    }
+    out[2] = body[3];
+}
+
+// Lays the data of the frame at the front.
+fn put_payload(reader: Reader, out: &mut [u8])
+    requires { ⌜ now out ≡ padded 254 [] ⌝ }
+    ensures { λ _. ⌜ now (out .exit) ≡ padded 254 (drop 1 (contentOf (reader .line .checking) (take (bodyLength (reader .head)) (drop (length (headerBytes (reader .line .header)) + 1) (reader .held))))) ⌝ }
+{
+    let line = reader.line;
+    let head = reader.head;
+    let from = line.header.length() + 1;
+    let l = body_length(head);
+    let end = above(l, frame::check_length(line.checking));
+    if end < 5 {
+        let held = reader.held;
+        put_short(&held[from..from + l], end, out);
+        return;
+    }
+    put_held(reader, from + 1, from + end, out);
+}
+
+// What stands behind the first k bytes held.
+fn stop_behind(reader: Reader, k: usize) -> Stop
+    requires { ⌜ (k ≤ reader .len) × (reader .len ≤ 258) ⌝ }
+    ensures { λ r. ⌜ r ≡ stopOf (rulesFor (reader .line)) (reader .closed) (take (reader .len - k) (drop k (reader .held))) ⌝ }
+{
+    let line = reader.line;
+    let held = reader.held;
+    let n = reader.len;
+    place::first_stop(line.header, line.checking, reader.closed, &held[k..n])
+}
+
+// Lays what is left behind the first k bytes held.
+fn settle_left(reader: Reader, k: usize, left: &mut [u8]) -> Rest
+    requires { ⌜ (k ≤ reader .len) × (reader .len ≤ 258) × (now left ≡ padded 258 []) ⌝ }
+    ensures { λ r. ⌜ readerWith (reader .line) (reader .closed) (r .len) (r .head) (now (left .exit)) ≡ settledReader (reader .line) (reader .closed) (take (reader .len - k) (drop k (reader .held))) ⌝ }
+{
+    let n = reader.len;
+    if k == n {
+        return Rest {
+            len: 0,
+            head: Look::Wait,
+        };
+    }
+    let stop = stop_behind(reader, k);
+    let at = stop.at;
+    let head = stop.look;
+    let from = k + at;
+    put_held(reader, from, n, left);
+    Rest {
+        len: n - from,
+        head: head,
+    }
+}
+
+// Nothing is handed over, and all stays.
+fn keep(reader: Reader, left: &mut [u8]) -> Taken
+    requires { ⌜ now left ≡ padded 258 [] ⌝ }
+    ensures { λ r. ⌜ (r ≡ record { report = Nothing; len = reader .len; closed = reader .closed; head = reader .head }) × (now (left .exit) ≡ reader .held) ⌝ }
+{
+    let head = reader.head;
+    put_held(reader, 0, 258, left);
+    Taken {
+        report: Report::Nothing,
+        len: reader.len,
+        closed: reader.closed,
+        head: head,
+    }
+}
+
+// Hands over the report at the front, whose k bytes are all held.
+fn take_report(reader: Reader, k: usize, payload: &mut [u8], left: &mut [u8]) -> Taken
+    requires { ⌜ (k ≡ span (headerBytes (reader .line .header)) (reader .head)) × (k ≤ reader .len) × (reader .len ≤ 258) × (now payload ≡ padded 254 []) × (now left ≡ padded 258 []) ⌝ }
+    ensures { λ r. ⌜ askedWith (reader .line) r (now (payload .exit)) (now (left .exit)) ≡ taken reader ⌝ }
+{
+    let line = reader.line;
+    let head = reader.head;
+    let held = reader.held;
+    let from = line.header.length() + 1;
+    let report = report_on(line.checking, head, &held[from..from + body_length(head)]);
+    put_payload(reader, payload);
+    let rest = settle_left(reader, k, left);
+    let len = rest.len;
+    let look = rest.head;
+    Taken {
+        report: report,
+        len: len,
+        closed: reader.closed & (0 < len),
+        head: look,
+    }
+}
+
+// The next report, or nothing: its data and what is left, laid into empty arrays.
+fn hand_over(reader: Reader, payload: &mut [u8], left: &mut [u8]) -> Taken
+    requires { ⌜ (now payload ≡ padded 254 []) × (now left ≡ padded 258 []) ⌝ }
+    ensures { λ r. ⌜ askedWith (reader .line) r (now (payload .exit)) (now (left .exit)) ≡ asked reader ⌝ }
+{
+    let line = reader.line;
+    let head = reader.head;
+    let n = reader.len;
+    let k = span_of(line.header, head);
+    if (k == 0) | (n < k) | (258 < n) {
+        return keep(reader, left);
+    }
+    take_report(reader, k, payload, left)
 }
 
 impl Reader {
@@ -395,28 +541,21 @@ impl Reader {
         ensures { λ r. ⌜ r ≡ asked self ⌝ }
     {
         let line = self.line;
-        let head = self.head;
-        let n = self.len;
-        let k = span_of(line.header, head);
-        if (k == 0) | (n < k) | (258 < n) {
-            let payload = no_payload();
-            return Asked {
-                report: Report::Nothing,
-                payload: payload,
-                reader: self,
-            };
-        }
-        let held = self.held;
-        let from = line.header.length() + 1;
-        let body = &held[from..from + body_length(head)];
-        let report = report_on(line.checking, head, body);
-        let payload = payload_in(line.checking, body);
-        let closed = self.closed;
-        let next = settle(line, closed, &held[k..n]);
+        let mut payload = no_payload();
+        let mut left = no_bytes();
+        let handed = hand_over(self, &mut payload, &mut left);
+        let report = handed.report;
+        let head = handed.head;
         Asked {
             report: report,
             payload: payload,
-            reader: next,
+            reader: Reader {
+                line: line,
+                held: left,
+                len: handed.len,
+                closed: handed.closed,
+                head: head,
+            },
         }
     }
 
@@ -438,8 +577,8 @@ impl Reader {
         }
         let line = self.line;
         let n = self.len;
-        let old = self.held;
-        let mut held = packed(&old[..n]);
+        let mut held = no_bytes();
+        put_held(self, 0, n, &mut held);
         let fed = feed(line, &mut held, n, bytes);
         let head = fed.head;
         Gave {

@@ -18,7 +18,6 @@ use Rattle.frame.specs.Writer.{leastRoom, acknowledgementLaid}
 use Rattle.line.specs.declared.Report.{Report}
 use Rattle.line.specs.declared.Report.the-variants as line
 use Rattle.line.specs.declared.Asked.{Asked}
-use Rattle.line.specs.State.{padded}
 use Rattle.line.specs.Methods.{asked}
 use Rattle.registers.specs.declared.Registers.{Registers}
 use Rattle.words.specs.Words.{wordCount}
@@ -31,7 +30,7 @@ use Rattle.panel.specs.declared.Panel.{Panel}
 use Rattle.panel.specs.declared.Handed.the-variants as handed
 use Rattle.panel.specs.declared.Effected.{Effected}
 use Rattle.panel.specs.declared.Reported.{Reported}
-use Rattle.panel.specs.State.{headerFor, headerOf, answering, withReader}
+use Rattle.panel.specs.State.{headerFor, headerOf, answering}
 use Rattle.panel.specs.Reporting.{lent, acknowledged, Effects, effects, accepting, catchAfter, reports, handing, reporting}
 
 pub lent-judged : (words room : ℕ) → (eqb words 28672 && leb 265 room) ≡ lent words room
@@ -100,7 +99,7 @@ within-inside count n payload is long = omega (arith, min-le-right count 254)
 pub within-long : (count n : ℕ) (payload : List ℕ) → n ≡ min count 254 → length payload ≡ 254 → n ≡ length (take n payload)
 within-long count n payload is long = front-length n payload (within-inside count n payload is long)
 
-taken-same : (count n : ℕ) (payload : List ℕ) → n ≡ min count 254 → length payload ≡ 254 → take n payload ≡ take count payload
+pub taken-same : (count n : ℕ) (payload : List ℕ) → n ≡ min count 254 → length payload ≡ 254 → take n payload ≡ take count payload
 taken-same count n payload is long = go (leb count 254) refl
   where
     go : (b : Bool) → leb count 254 ≡ b → take n payload ≡ take count payload
@@ -112,31 +111,6 @@ taken-same count n payload is long = go (leb count 254) refl
         let large : 254 < count = leb-false count 254 t in
         let most : n ≡ 254 = is ∙ min-eq-right (le-of-lt large) in
         take-all n payload (omega arith) ∙ sym (take-all count payload (omega arith))
-
-module _ (panel : Panel) (words room : List ℕ) (a : Asked) (is-a : a ≡ asked (panel .reader)) where
-  handed-so : (report : Report) → a .report ≡ report
-      → handing a report panel words room ≡ handing (asked (panel .reader)) (asked (panel .reader) .report) panel words room
-  handed-so report is =
-      ap (λ (r : Report). handing a r panel words room) (sym is) ∙ ap (λ (b : Asked). handing b (b .report) panel words room) is-a
-
-  pub hands-nothing : a .report ≡ line.Nothing
-      → reports (record { handed = handed.Nothing; payload = a .payload; panel = panel }) words room
-      ≡ handing (asked (panel .reader)) (asked (panel .reader) .report) panel words room
-  unfolding handing
-  hands-nothing is = handed-so line.Nothing is
-
-  pub hands-bad : (command count : ℕ) (left : List ℕ) → a .report ≡ line.BadCheck command → lays count left ≡ acknowledged (panel .setup) command false room
-      → reports (record { handed = handed.BadCheck command count; payload = a .payload; panel = withReader panel (a .reader) }) words left
-      ≡ handing (asked (panel .reader)) (asked (panel .reader) .report) panel words room
-  unfolding handing
-  hands-bad command count left is e =
-      ap (λ (l : Laid). reports (record { handed = handed.BadCheck command (l .count); payload = a .payload; panel = withReader panel (a .reader) }) words (l .room)) e
-      ∙ handed-so (line.BadCheck command) is
-
-  pub hands-accepted : (command len : ℕ) (r : Reported) (words′ left : List ℕ) → a .report ≡ line.Accepted command len
-      → reports r words′ left ≡ handing a (line.Accepted command len) panel words room
-      → reports r words′ left ≡ handing (asked (panel .reader)) (asked (panel .reader) .report) panel words room
-  hands-accepted command len r words′ left is e = e ∙ handed-so (line.Accepted command len) is
 
 pub accepted-handed : (panel : Panel) (words room : List ℕ) (a : Asked) (command len n : ℕ) (e : Effected) (words′ left : List ℕ) (catch : Catch)
     → n ≡ min len 254 → length (a .payload) ≡ 254
@@ -173,8 +147,3 @@ module _ (panel : Panel) (words room : List ℕ) (l : Bool) (is-l : l ≡ lent (
       → reports r words′ left ≡ reporting panel words room
   unfolding reporting
   lent-asked r words′ left is e = rw (sym is-l ∙ is) e
-
-  pub not-lent : (payload : List ℕ) → l ≡ false → payload ≡ padded 254 []
-      → reports (record { handed = handed.NotLent; payload = payload; panel = panel }) words room ≡ reporting panel words room
-  unfolding reporting
-  not-lent payload is e = rw (e, sym is-l ∙ is)

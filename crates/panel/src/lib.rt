@@ -3,22 +3,25 @@ ghost use mathlib.Core.Path.{_≡_};
 ghost use mathlib.Core.List.{[]};
 ghost use Prim.Native.Nat.{min};
 ghost use Rattle.line.specs.State.{padded};
-ghost use Rattle.line.specs.Methods.{busy, asked};
+ghost use Rattle.line.specs.Methods.{busy};
 ghost use Rattle.registers.specs.Touched.{pageOf};
 ghost use Rattle.touch.specs.Judge.{judged};
 ghost use Rattle.wire.specs.Room.{lays};
 ghost use Rattle.panel.specs.State.{headerFor, withPad, panelRegister};
 ghost use Rattle.panel.specs.Start.{newPanel, noPanel, started};
 ghost use Rattle.panel.specs.Inputs.{fedByte, fedMark, fedBytes};
-ghost use Rattle.panel.specs.Reporting.{lent, acknowledged, effects, accepting, catchAfter, handing, reports, reporting};
+ghost use Rattle.panel.specs.Reporting.{lent, acknowledged, effects, accepting, catchAfter, reports, reporting};
+ghost use Rattle.panel.specs.WithoutRegisters.{refused, namesRegisters, commandOf, lengthOf, handedAs, leaves, onWords, hands, wordsHanded, handedWithout};
+ghost use Rattle.frame.specs.Frame.{headerBytes};
+ghost use lib.ListN.{length};
 ghost use Rattle.panel.specs.Contacts.{contacts, contactOn, contactJudged, contacting, lifting};
 use commands::Outcome;
 use commands::Performed;
+use commands::Replied;
 use contact::Catch;
 use contact::Pad;
 use frame::Header;
 use line::Answer;
-use line::Asked;
 use line::Reader;
 use line::Report;
 use registers::RegisterAddress;
@@ -279,14 +282,49 @@ impl Panel {
     pub fn report(self, words: &mut [u16], room: &mut [u8]) -> Reported
         ensures { λ r. ⌜ reports r (now (words .exit)) (now (room .exit)) ≡ reporting self (now (words .entry)) (now (room .entry)) ⌝ }
     {
-        if is_lent(words.len(), room.len()) {
-            hand_over(self, words, room)
-        } else {
-            Reported {
-                handed: Handed::NotLent,
-                payload: no_payload(),
-                panel: self,
-            }
+        if !is_lent(words.len(), room.len()) {
+            return not_lent(self);
+        }
+        let reader = self.reader;
+        let a = reader.ask();
+        let report = a.report;
+        let payload = a.payload;
+        let next = a.reader;
+        let setup = self.setup;
+        if names_registers(report) {
+            let registers = self.registers;
+            let catch = self.catch;
+            let len = length_of(report);
+            let n = within(len);
+            let e = accept(
+                setup,
+                registers,
+                command_of(report),
+                &payload[..n],
+                words,
+                room,
+            );
+            let p = e.performed;
+            let after = p.registers;
+            return Reported {
+                handed: handed_as(report, e),
+                payload: payload,
+                panel: Panel {
+                    setup: setup,
+                    registers: after,
+                    catch: catch_after(p.paged, catch),
+                    reader: next,
+                },
+            };
+        }
+        let handed = hand_without_registers(setup, report, &payload, words, room);
+        Reported {
+            handed: handed,
+            payload: payload,
+            panel: Panel {
+                reader: next,
+                ..self
+            },
         }
     }
 
@@ -409,73 +447,145 @@ fn catch_after(paged: bool, catch: Catch) -> Catch
     if paged { Catch::Free } else { catch }
 }
 
-// An accepted frame that was asked for.
-fn hand_accepted(
-    panel: Panel,
-    a: Asked,
-    command: u8,
-    len: usize,
-    words: &mut [u16],
-    room: &mut [u8],
-) -> Reported
-    ensures { λ r. ⌜ reports r (now (words .exit)) (now (room .exit)) ≡ handing a (Report.Accepted command len) panel (now (words .entry)) (now (room .entry)) ⌝ }
+// Words or room are not what they must be: the report still waits.
+fn not_lent(panel: Panel) -> Reported
+    ensures { λ r. ⌜ r ≡ refused panel ⌝ }
 {
-    let setup = panel.setup;
-    let registers = panel.registers;
-    let catch = panel.catch;
-    let payload = a.payload;
-    let next = a.reader;
-    let n = within(len);
-    let e = accept(setup, registers, command, &payload[..n], words, room);
-    let p = e.performed;
-    let o = p.outcome;
-    let after = p.registers;
     Reported {
-        handed: Handed::Accepted {
-            command: command,
-            count: len,
-            outcome: o,
-            acknowledged: e.acknowledged,
-            replied: p.count,
-        },
-        payload: payload,
-        panel: Panel {
-            setup: setup,
-            registers: after,
-            catch: catch_after(p.paged, catch),
-            reader: next,
-        },
+        handed: Handed::NotLent,
+        payload: no_payload(),
+        panel: panel,
     }
 }
 
-// The next report, with words and room as they must be.
-fn hand_over(panel: Panel, words: &mut [u16], room: &mut [u8]) -> Reported
-    ensures { λ r. ⌜ reports r (now (words .exit)) (now (room .exit)) ≡ handing (asked (panel .reader)) (asked (panel .reader) .report) panel (now (words .entry)) (now (room .entry)) ⌝ }
+// Whether the report is an accepted frame whose command reads or writes registers. All others leave the panel but for its reader, so that
+// the registers are copied for these alone.
+fn names_registers(report: Report) -> bool
+    ensures { λ r. ⌜ r ≡ namesRegisters report ⌝ }
 {
-    let reader = panel.reader;
-    let setup = panel.setup;
-    let a = reader.ask();
-    let report = a.report;
-    let payload = a.payload;
-    let next = a.reader;
     match report {
-        Report::Nothing => Reported {
-            handed: Handed::Nothing,
-            payload: payload,
-            panel: panel,
-        },
+        Report::Nothing => false,
+        Report::BadCheck(_) => false,
+        Report::Accepted { command, len: _ } => (command == 0x80) | (command == 0x81),
+    }
+}
+
+// The command of an accepted frame.
+fn command_of(report: Report) -> u8
+    ensures { λ r. ⌜ r ≡ commandOf report ⌝ }
+{
+    match report {
+        Report::Nothing => 0,
+        Report::BadCheck(_) => 0,
+        Report::Accepted { command, len: _ } => command,
+    }
+}
+
+// How much data an accepted frame has.
+fn length_of(report: Report) -> usize
+    ensures { λ r. ⌜ r ≡ lengthOf report ⌝ }
+{
+    match report {
+        Report::Nothing => 0,
+        Report::BadCheck(_) => 0,
+        Report::Accepted { command: _, len } => len,
+    }
+}
+
+// An accepted frame with what it has done.
+fn handed_as(report: Report, e: Effected) -> Handed
+    ensures { λ r. ⌜ r ≡ handedAs report e ⌝ }
+{
+    let p = e.performed;
+    let o = p.outcome;
+    Handed::Accepted {
+        command: command_of(report),
+        count: length_of(report),
+        outcome: o,
+        acknowledged: e.acknowledged,
+        replied: p.count,
+    }
+}
+
+// A command that names no register.
+fn on_words(
+    checking: bool,
+    header: Header,
+    command: u8,
+    content: &[u8],
+    words: &mut [u16],
+    room: &mut [u8],
+) -> Replied
+    ensures { λ r. ⌜ leaves r (now (words .exit)) (now (room .exit)) ≡ onWords checking (headerBytes header) command (now (content .entry)) (now (words .entry)) (now (room .entry)) ⌝ }
+{
+    if command == 0x82 {
+        let o = commands::write_words(words, content);
+        return Replied {
+            outcome: o,
+            count: 0,
+        };
+    }
+    if command == 0x83 {
+        return commands::read_words(words, checking, header, content, room);
+    }
+    Replied {
+        outcome: Outcome::UnknownCommand,
+        count: 0,
+    }
+}
+
+// Acknowledges an accepted frame that names no register, and does what it says.
+fn hand_words(
+    setup: Setup,
+    command: u8,
+    len: usize,
+    content: &[u8],
+    words: &mut [u16],
+    room: &mut [u8],
+) -> Handed
+    ensures { λ r. ⌜ hands r (now (words .exit)) (now (room .exit)) ≡ wordsHanded setup command len (now (content .entry)) (now (words .entry)) (now (room .entry)) ⌝ }
+{
+    let k = acknowledge(setup, command, true, room);
+    let c = touch::checking(setup);
+    let q = on_words(
+        c,
+        header_for(setup),
+        command,
+        content,
+        words,
+        &mut room[k..],
+    );
+    let o = q.outcome;
+    Handed::Accepted {
+        command: command,
+        count: len,
+        outcome: o,
+        acknowledged: k,
+        replied: q.count,
+    }
+}
+
+// What a report that names no register does to words and room.
+fn hand_without_registers(
+    setup: Setup,
+    report: Report,
+    payload: &[u8],
+    words: &mut [u16],
+    room: &mut [u8],
+) -> Handed
+    requires { ⌜ length (now payload) ≡ 254 ⌝ }
+    ensures { λ r. ⌜ hands r (now (words .exit)) (now (room .exit)) ≡ handedWithout setup report (now (payload .entry)) (now (words .entry)) (now (room .entry)) ⌝ }
+{
+    match report {
+        Report::Nothing => Handed::Nothing,
         Report::BadCheck(command) => {
             let k = acknowledge(setup, command, false, room);
-            Reported {
-                handed: Handed::BadCheck(command, k),
-                payload: payload,
-                panel: Panel {
-                    reader: next,
-                    ..panel
-                },
-            }
+            Handed::BadCheck(command, k)
         }
-        Report::Accepted { command, len } => hand_accepted(panel, a, command, len, words, room),
+        Report::Accepted { command, len } => {
+            let n = within(len);
+            hand_words(setup, command, len, &payload[..n], words, room)
+        }
     }
 }
 

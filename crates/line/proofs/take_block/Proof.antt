@@ -1,4 +1,5 @@
 -- `line::take_block` meets its contract.
+use Rattle.line.proofs.Handing.{byte-behind}
 use Rattle.line.proofs.Feeding.{block-counted, block-room, block-laid}
 use borrow.Author.Needs.{needs}
 use Rattle.line.proofs.take_block.Statement.{statement}
@@ -11,6 +12,10 @@ take-block-spec =
     (λ c. search needs)
     (λ c. search needs)
     (λ c κs. search needs)
+    (λ c. search needs)
+    (λ c. search needs)
+    (λ c. search needs)
+    (λ c. (search needs, search needs, search needs, search byte-behind))
     (λ c. search block-counted)
     (λ c. search needs)
     (λ c. search needs)

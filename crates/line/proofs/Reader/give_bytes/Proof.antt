@@ -1,5 +1,6 @@
 -- `line::Reader::give_bytes` meets its contract.
-use Rattle.line.proofs.Feeding.{nothing-given, none-given, old-inside, old-counted, old-fits, old-few, old-front, bytes-given}
+use Rattle.line.proofs.Handing.{front-room, front-long, front-held, all-given}
+use Rattle.line.proofs.Feeding.{nothing-given, none-given, old-few}
 use borrow.Author.Needs.{needs}
 use Rattle.line.proofs.Reader.give_bytes.Statement.{statement}
 use Rattle.line.proofs.Reader.give_bytes.Tie as tie
@@ -11,9 +12,9 @@ give-bytes-spec =
     (λ c κs. search needs)
     (λ c. search nothing-given)
     (λ c. search none-given)
-    (λ c. search (needs, old-inside))
-    (λ c. search (needs, old-counted))
-    (λ c κs. search old-fits)
+    (λ c κs. search needs)
     (λ c. search needs)
-    (λ c κs. (search old-few, search needs, search (needs, old-front)))
-    (λ c. search (needs, bytes-given)))
+    (λ c κs. (search needs, search old-few, search front-room))
+    (λ c. search needs)
+    (λ c κs. (search old-few, search (needs, front-long), search (needs, front-held)))
+    (λ c. search (needs, all-given)))
