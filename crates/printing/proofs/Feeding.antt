@@ -19,12 +19,12 @@ use Rattle.trace.specs.declared.Answer.the-variants.{Done}
 use Rattle.telling.specs.Told.{leastText}
 use Rattle.trace.specs.State.{Held, newTrace, tableBytes, waits, lentTo}
 use Rattle.trace.specs.Steps.{step, Stepping, stepping}
-use Rattle.trace.specs.Output.{endText, Ending, ending, printed, newHeld, traceOutput}
-use Rattle.printing.specs.Feeding.{stepCalled, heldAfter, endCalled, Fed, by-step, by-end, Caller, calls}
+use Rattle.trace.specs.Output.{endText, Ending, ending, newHeld, traceOutput}
+use Rattle.printing.specs.Feeding.{stepCalled, heldAfter, endCalled, Fed, by-step, by-end, by-stop, Caller, calls}
 use Rattle.printing.proofs.ByTest.{by-test}
 use Rattle.printing.proofs.HeldSound.{HeldSound, new-quiet, new-held-sound}
 use Rattle.printing.proofs.AllReports.{keptBy}
-use Rattle.printing.proofs.Outputs.{outputFrom, quiet-output}
+use Rattle.printing.proofs.Outputs.{outputFrom, quiet-output, end-output, over-output}
 use Rattle.printing.proofs.Onward.{step-onward}
 
 -- what a call of `step` that is done leaves
@@ -60,10 +60,6 @@ end-call held room =
     (leb tableBytes (length (held .table)) && leb leastText (length room)) _ _
     (λ lent done. take-over text room (length text) refl) (λ refused done. never (cc))
 
-end-output : (held : Held) → waits (held .trace) ≡ false → outputFrom held [] ≡ endText (held .trace) (held .table)
-unfolding printed
-end-output held quiet = quiet-output held [] quiet
-
 bytes-front : (xs ys : List ℕ) → Bytes (xs ++ ys) → Bytes xs
 bytes-front [] ys are = bytes-nil
 bytes-front (x ∷ xs) ys are = bytes-cons x xs (are 0) (bytes-front xs ys (λ i. are (suc i)))
@@ -77,6 +73,7 @@ bytes-left k chunk rest are = bytes-append (drop k chunk) rest (bytes-drop k chu
 
 fed-prints : (held : Held) (input text : List ℕ) → HeldSound held → Bytes input → Fed held input text → text ≡ outputFrom held input
 fed-prints _ _ _ sound are (by-end held room quiet done) = end-call held room done ∙ sym (end-output held quiet)
+fed-prints _ _ _ sound are (by-stop held left is) = sym (over-output held left sound is)
 fed-prints _ _ _ sound are (by-step held chunk rest room text done next) =
     let s = stepCalled held chunk room in
     let on = call-onward held chunk rest room sound (bytes-front chunk rest are) done in

@@ -4,7 +4,7 @@ use mathlib.Core.Bool.{Bool, true, false, not, _&&_}
 use mathlib.Core.List.{List, [], _∷_}
 use Prim.Native.Nat.{ℕ, zero, suc, _+_, _*_, _≤_, _<_}
 use native.Mathlib.Omega.{arith}
-use borrow.Author.Tests.{ltb-true}
+use borrow.Author.Tests.{ltb-true, eqb-true}
 use lib.Dec.{eqb, ltb, leb}
 use lib.ListN.{length, drop, set, replicate, length-set, length-replicate, length-drop}
 use Rattle.wire.specs.Bytes.{Bytes}
@@ -12,7 +12,7 @@ use Rattle.wire.specs.ByteOrder.{byteAt, wordAt}
 use Rattle.wire.proofs.LaidAt.{length-laidAt}
 use Rattle.frame.specs.Frame.{headerBytes}
 use Rattle.reading.specs.Place.{look, behind, cutShort}
-use Rattle.line.proofs.Truths.{never}
+use Rattle.line.proofs.Truths.{never, and-left}
 use Rattle.words.specs.Words.{wordCount}
 use Rattle.panel.specs.declared.Panel.{Panel}
 use Rattle.panel.specs.declared.Start.{Start}
@@ -44,6 +44,8 @@ pub record HeldSound (held : Held) : Type 0 where
   -- the panel is sound once it is started; before that, and after an X, no report waits
   pub panel : isStarted (held .trace .stage) ≡ true → Sound (held .trace .panel)
   pub quiet : isStarted (held .trace .stage) ≡ false → waits (held .trace) ≡ false
+  -- after an X no item is gathered
+  pub over : isOver (held .trace .stage) ≡ true → held .trace .have ≡ 0
   pub item : ItemSound (held .trace)
   pub table : tableBytes ≤ length (held .table)
   pub words : length (held .words) ≡ wordCount
@@ -71,11 +73,12 @@ unfolding newTrace noPanel newPanel look behind cutShort headerBytes
 new-quiet = refl
 
 pub new-held-sound : HeldSound newHeld
-unfolding newHeld newTrace isStarted
+unfolding newHeld newTrace isStarted isOver
 new-held-sound =
     record {
       panel = λ is. never (cc);
       quiet = λ is. new-quiet;
+      over = λ is. never (cc);
       item = no-item-sound newTrace;
       table = omega (arith, length-replicate {A = ℕ} tableBytes 0);
       words = length-replicate {A = ℕ} wordCount 0;
@@ -116,23 +119,25 @@ begun-sound trace part sound =
 
 module _ (trace : Trace) (table words : List ℕ) (item : ItemSound trace) (lent : tableBytes ≤ length table) where
   told-sound : (told : Told) → ToldSound told → HeldSound (showsTold trace table told .held)
-  unfolding isStarted
+  unfolding isStarted isOver
   told-sound told sound =
       record {
         panel = λ is. sound .panel;
         quiet = λ is. never (cc);
+        over = λ is. never (cc);
         item = record { long = item .long; are-bytes = item .are-bytes; none = item .none };
         table = lent;
         words = sound .words;
       }
 
-  module _ (long : length words ≡ wordCount) (none-waits : waits trace ≡ false) where
+  module _ (long : length words ≡ wordCount) (none-waits : waits trace ≡ false) (whole : trace .have ≡ 0) where
     stopped-sound : HeldSound (holds (stopped trace) table words)
     unfolding isStarted
     stopped-sound =
         record {
           panel = λ is. never (cc);
           quiet = λ is. none-waits;
+          over = λ is. whole;
           item = record { long = item .long; are-bytes = item .are-bytes; none = item .none };
           table = lent;
           words = long;
@@ -166,14 +171,15 @@ put-table records gathered table long lent =
 
 -- ---- One byte
 
-item-sound : (trace : Trace) (table words gathered : List ℕ) → HeldSound (holds trace table words) → waits trace ≡ false → length gathered ≡ 33 → Bytes gathered
+item-sound : (trace : Trace) (table words gathered : List ℕ) → HeldSound (holds trace table words) → waits trace ≡ false → trace .have ≡ 0 → length gathered ≡ 33 → Bytes gathered
     → HeldSound (itemDone trace table words gathered .held)
-unfolding itemDone isStarted
-item-sound trace table words gathered sound none-waits long are =
+unfolding itemDone isStarted isOver
+item-sound trace table words gathered sound none-waits whole long are =
     by-test (λ (s : Shown). HeldSound (s .held)) (eqb (byteAt gathered 0) 0) _ _
     (λ is. record {
       panel = λ no. never (cc);
       quiet = λ no. none-waits;
+      over = λ no. never (cc);
       item = record { long = sound .item .long; are-bytes = sound .item .are-bytes; none = sound .item .none };
       table = sound .table;
       words = sound .words;
@@ -182,25 +188,27 @@ item-sound trace table words gathered sound none-waits long are =
     (λ is. record {
       panel = sound .panel;
       quiet = sound .quiet;
+      over = sound .over;
       item = record { long = sound .item .long; are-bytes = sound .item .are-bytes; none = sound .item .none };
       table = put-table (trace .records) gathered table long (sound .table);
       words = sound .words;
     })
-    (λ not-5. event-done-sound trace table words (sound .item) (sound .table) (sound .words) none-waits (sound .panel) gathered are))
+    (λ not-5. event-done-sound trace table words (sound .item) (sound .table) (sound .words) none-waits whole (sound .panel) gathered are))
 
 module _ (trace : Trace) (table words : List ℕ) (b : ℕ) (byte : b < 256) (sound : HeldSound (holds trace table words)) (none-waits : waits trace ≡ false) where
-  grown-sound : HeldSound (grown trace table words b .held)
+  grown-sound : isOver (trace .stage) ≡ false → HeldSound (grown trace table words b .held)
   unfolding grown
-  grown-sound =
+  grown-sound going =
       let gathered = set (trace .item) (trace .have) b in
       let long : length gathered ≡ 33 = length-set (trace .item) (trace .have) b ∙ sound .item .long in
       let are : Bytes gathered = bytes-set (trace .item) (trace .have) b byte (sound .item .are-bytes) in
       by-test (λ (s : Shown). HeldSound (s .held)) (leb (bodyLength (byteAt gathered 0)) (trace .have)) _ _
       (λ whole. item-sound (idle trace) table words gathered
-      (record { panel = sound .panel; quiet = sound .quiet; item = no-item-sound trace; table = sound .table; words = sound .words }) none-waits long are)
+      (record { panel = sound .panel; quiet = sound .quiet; over = λ is. refl; item = no-item-sound trace; table = sound .table; words = sound .words }) none-waits refl long are)
       (λ more. record {
         panel = sound .panel;
         quiet = sound .quiet;
+        over = λ is. (let z : _≡_ {A = Bool} true false = sym is ∙ going in never (cc));
         item = record { long = long; are-bytes = are; none = λ is. absurd (omega arith) };
         table = sound .table;
         words = sound .words;
@@ -211,7 +219,9 @@ module _ (trace : Trace) (table words : List ℕ) (b : ℕ) (byte : b < 256) (so
   byte-held-sound =
       by-test (λ (s : Shown). HeldSound (s .held)) (isOver (trace .stage)) _ _ (λ over. sound)
       (λ going. by-test (λ (s : Shown). HeldSound (s .held)) (eqb (trace .have) 0 && not (mayCome (trace .stage) b)) _ _
-      (λ wrong. stopped-sound trace table words (sound .item) (sound .table) (sound .words) none-waits) (λ right. grown-sound))
+      (λ wrong. stopped-sound trace table words (sound .item) (sound .table) (sound .words) none-waits
+      (eqb-true (trace .have) 0 (and-left (eqb (trace .have) 0) (not (mayCome (trace .stage) b)) wrong)))
+      (λ right. grown-sound going))
 
 -- ---- A report, and a run
 

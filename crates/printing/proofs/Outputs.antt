@@ -4,22 +4,24 @@ use mathlib.Core.Bool.{Bool, true, false, cond}
 use mathlib.Core.List.{List, [], _∷_, _++_, append-assoc}
 use Prim.Native.Nat.{ℕ, zero, suc, _+_, _*_}
 use native.Mathlib.Omega.{arith}
-use borrow.Author.Tests.{eqb-true}
+use borrow.Author.Tests.{eqb-true, eq-eqb}
 use lib.Dec.{eqb}
 use lib.ListN.{drop, set}
 use Rattle.line.specs.Methods.{busy, givenBytes}
+use Rattle.line.proofs.Truths.{never}
 use Rattle.touch.specs.declared.Setup.{Setup}
 use Rattle.panel.specs.declared.Panel.{Panel}
 use Rattle.panel.specs.declared.FedBytes.{FedBytes}
 use Rattle.panel.specs.Inputs.{fedByte, fedBytes}
-use Rattle.trace.specs.declared.Stage.the-variants.{Started}
+use Rattle.trace.specs.declared.Stage.{Stage}
+use Rattle.trace.specs.declared.Stage.the-variants.{Bare, Ready, Started, Over}
 use Rattle.trace.specs.declared.Trace.{Trace}
 use Rattle.trace.specs.State.{Held, holds, Shown, noItem, gathering, waits, isStarted, isOver}
 use Rattle.trace.specs.Items.{bodyLength, mayCome}
 use Rattle.telling.specs.Events.{event}
 use Rattle.trace.specs.Events.{startedBy, eventAnswered, eventDone, itemDone, grown, tookByte}
 use Rattle.trace.specs.Steps.{lineRun}
-use Rattle.trace.specs.Output.{allReports, printed}
+use Rattle.trace.specs.Output.{allReports, endAt, endText, printed}
 use Rattle.printing.proofs.HeldSound.{HeldSound}
 use Rattle.printing.proofs.AllReports.{reportShown, none-reported, first-reported}
 
@@ -44,6 +46,41 @@ pub byte-output : (held : Held) (b : ℕ) (input : List ℕ) → waits (held .tr
     ≡ tookByte (held .trace) (held .table) (held .words) b .text ++ outputFrom (tookByte (held .trace) (held .table) (held .words) b .held) input
 unfolding outputFrom printed
 byte-output held b input quiet = ap (λ (s : Shown). s .text ++ printed (s .held) (b ∷ input)) (none-reported 258 held quiet)
+
+-- ---- After an X
+
+over-is : (stage : Stage) → isOver stage ≡ true → stage ≡ Over
+unfolding isOver
+over-is Bare is = never (cc)
+over-is Ready is = never (cc)
+over-is Started is = never (cc)
+over-is Over is = refl
+
+over-quiet : (held : Held) → HeldSound held → isOver (held .trace .stage) ≡ true → waits (held .trace) ≡ false
+unfolding isStarted
+over-quiet held sound is = sound .quiet (ap isStarted (over-is (held .trace .stage) is))
+
+over-ends : (held : Held) → HeldSound held → isOver (held .trace .stage) ≡ true → endText (held .trace) (held .table) ≡ []
+unfolding endText endAt
+over-ends held sound is =
+    rw (eq-eqb (held .trace .have) 0 (sound .over is)) (ap (λ (stage : Stage). endAt stage (held .trace) (held .table)) (over-is (held .trace .stage) is))
+
+over-takes : (held : Held) (b : ℕ) → isOver (held .trace .stage) ≡ true
+    → tookByte (held .trace) (held .table) (held .words) b ≡ record { held = held; text = [] }
+unfolding tookByte
+over-takes held b is = rw is
+
+pub end-output : (held : Held) → waits (held .trace) ≡ false → outputFrom held [] ≡ endText (held .trace) (held .table)
+unfolding printed
+end-output held quiet = quiet-output held [] quiet
+
+-- "and the program stops"
+pub over-output : (held : Held) (input : List ℕ) → HeldSound held → isOver (held .trace .stage) ≡ true → outputFrom held input ≡ []
+over-output held [] sound is = end-output held (over-quiet held sound is) ∙ over-ends held sound is
+over-output held (b ∷ input) sound is =
+    byte-output held b input (over-quiet held sound is)
+    ∙ ap (λ (s : Shown). s .text ++ outputFrom (s .held) input) (over-takes held b is)
+    ∙ over-output held input sound is
 
 -- ---- A run of line bytes
 

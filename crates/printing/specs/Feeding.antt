@@ -1,13 +1,13 @@
--- The library called on an input: steps on any front part of what is left, with any room, and the end once nothing is left and no report waits.
+-- The library called on an input: steps on any front part of what is left, with any room, and the end once nothing is left and no report waits, or no more after an X.
 use Prim.Native.Nat.{ℕ, zero, suc, _≤_}
 use mathlib.Core.Path.{_≡_}
-use mathlib.Core.Bool.{false, cond, _||_}
+use mathlib.Core.Bool.{true, false, cond, _||_}
 use mathlib.Core.List.{List, [], _++_}
 use lib.Dec.{leb}
 use lib.ListN.{length, take, drop}
 use Rattle.trace.specs.declared.Answer.the-variants.{Done}
 use Rattle.telling.specs.Told.{leastText}
-use Rattle.trace.specs.State.{Held, holds, waits}
+use Rattle.trace.specs.State.{Held, holds, waits, isOver}
 use Rattle.trace.specs.Steps.{Stepping, stepping}
 use Rattle.trace.specs.Output.{Ending, ending}
 
@@ -29,6 +29,8 @@ pub data Fed : Held → List ℕ → List ℕ → Type 0 where
       → Fed held (chunk ++ rest) (take (stepCalled held chunk room .stepped .count) (stepCalled held chunk room .room) ++ text)
   by-end : (held : Held) (room : List ℕ) → waits (held .trace) ≡ false → endCalled held room .ended .answer ≡ Done
       → Fed held [] (take (endCalled held room .ended .count) (endCalled held room .room))
+  -- "and the program stops": what is left need not be read
+  by-stop : (held : Held) (left : List ℕ) → isOver (held .trace .stage) ≡ true → Fed held left []
 
 -- a caller: how many bytes it hands over behind the first, and the room it lends, whatever is held and left
 pub record Caller : Type 0 where
