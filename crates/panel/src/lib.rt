@@ -545,7 +545,7 @@ fn hand_words(
 ) -> Handed
     ensures { λ r. ⌜ hands r (now (words .exit)) (now (room .exit)) ≡ wordsHanded setup command len (now (content .entry)) (now (words .entry)) (now (room .entry)) ⌝ }
 {
-    let k = acknowledge(setup, command, true, room);
+    let answered = acknowledge(setup, command, true, room);
     let c = touch::checking(setup);
     let q = on_words(
         c,
@@ -553,14 +553,14 @@ fn hand_words(
         command,
         content,
         words,
-        &mut room[k..],
+        &mut room[answered..],
     );
     let o = q.outcome;
     Handed::Accepted {
         command: command,
         count: len,
         outcome: o,
-        acknowledged: k,
+        acknowledged: answered,
         replied: q.count,
     }
 }
