@@ -61,7 +61,7 @@ def documented(public):
                 fits = [(crate, each) for crate, each in public if crate in crates and name in (each, f"{crate}::{each}")]
                 known.update(fits)
                 if len(fits) != 1:
-                    wrong.append(f"docs/CONTRACTS.md, {title}: `{name}` names {len(fits) or 'no'} public functions of {', '.join(crates) or 'no crate'}")
+                    wrong.append(f"docs/CONTRACTS.md, {title}: `{name}` fits {len(fits)} public functions of {', '.join(crates) or 'no crate'}")
     return known, wrong
 
 
@@ -161,7 +161,7 @@ def main():
         wrong += [f"{where}: {fault}" for fault in faults(each, functions, known, excepted)]
     print(f"{len(functions)} public functions: {len(known)} in docs/CONTRACTS.md, {len(excepted)} exceptions", flush=True)
     if wrong:
-        print("\n".join(wrong), f"{len(wrong)} faults, the first: {wrong[0]}", sep="\n", file=sys.stderr)
+        print("\n".join(wrong), f"faults: {len(wrong)}; the first: {wrong[0]}", sep="\n", file=sys.stderr)
     return 1 if wrong else 0
 
 
