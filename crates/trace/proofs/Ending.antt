@@ -3,7 +3,6 @@ use mathlib.Core.Path.{_≡_, refl, sym, ap, _∙_}
 use mathlib.Core.Bool.{true, false, _&&_}
 use mathlib.Core.List.{List}
 use Prim.Native.Nat.{ℕ, _*_, _-_, _≤_, min}
-use native.Mathlib.Nat.{sub-zero}
 use borrow.Author.Tests.{eq-eqb, ne-eqb, leb-true}
 use lib.Dec.{leb}
 use lib.ListN.{length, take}
@@ -23,6 +22,7 @@ use Rattle.trace.specs.declared.Stage.the-variants.{Bare, Ready, Started
 use Rattle.trace.specs.declared.Trace.{Trace}
 use Rattle.trace.specs.declared.Answer.the-variants.{Done, NotLent}
 use Rattle.telling.specs.Told.{prints, leastText}
+use Rattle.trace.proofs.Items.{table-part}
 use Rattle.trace.specs.State.{noItem, newTrace, keptRecords, tableBytes, tableOf}
 use Rattle.trace.specs.Lines.{refusalText, wrongText}
 use Rattle.trace.specs.Events.{startedBy}
@@ -31,8 +31,7 @@ use Rattle.trace.specs.Output.{endAnswered, endStarted, endAt, endText, 
 module _ (trace : Trace) (table room left : List ℕ) (n k : ℕ) (is-k : k ≡ min (trace .records) keptRecords) (begun : Start)
     (is-begun : begun ≡ startedBy trace (take (k * 32 - 0) table)) where
   the-part : take (k * 32 - 0) table ≡ tableOf (trace .records) table
-  unfolding tableOf
-  the-part = rw (sub-zero (k * 32), is-k)
+  the-part = table-part (trace .records) table k is-k
 
   answered-so : (answer : StartAnswer) → begun .answer ≡ answer → prints (endAnswered answer (begun .panel)) room ≡ prints (endStarted trace table) room
   unfolding endStarted

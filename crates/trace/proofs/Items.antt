@@ -3,7 +3,7 @@ use mathlib.Core.Path.{_≡_, sym, ap, _∙_}
 use mathlib.Core.Bool.{false, _&&_}
 use mathlib.Core.List.{List, _++_, append-nil}
 use Prim.Native.Nat.{ℕ, _+_, _*_, _-_, _≤_, _<_, min}
-use native.Mathlib.Nat.{min-eq-left, min-eq-right, le-of-lt}
+use native.Mathlib.Nat.{sub-zero, min-eq-left, min-eq-right, le-of-lt}
 use native.Mathlib.Omega.{arith}
 use borrow.Author.Tests.{ne-eqb, lt-ltb, le-ltb}
 use lib.Dec.{eqb, leb}
@@ -14,7 +14,7 @@ use Rattle.wire.specs.Room.{laidAt}
 use Rattle.wire.proofs.Parts.{part-whole, part-end}
 use Rattle.trace.specs.declared.Stage.{Stage}
 use Rattle.trace.specs.declared.Stage.the-variants.{Bare, Ready, Started, Over}
-use Rattle.trace.specs.State.{keptRecords}
+use Rattle.trace.specs.State.{keptRecords, tableOf}
 use Rattle.trace.specs.Items.{bodyLength, mayCome, setupIn, recordPut, recordCounted}
 
 module _ (stage : Stage) (kind : ℕ) where
@@ -68,6 +68,11 @@ module _ (records : ℕ) where
   pub kept-most : 129 ≤ records → 129 ≡ min records keptRecords
   unfolding keptRecords
   kept-most many = sym (min-eq-right many)
+
+  -- the table of the records met, as the code cuts it out
+  pub table-part : (table : List ℕ) (k : ℕ) → k ≡ min records keptRecords → take (k * 32 - 0) table ≡ tableOf records table
+  unfolding tableOf
+  table-part table k is = rw (sub-zero (k * 32), is)
 
   pub one-more : records < 129 → records + 1 ≡ recordCounted records
   unfolding recordCounted keptRecords

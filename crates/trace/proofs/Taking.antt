@@ -3,7 +3,7 @@ use mathlib.Core.Path.{_≡_, refl, sym, ap, _∙_}
 use mathlib.Core.Bool.{Bool, true, false, cond, not, _&&_}
 use mathlib.Core.List.{List, []}
 use Prim.Native.Nat.{ℕ, _+_, _*_, _-_, _≤_, _<_, min}
-use native.Mathlib.Nat.{sub-zero, min-le-left}
+use native.Mathlib.Nat.{min-le-left}
 use native.Mathlib.Omega.{arith}
 use borrow.Author.Tests.{ne-eqb, le-leb, lt-leb}
 use lib.Dec.{eqb, leb}
@@ -29,6 +29,7 @@ use Rattle.trace.specs.declared.Printed.{Printed}
 use Rattle.telling.specs.declared.PanelPrinted.{PanelPrinted}
 use Rattle.telling.proofs.Telling.{printed-in}
 use Rattle.telling.specs.Told.{Told, prints, PanelLeft, leavesPanel, printedIn}
+use Rattle.trace.proofs.Items.{table-part}
 use Rattle.trace.specs.State.{shows, noItem, keptRecords, tableOf, isStarted, isOver, gathering, idle, withSetup, withRecords, withPanel, stopped, EventLeft, leavesTrace, tracePrinting, leaves, printing}
 use Rattle.trace.specs.Items.{bodyLength, mayCome, setupIn, recordPut, recordCounted}
 use Rattle.trace.specs.Lines.{refusalText, wrongText}
@@ -83,8 +84,7 @@ started-left trace told panel done words words′ room left wide e =
 module _ (trace : Trace) (table : List ℕ) (k : ℕ) (is-k : k ≡ min (trace .records) keptRecords) (begun : Start)
     (is-begun : begun ≡ startedBy trace (take (k * 32 - 0) table)) where
   the-part : take (k * 32 - 0) table ≡ tableOf (trace .records) table
-  unfolding tableOf
-  the-part = rw (sub-zero (k * 32), is-k)
+  the-part = table-part (trace .records) table k is-k
 
   pub wrong-below : (i : ℕ) → k ≤ 129 → begun .answer ≡ start.WrongRecord i → i < 256
   unfolding named

@@ -118,7 +118,7 @@ lentTo table words text = leb tableBytes table && eqb words wordCount && leb lea
 
 -- ---- Text laid over the room that is lent for it
 
--- the same of the trace the panel belongs to
+-- what an event or a report leaves, and its text over the room
 pub record EventLeft : Type 0 where
   pub printed : Printed
   pub words : List ℕ
@@ -131,6 +131,7 @@ abbrev pub tracePrinting : Trace → Told → List ℕ → EventLeft
 tracePrinting trace told room =
     leavesTrace (record { trace = withPanel trace (told .panel); count = length (told .text) }) (told .words) (over (told .text) room)
 
+-- what a byte of the input leaves, the table included
 pub record TraceLeft : Type 0 where
   pub printed : Printed
   pub table : List ℕ
