@@ -8,7 +8,7 @@ use borrow.Author.Tests.{ltb-false, eqb-true, eqb-false}
 use lib.Dec.{eqb, ltb}
 use lib.ListN.{length, drop}
 use Rattle.wire.specs.ByteOrder.{byteAt, wordAt}
-use Rattle.registers.specs.Table.{registerCount}
+use Rattle.wire.specs.Addresses.{registerCount}
 use Rattle.registers.specs.Run.{unwritableRun, wrongValue}
 use Rattle.registers.proofs.Allowed.{neither}
 use Rattle.words.specs.Words.{wordsOf}
@@ -25,7 +25,7 @@ pub record RegistersPassed (pages : ℕ) (content : List ℕ) : Type 0 where
   pub right : wrongValue (byteAt content 0) (drop 1 content) pages ≡ false
 
 pub registers-passed : (pages : ℕ) (content : List ℕ) → isDone (writeRegistersOutcome pages content) ≡ true → RegistersPassed pages content
-unfolding writeRegistersOutcome registerCount
+unfolding writeRegistersOutcome
 registers-passed pages content done =
     let short : Bool = ltb (length content) 2 in
     let past : Bool = ltb 256 (byteAt content 0 + length (drop 1 content)) in

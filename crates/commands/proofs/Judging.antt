@@ -10,7 +10,7 @@ use lib.ListN.{length, getD, take, drop, length-drop}
 use Rattle.wire.specs.ByteOrder.{wordAt}
 use Rattle.wire.proofs.Parts.{part-whole}
 use Rattle.frame.specs.Frame.{checkLength}
-use Rattle.registers.specs.Table.{registerCount}
+use Rattle.wire.specs.Addresses.{registerCount}
 use Rattle.registers.specs.Run.{unwritableRun, wrongValue}
 use Rattle.words.specs.Words.{wordsOf}
 use Rattle.words.proofs.Carried.{length-wordsOf}
@@ -37,7 +37,7 @@ module _ (pages : ℕ) (content : List ℕ) where
 
   module _ (enough : 2 ≤ length content) (a : ℕ) (is-a : a ≡ getD content 0 0) where
     pub write-past : 256 < a + length lent → PastEnd ≡ writeRegistersOutcome pages content
-    unfolding writeRegistersOutcome registerCount
+    unfolding writeRegistersOutcome
     write-past past =
         let past′ : 256 < getD content 0 0 + length (drop 1 content) = rw (is-a, part-whole content 1) at past in
         rw (le-ltb (length content) 2 enough, lt-ltb 256 (getD content 0 0 + length (drop 1 content)) past′)
@@ -50,7 +50,7 @@ module _ (pages : ℕ) (content : List ℕ) where
       is-u′ = rw (part-whole content 1) at is-u
 
       pub write-unwritable : u ≡ true → Unwritable ≡ writeRegistersOutcome pages content
-      unfolding writeRegistersOutcome registerCount
+      unfolding writeRegistersOutcome
       write-unwritable is =
           rw (le-ltb (length content) 2 enough, le-ltb 256 (getD content 0 0 + length (drop 1 content)) inside′, sym is-u′ ∙ is)
 
@@ -59,7 +59,7 @@ module _ (pages : ℕ) (content : List ℕ) where
         is-w′ = rw (part-whole content 1) at is-w
 
         judged : (o : Outcome) → o ≡ cond w WrongValue Done → o ≡ writeRegistersOutcome pages content
-        unfolding writeRegistersOutcome registerCount
+        unfolding writeRegistersOutcome
         judged o is =
             rw (le-ltb (length content) 2 enough, le-ltb 256 (getD content 0 0 + length (drop 1 content)) inside′, sym is-u′ ∙ writable, ← is-w′) is
 
@@ -77,14 +77,14 @@ module _ (checking : Bool) (content : List ℕ) where
 
   module _ (shape : length content ≡ 2) (a n : ℕ) (is-a : a ≡ getD content 0 0) (is-n : n ≡ getD content 1 0) where
     pub read-past : 256 < a + n → PastEnd ≡ readRegistersOutcome checking content
-    unfolding readRegistersOutcome registerCount
+    unfolding readRegistersOutcome
     read-past past =
         let past′ : 256 < getD content 0 0 + getD content 1 0 = rw (is-a, is-n) at past in
         rw (eq-eqb (length content) 2 shape, lt-ltb 256 (getD content 0 0 + getD content 1 0) past′)
 
     module _ (inside : a + n ≤ 256) (l : Bool) (is-l : l ≡ replyTooLong checking (2 + n)) where
       decided : (o : Outcome) → o ≡ cond l ReplyTooLong Done → o ≡ readRegistersOutcome checking content
-      unfolding readRegistersOutcome registerCount
+      unfolding readRegistersOutcome
       decided o is =
           let inside′ : getD content 0 0 + getD content 1 0 ≤ 256 = rw (is-a, is-n) at inside in
           rw (eq-eqb (length content) 2 shape, le-ltb 256 (getD content 0 0 + getD content 1 0) inside′, ← is-n, ← is-l) is

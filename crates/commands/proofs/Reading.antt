@@ -13,7 +13,7 @@ use Rattle.frame.specs.Frame.{checkLength, mostData}
 use Rattle.frame.specs.Writer.{frameLaid}
 use Rattle.frame.proofs.Writers.{length-most}
 use Rattle.registers.specs.declared.Registers.{Registers}
-use Rattle.registers.specs.Table.{registerCount}
+use Rattle.wire.specs.Addresses.{registerCount}
 use Rattle.commands.specs.declared.Outcome.{Outcome}
 use Rattle.commands.specs.declared.Outcome.the-variants.{Done, WrongData, PastEnd, ReplyTooLong}
 use Rattle.commands.specs.Outcome.{replyTooLong, readRegistersOutcome, readWordsOutcome}
@@ -52,7 +52,7 @@ laid-refused o checking header command payload room refused = rw refused
 
 module _ (checking : Bool) (content : List ℕ) (o : Outcome) (b : Bool) (is-o : o ≡ readRegistersOutcome checking content) (is-b : b ≡ isDone o) where
   registers-read-fits : (first n : ℕ) → b ≡ true → first ≡ getD content 0 0 → n ≡ getD content 1 0 → (first + n ≤ 256) × (2 + n ≤ mostData checking)
-  unfolding readRegistersOutcome registerCount
+  unfolding readRegistersOutcome
   registers-read-fits first n done is-first is-n =
       let address = getD content 0 0 in
       let count = getD content 1 0 in

@@ -20,7 +20,8 @@ use Rattle.registers.proofs.Copying.{length-run}
 use Rattle.words.proofs.Carried.{length-bytesOf}
 use Rattle.words.proofs.Loops.{length-wordRun}
 use Rattle.registers.specs.declared.Registers.{Registers}
-use Rattle.registers.specs.Table.{registerCount, registerRun}
+use Rattle.wire.specs.Addresses.{registerCount}
+use Rattle.registers.specs.Table.{registerRun}
 use Rattle.words.specs.Words.{bytesOf, wordRun, wordsLaid}
 use Rattle.commands.specs.Reply.{registersReply, wordsReply}
 
@@ -45,7 +46,7 @@ pub registers-laid : (registers : Registers) (first n count : ℕ) (body l r : L
     → l ≡ take 3 (0x81 ∷ first ∷ n ∷ []) ++ drop 3 body
     → lays count r ≡ laid (leb (first + n) registerCount && leb n (length (take (length l - 3) (drop 3 l)))) (registerRun registers first n) (take (length l - 3) (drop 3 l))
     → take 3 l ++ (r ++ drop (length l - 3) (drop 3 l)) ≡ over (0x81 ∷ registersReply registers first n) body
-unfolding registersReply registerCount
+unfolding registersReply
 registers-laid registers first n count body l r within fits is-l is-r =
     let head : List ℕ = 0x81 ∷ first ∷ n ∷ [] in
     let long = part-length head body l 3 refl (omega arith) is-l in

@@ -7,7 +7,7 @@ use lib.Dec.{eqb, ltb}
 use lib.ListN.{length, drop}
 use Rattle.wire.specs.ByteOrder.{byteAt, wordAt}
 use Rattle.frame.specs.Frame.{checkLength}
-use Rattle.registers.specs.Table.{registerCount}
+use Rattle.wire.specs.Addresses.{registerCount}
 use Rattle.registers.specs.Run.{unwritableRun, wrongValue}
 use Rattle.words.specs.Words.{wordsOf}
 use Rattle.commands.specs.declared.Outcome.{Outcome}

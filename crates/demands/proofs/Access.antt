@@ -22,7 +22,8 @@ use Rattle.line.specs.declared.Asked.{Asked}
 use Rattle.line.specs.State.{padded}
 use Rattle.line.specs.Methods.{asked}
 use Rattle.line.proofs.Truths.{never, and-left, and-right}
-use Rattle.words.specs.Words.{wordCount, wordsWritten}
+use Rattle.wire.specs.Addresses.{wordCount}
+use Rattle.words.specs.Words.{wordsWritten}
 use Rattle.registers.specs.declared.Registers.{Registers}
 use Rattle.registers.specs.Run.{covers, written}
 use Rattle.commands.specs.declared.Outcome.{Outcome}
@@ -61,7 +62,7 @@ pub record Asks (now : Moment) (command : ℕ) (content : List ℕ) : Type 0 whe
   pub given : take count (asked (now .panel .reader) .payload) ≡ content
 
 pub handed-asks : (now : Moment) (command : ℕ) (content : List ℕ) → handedOver now ask ≡ acceptedFrame command content ∷ [] → Asks now command content
-unfolding handedOver reporting handing reportHanded lent wordCount leastRoom
+unfolding handedOver reporting handing reportHanded lent
 handed-asks now command content = go (lent (length (now .words)) (length (now .room))) refl (a .report) refl
   where
     panel : Panel
@@ -284,7 +285,7 @@ module _ (now : Moment) where
   momentOf r = record { panel = r .reported .panel; words = r .words; room = r .room }
 
   pub answers-bad-check : Reachable (now .panel) → (command : ℕ) → handedOver now ask ≡ badCheck command ∷ [] → after now ask ≡ afterBadCheck now command
-  unfolding after handedOver reporting handing reportHanded lent leastRoom afterBadCheck readBehind
+  unfolding after handedOver reporting handing reportHanded lent afterBadCheck readBehind
   answers-bad-check reached command = go (lent (length (now .words)) (length (now .room))) refl (a .report)
     where
       go : (l : Bool) → lent (length (now .words)) (length (now .room)) ≡ l → (told : Report)

@@ -14,8 +14,9 @@ use Rattle.line.specs.Methods.{givenByte, givenMark, givenBytes, asked}
 use Rattle.stores.specs.Store.{inMode, signed, wordOf}
 use Rattle.stores.specs.Step.{stepped, fenced, stepStores}
 use Rattle.stores.specs.Slider.{nearest, roundedDown, slid, slidTo, sliderStores}
-use Rattle.registers.specs.Table.{registerCount, startRegisters, registerAt, registerRun}
-use Rattle.words.specs.Words.{wordCount, wordAtAddress, wordsOf, wordsWritten}
+use Rattle.registers.specs.Table.{startRegisters, registerAt, registerRun}
+use Rattle.wire.specs.Addresses.{registerCount, wordCount}
+use Rattle.words.specs.Words.{wordAtAddress, wordsOf, wordsWritten}
 use Rattle.commands.specs.Outcome.{replyTooLong, readRegistersOutcome, writeWordsOutcome}
 use Rattle.commands.specs.Effect.{replying, registersReplying, wordsWriting}
 use Rattle.commands.specs.Reply.{registersReply}
@@ -29,5 +30,5 @@ use Rattle.demands.specs.Examples.{AllRight, examples}
 
 -- every row, by computation
 pub examples-right : AllRight examples
-unfolding started startJudged Judge.judged recordsFrom firstOf newPanel fedBytes fedMark givenMark givenBytes givenByte asked padded headerBytes checkLength leastLength contentOf rightCheck look behind afterHeader judged cutShort isPass passes stillClosed settled withByte withMark checkValue checkFrom byteStep bitSteps bitStep polynomial reporting lent wordCount leastRoom handing accepting acknowledged performance registersReplying replying readRegistersOutcome replyTooLong registersReply registerRun registerAt startRegisters registerCount frameLaid mostData frameOf framed enclosed lengthByte checkBytes laid over laidAt wordsWriting writeWordsOutcome wordsOf wordsWritten wordAtAddress lineReports lineFrom Stretch.reports Stretch.reportsFrom isWait reportOf goneBy acknowledgement acknowledgementLength verdict inMode signed wordOf stepped fenced stepStores nearest roundedDown slid slidTo sliderStores
+unfolding started startJudged Judge.judged recordsFrom firstOf newPanel fedBytes fedMark givenMark givenBytes givenByte asked padded headerBytes checkLength leastLength contentOf rightCheck look behind afterHeader judged cutShort isPass passes stillClosed settled withByte withMark checkValue checkFrom byteStep bitSteps bitStep polynomial reporting lent handing accepting acknowledged performance registersReplying replying readRegistersOutcome replyTooLong registersReply registerRun registerAt startRegisters frameLaid mostData frameOf framed enclosed lengthByte checkBytes laid over laidAt wordsWriting writeWordsOutcome wordsOf wordsWritten wordAtAddress lineReports lineFrom Stretch.reports Stretch.reportsFrom isWait reportOf goneBy acknowledgement acknowledgementLength verdict inMode signed wordOf stepped fenced stepStores nearest roundedDown slid slidTo sliderStores
 examples-right = (refl, (refl, (refl, (refl, (refl, (refl, (refl, (refl, (refl, (refl, (refl, (refl, (refl, (refl, tt))))))))))))))

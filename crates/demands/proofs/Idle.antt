@@ -19,10 +19,11 @@ use Rattle.line.specs.State.{padded}
 use Rattle.line.specs.Methods as line
 use Rattle.line.specs.Methods.{givenByte, givenMark, givenBytes}
 use Rattle.registers.specs.declared.Registers.{Registers}
-use Rattle.registers.specs.Table.{registerCount, startRegisters, registerAt, registerRun, writable}
+use Rattle.registers.specs.Table.{startRegisters, registerAt, registerRun, writable}
 use Rattle.registers.specs.Run as Run
 use Rattle.registers.specs.Run.{covers, allWritable, halfPage, unwritableRun, wrongValue, written}
-use Rattle.words.specs.Words.{wordCount, wordAtAddress, wordsOf, bytesOf, wordRun, wordsWritten}
+use Rattle.wire.specs.Addresses.{registerCount, wordCount}
+use Rattle.words.specs.Words.{wordAtAddress, wordsOf, bytesOf, wordRun, wordsWritten}
 use Rattle.commands.specs.Outcome as Outcome
 use Rattle.commands.specs.Outcome.{replyTooLong, writeRegistersOutcome, readRegistersOutcome, writeWordsOutcome, readWordsOutcome}
 use Rattle.commands.specs.Effect.{replying, registersReplying, wordsReplying, registersWritten, wordsWriting}
@@ -77,15 +78,15 @@ record Gives (now : Moment) (calls : List Call) (frames : List (List ℕ)) : Typ
   all-asked : AllAskedFor now calls
 
 one-gives : Gives new one (version ∷ [])
-unfolding started startJudged Judge.judged recordsFrom firstOf newPanel fedBytes fedMark givenMark givenBytes givenByte line.asked padded headerBytes checkLength leastLength contentOf rightCheck look behind afterHeader judged cutShort isPass isReport passes stillClosed settled waiting withByte withMark checkValue checkFrom byteStep bitSteps bitStep polynomial reporting lent wordCount leastRoom handing accepting acknowledged performance registersReplying replying readRegistersOutcome replyTooLong registersReply registerRun registerAt startRegisters registerCount frameLaid mostData frameOf framed enclosed lengthByte checkBytes laid over reportWaits given givenAll after afterAll unlessRefused joined
+unfolding started startJudged Judge.judged recordsFrom firstOf newPanel fedBytes fedMark givenMark givenBytes givenByte line.asked padded headerBytes checkLength leastLength contentOf rightCheck look behind afterHeader judged cutShort isPass isReport passes stillClosed settled waiting withByte withMark checkValue checkFrom byteStep bitSteps bitStep polynomial reporting lent handing accepting acknowledged performance registersReplying replying readRegistersOutcome replyTooLong registersReply registerRun registerAt startRegisters frameLaid mostData frameOf framed enclosed lengthByte checkBytes laid over reportWaits given givenAll after afterAll unlessRefused joined
 one-gives = record { ready = new-ready; given-is = refl; all-asked = refl }
 
 two-gives : Gives new two (version ∷ version ∷ [])
-unfolding started startJudged Judge.judged recordsFrom firstOf newPanel fedBytes fedMark givenMark givenBytes givenByte line.asked padded headerBytes checkLength leastLength contentOf rightCheck look behind afterHeader judged cutShort isPass isReport passes stillClosed settled waiting withByte withMark checkValue checkFrom byteStep bitSteps bitStep polynomial reporting lent wordCount leastRoom handing accepting acknowledged performance registersReplying replying readRegistersOutcome replyTooLong registersReply registerRun registerAt startRegisters registerCount frameLaid mostData frameOf framed enclosed lengthByte checkBytes laid over reportWaits given givenAll after afterAll unlessRefused joined
+unfolding started startJudged Judge.judged recordsFrom firstOf newPanel fedBytes fedMark givenMark givenBytes givenByte line.asked padded headerBytes checkLength leastLength contentOf rightCheck look behind afterHeader judged cutShort isPass isReport passes stillClosed settled waiting withByte withMark checkValue checkFrom byteStep bitSteps bitStep polynomial reporting lent handing accepting acknowledged performance registersReplying replying readRegistersOutcome replyTooLong registersReply registerRun registerAt startRegisters frameLaid mostData frameOf framed enclosed lengthByte checkBytes laid over reportWaits given givenAll after afterAll unlessRefused joined
 two-gives = record { ready = new-ready; given-is = refl; all-asked = refl }
 
 behind-gives : Gives marked one (version ∷ [])
-unfolding Typed started startJudged Judge.judged recordsFrom firstOf newPanel fedBytes fedMark givenMark givenBytes givenByte line.asked padded headerBytes checkLength leastLength contentOf rightCheck look behind afterHeader judged cutShort isPass isReport passes stillClosed settled waiting withByte withMark checkValue checkFrom byteStep bitSteps bitStep polynomial reporting lent wordCount leastRoom handing accepting acknowledged performance registersReplying replying readRegistersOutcome replyTooLong registersReply registerRun registerAt startRegisters registerCount frameLaid mostData frameOf framed enclosed lengthByte checkBytes laid over reportWaits given givenAll after afterAll unlessRefused joined
+unfolding Typed started startJudged Judge.judged recordsFrom firstOf newPanel fedBytes fedMark givenMark givenBytes givenByte line.asked padded headerBytes checkLength leastLength contentOf rightCheck look behind afterHeader judged cutShort isPass isReport passes stillClosed settled waiting withByte withMark checkValue checkFrom byteStep bitSteps bitStep polynomial reporting lent handing accepting acknowledged performance registersReplying replying readRegistersOutcome replyTooLong registersReply registerRun registerAt startRegisters frameLaid mostData frameOf framed enclosed lengthByte checkBytes laid over reportWaits given givenAll after afterAll unlessRefused joined
 behind-gives =
     record {
       ready = record { arises = by-call new mark tt new-arises; checking-on = refl; nothing = (refl, refl) };
@@ -94,7 +95,7 @@ behind-gives =
     }
 
 mark-given : givenAll new (mark ∷ []) ≡ [] ++ (Line.mark ∷ [])
-unfolding started startJudged Judge.judged recordsFrom firstOf newPanel fedBytes fedMark givenMark givenBytes givenByte line.asked padded headerBytes checkLength leastLength contentOf rightCheck look behind afterHeader judged cutShort isPass isReport passes stillClosed settled waiting withByte withMark checkValue checkFrom byteStep bitSteps bitStep polynomial reporting lent wordCount leastRoom handing accepting acknowledged performance registersReplying replying readRegistersOutcome replyTooLong registersReply registerRun registerAt startRegisters registerCount frameLaid mostData frameOf framed enclosed lengthByte checkBytes laid over reportWaits given givenAll after afterAll unlessRefused joined
+unfolding started startJudged Judge.judged recordsFrom firstOf newPanel fedBytes fedMark givenMark givenBytes givenByte line.asked padded headerBytes checkLength leastLength contentOf rightCheck look behind afterHeader judged cutShort isPass isReport passes stillClosed settled waiting withByte withMark checkValue checkFrom byteStep bitSteps bitStep polynomial reporting lent handing accepting acknowledged performance registersReplying replying readRegistersOutcome replyTooLong registersReply registerRun registerAt startRegisters frameLaid mostData frameOf framed enclosed lengthByte checkBytes laid over reportWaits given givenAll after afterAll unlessRefused joined
 mark-given = refl
 
 some-is-not-none : {report : Report} {reports : List Report} → report ∷ reports ≡ [] → ⊥
@@ -202,7 +203,7 @@ record AllDone : Type 0 where
   reading-light : Done zeros readLight 0x81 (0x01 ∷ 0x01 ∷ [])
 
 all-done : AllDone
-unfolding handedOver reportHanded numberGiven reportNumber Outcome.numberOf wordsWriting writeWordsOutcome wordsOf wordsReplying readWordsOutcome registersWritten writeRegistersOutcome unwritableRun allWritable writable halfPage covers wrongValue Run.given registersReplying replying readRegistersOutcome replyTooLong registerCount started startJudged Judge.judged recordsFrom firstOf newPanel fedBytes givenBytes givenByte line.asked padded headerBytes checkLength leastLength contentOf rightCheck look behind afterHeader judged cutShort isPass passes stillClosed settled withByte reporting lent wordCount leastRoom handing accepting acknowledged performance after
+unfolding handedOver reportHanded numberGiven reportNumber Outcome.numberOf wordsWriting writeWordsOutcome wordsOf wordsReplying readWordsOutcome registersWritten writeRegistersOutcome unwritableRun allWritable writable halfPage covers wrongValue Run.given registersReplying replying readRegistersOutcome replyTooLong started startJudged Judge.judged recordsFrom firstOf newPanel fedBytes givenBytes givenByte line.asked padded headerBytes checkLength leastLength contentOf rightCheck look behind afterHeader judged cutShort isPass passes stillClosed settled withByte reporting lent handing accepting acknowledged performance after
 all-done =
     record {
       storing = record { hands = refl; done = refl };
@@ -240,7 +241,7 @@ module _ (leaves : Leaves) (demand : DoesCommands leaves) where
       omega arith
 
   register-is-1 : registerAt (leaves (fed zeros write) .panel .registers) 0x02 ≡ 1
-  unfolding allBytes afterWrite leaving registerAt startRegisters written laidAt registerCount started startJudged Judge.judged recordsFrom firstOf newPanel after fedBytes headerBytes
+  unfolding allBytes afterWrite leaving registerAt startRegisters written laidAt started startJudged Judge.judged recordsFrom firstOf newPanel after fedBytes headerBytes
   register-is-1 =
       ap (λ (m : Moment). registerAt (m .panel .registers) 0x02) (demand .writes (fed zeros write) (fed-arises 0 write (omega arith) refl) (0x02 ∷ 0x01 ∷ []) (all-done .writing .done) (all-done .writing .hands))
 

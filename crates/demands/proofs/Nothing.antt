@@ -15,7 +15,7 @@ use Rattle.line.specs.State.{rulesFor, readerOf, keptOf}
 use Rattle.line.specs.Methods.{busy}
 use Rattle.line.specs.Reached.{Reached}
 use Rattle.line.proofs.Carried.{waiting-is, reached-report}
-use Rattle.words.specs.Words.{wordCount}
+use Rattle.wire.specs.Addresses.{wordCount}
 use Rattle.panel.specs.declared.Panel.{Panel}
 use Rattle.panel.specs.declared.Handed.{Handed}
 use Rattle.panel.specs.Reporting.{lent, reporting}
@@ -31,7 +31,7 @@ use Rattle.demands.proofs.Lent.{reported-words, reported-room}
 use Rattle.demands.proofs.Reading.{ask-moves}
 
 is-lent : (now : Moment) → length (now .words) ≡ 28672 → 265 ≤ length (now .room) → lent (length (now .words)) (length (now .room)) ≡ true
-unfolding lent wordCount leastRoom
+unfolding lent
 is-lent now whole large = rw (eq-eqb (length (now .words)) 28672 whole, le-leb 265 (length (now .room)) large)
 
 -- n asks of a panel are n asks of the reading

@@ -27,10 +27,10 @@ use Rattle.line.specs.Methods.{busy, givenByte, givenMark, givenBytes, gave, pl
 use Rattle.line.specs.Reached.{reportAs, payloadAs}
 use Rattle.line.proofs.Padding.{take-padded}
 use Rattle.line.proofs.Truths.{never, and-left, and-right}
-use Rattle.registers.specs.Table.{registerCount}
 use Rattle.registers.specs.Run.{unwritableRun, wrongValue}
 use Rattle.registers.specs.Touched.{isDown, isTouchOff}
-use Rattle.words.specs.Words.{wordCount, wordsOf}
+use Rattle.wire.specs.Addresses.{registerCount, wordCount}
+use Rattle.words.specs.Words.{wordsOf}
 use Rattle.commands.specs.declared.Outcome.the-variants.{Done, UnknownCommand, WrongData, PastEnd, Unwritable, WrongValue, ReplyTooLong}
 use Rattle.commands.specs.Outcome as Outcome
 use Rattle.commands.specs.Outcome.{outcome, writeRegistersOutcome, readRegistersOutcome, writeWordsOutcome, readWordsOutcome, replyTooLong}
@@ -92,7 +92,7 @@ module _ (setup : Setup) (command : ℕ) (content : List ℕ) where
       ∷ []
 
   write-numbers : command ≡ 0x80 → Outcome.numberOf (writeRegistersOutcome (setup .pages) content) ≡ firstNumber frameNumbers
-  unfolding writeRegistersOutcome registerCount Outcome.numberOf firstNumber notCommand byCommand wrongData passesEnd touchesUnwritable valueWrong replyPasses
+  unfolding writeRegistersOutcome Outcome.numberOf firstNumber notCommand byCommand wrongData passesEnd touchesUnwritable valueWrong replyPasses
   write-numbers is =
       rw is
       (go (ltb (length content) 2) (ltb 256 (byteAt content 0 + length (drop 1 content))) (unwritableRun (byteAt content 0) (length (drop 1 content)))
@@ -107,7 +107,7 @@ module _ (setup : Setup) (command : ℕ) (content : List ℕ) where
       go false false false false = refl
 
   read-numbers : command ≡ 0x81 → Outcome.numberOf (readRegistersOutcome (checkingOf setup) content) ≡ firstNumber frameNumbers
-  unfolding readRegistersOutcome registerCount Outcome.numberOf firstNumber notCommand byCommand wrongData passesEnd touchesUnwritable valueWrong replyPasses
+  unfolding readRegistersOutcome Outcome.numberOf firstNumber notCommand byCommand wrongData passesEnd touchesUnwritable valueWrong replyPasses
   read-numbers is =
       rw is
       (three (not (eqb (length content) 2)) (ltb 256 (byteAt content 0 + byteAt content 1)) (replyTooLong (checkingOf setup) (2 + byteAt content 1)))
@@ -193,7 +193,7 @@ handing-numbers panel words room whole a told (acceptedFrame command content ∷
     rw (is, same) (accepted-number panel words room whole command content)
 
 ask-number : (now : Moment) → Sound (now .panel) → numberGiven now ask ≡ firstNumber (printed now ask)
-unfolding numberGiven printed reporting reportNumber lent wordCount leastRoom wordsNotLent roomTooSmall firstNumber
+unfolding numberGiven printed reporting reportNumber lent wordsNotLent roomTooSmall firstNumber
 ask-number now sound = go (eqb (length (now .words)) 28672) refl (leb 265 (length (now .room))) refl
   where
     panel : Panel
@@ -310,7 +310,7 @@ module _ (panel : Panel) (table words : List ℕ) (x y : ℕ) where
 
 contact-number : (now : Moment) → Sound (now .panel) → (table : List ℕ) (x y : ℕ)
     → numberGiven now (contact table x y) ≡ firstNumber (printed now (contact table x y))
-unfolding numberGiven printed contacting contactNumber wordCount wordsNotLent firstNumber
+unfolding numberGiven printed contacting contactNumber wordsNotLent firstNumber
 contact-number now sound table x y = rw (← busy-waits (now .panel) sound) (go (not (eqb (length (now .words)) 28672)) (busy (now .panel .reader)))
   where
     panel : Panel
@@ -368,7 +368,7 @@ start-as-printed setup table =
 -- frame writer: "it refuses with 14, then 3"
 pub writer-as-printed : (checking : Bool) (header : List ℕ) (command : ℕ) (payload room : List ℕ)
     → Writer.numberOf (writing checking header command payload room .answer) ≡ firstNumber (printedWriter checking payload room)
-unfolding writing leastRoom Writer.numberOf printedWriter roomTooSmall firstNumber
+unfolding writing Writer.numberOf printedWriter roomTooSmall firstNumber
 writer-as-printed checking header command payload room = go (ltb (length room) 265) (ltb (mostData checking) (length payload))
   where
     frame : List ℕ

@@ -11,7 +11,8 @@ use Rattle.wire.specs.ByteOrder.{byteAt, wordAt}
 use Rattle.frame.specs.Frame.{checkLength}
 use Rattle.reading.specs.Place.{acceptedFrame}
 use Rattle.line.proofs.Truths.{never, and-left, and-right}
-use Rattle.registers.specs.Table.{registerCount, writable}
+use Rattle.wire.specs.Addresses.{registerCount}
+use Rattle.registers.specs.Table.{writable}
 use Rattle.registers.specs.Run.{allWritable, halfPage, unwritableRun}
 use Rattle.registers.proofs.Allowed.{neither}
 use Rattle.words.specs.Words.{wordsOf}
@@ -68,7 +69,7 @@ check-short true = omega arith
 check-short false = omega arith
 
 registers-answer : (checking : Bool) (address n : ℕ) → address + n ≤ 0x0C → Outcome.numberOf (readRegistersOutcome checking (address ∷ n ∷ [])) ≡ 0
-unfolding readRegistersOutcome registerCount replyTooLong Outcome.numberOf
+unfolding readRegistersOutcome replyTooLong Outcome.numberOf
 registers-answer checking address n low =
     rw (le-ltb 256 (address + n) (omega arith), le-ltb 255 (1 + (2 + n) + checkLength checking) (omega (arith, check-short checking)))
 

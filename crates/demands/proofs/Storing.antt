@@ -13,7 +13,8 @@ use Rattle.wire.specs.Bytes.{Bytes}
 use Rattle.wire.specs.ByteOrder.{word, byteAt, wordAt, highByte, lowByte, highFirst}
 use Rattle.wire.specs.Room.{laidAt}
 use Rattle.registers.specs.declared.Registers.{Registers}
-use Rattle.registers.specs.Table.{registerCount, holding, startRegisters, registerAt}
+use Rattle.wire.specs.Addresses.{registerCount}
+use Rattle.registers.specs.Table.{holding, startRegisters, registerAt}
 use Rattle.registers.specs.Run.{written}
 use Rattle.registers.specs.Touched.{pageOf, withPage, isDown, withStatus, withPlace}
 use Rattle.words.specs.Words.{wordAtAddress, wordSet, wordsOf, wordsWritten}

@@ -16,7 +16,8 @@ use Rattle.registers.specs.Touched.{isDown, isTouchOff, pageOf, withStatus, wit
 use Rattle.stores.specs.Store.{signed, valueIn, keyStores}
 use Rattle.stores.specs.Step.{stepped, fenced}
 use Rattle.stores.specs.Slider.{roundedDown, slidTo}
-use Rattle.words.specs.Words.{wordCount, wordAtAddress, wordSet}
+use Rattle.wire.specs.Addresses.{wordCount}
+use Rattle.words.specs.Words.{wordAtAddress, wordSet}
 use Rattle.touch.specs.declared.Verdict.{Verdict}
 use Rattle.touch.specs.declared.Verdict.the-variants.{Good, NotRecords, Wrong}
 use Rattle.touch.specs.declared.Record.{Record}
@@ -73,7 +74,7 @@ module _ (panel : Panel) (table words : List ℕ) (x y : ℕ) where
       go false false is = refl
 
   pub contact-done : contactNumber (contacting panel table words x y .contacted .answer) ≡ 0 → Touched panel table words x y
-  unfolding contacting contactJudged contactNumber wordCount
+  unfolding contacting contactJudged contactNumber
   contact-done = go (eqb (length words) 28672) refl (busy (panel .reader)) refl (judged (panel .setup) table) refl
     where
       judging : Verdict → Contacting

@@ -19,7 +19,7 @@ use Rattle.line.specs.Reached.{reportAs, payloadAs}
 use Rattle.line.proofs.Padding.{take-padded}
 use Rattle.line.proofs.Carried.{kept-is, waiting-is, ask-carried}
 use Rattle.panel.specs.declared.Panel.{Panel}
-use Rattle.words.specs.Words.{wordCount}
+use Rattle.wire.specs.Addresses.{wordCount}
 use Rattle.panel.specs.Reporting.{lent, Reporting, handing, reporting}
 use Rattle.panel.specs.Sound.{lineOf, Sound}
 use Rattle.demands.specs.Calls.{Moment, ask, after, reportHanded, handedOver}
@@ -77,7 +77,7 @@ handing-hands panel words room a told rules (accepted body) is payload =
 
 pub ask-hands : (now : Moment) (kept : Kept) → now .panel .reader ≡ readerOf (lineOf (now .panel .setup)) kept → length (kept .bytes) ≤ 258
     → length (now .words) ≡ 28672 → 265 ≤ length (now .room) → handedOver now ask ≡ handed (rulesOf (now .panel)) kept
-unfolding handedOver reporting lent wordCount leastRoom handed
+unfolding handedOver reporting lent handed
 ask-hands now kept is few whole large =
     let line = lineOf (now .panel .setup) in
     let rules = rulesOf (now .panel) in
@@ -102,7 +102,7 @@ sound-ask-hands now sound whole large =
 pub frame-reporting : (panel : Panel) (words room : List ℕ) → length words ≡ 28672 → 265 ≤ length room → (command count : ℕ)
     → asked (panel .reader) .report ≡ line.Accepted command count
     → reporting panel words room ≡ handing (asked (panel .reader)) (line.Accepted command count) panel words room
-unfolding reporting lent wordCount leastRoom
+unfolding reporting lent
 frame-reporting panel words room whole large command count told =
     rw (eq-eqb (length words) 28672 whole, le-leb 265 (length room) large, told)
 

@@ -173,33 +173,33 @@ module _ (checking : Bool) (header : List ℕ) (n m : ℕ) (room : List ℕ) (is
 
 module _ (checking : Bool) (payload room : List ℕ) where
   pub number-14 : length room < 265 → numberOf RoomTooSmall ≡ writerNumber checking payload room
-  unfolding numberOf writerNumber leastRoom
+  unfolding numberOf writerNumber
   number-14 small = rw (lt-ltb (length room) 265 small)
 
   module _ (m : ℕ) (is-most : m ≡ mostData checking) (roomy : 265 ≤ length room) where
     pub number-3 : m < length payload → numberOf DataTooLong ≡ writerNumber checking payload room
-    unfolding numberOf writerNumber leastRoom
+    unfolding numberOf writerNumber
     number-3 long = rw (le-ltb (length room) 265 roomy, lt-ltb (mostData checking) (length payload) (rw is-most at long))
 
     pub number-0 : (n : ℕ) → length payload ≤ m → numberOf (Frame n) ≡ writerNumber checking payload room
-    unfolding numberOf writerNumber leastRoom
+    unfolding numberOf writerNumber
     number-0 n within = rw (le-ltb (length room) 265 roomy, le-ltb (mostData checking) (length payload) (rw is-most at within))
 
 module _ (checking : Bool) (header : List ℕ) (command : ℕ) (payload room : List ℕ) where
   pub writer-no-room : length room < 265 → answers RoomTooSmall room ≡ writing checking header command payload room
-  unfolding writing leastRoom
+  unfolding writing
   writer-no-room small = rw (lt-ltb (length room) 265 small)
 
   module _ (m : ℕ) (is-most : m ≡ mostData checking) (roomy : 265 ≤ length room) where
     pub writer-too-long : m < length payload → answers DataTooLong room ≡ writing checking header command payload room
-    unfolding writing leastRoom
+    unfolding writing
     writer-too-long long = rw (le-ltb (length room) 265 roomy, lt-ltb (mostData checking) (length payload) (rw is-most at long))
 
     -- 265 bytes hold every frame
     pub writer-done : (r : ℕ) (room′ : List ℕ) → length header ≤ 2 → length payload ≤ m
         → lays r room′ ≡ frameLaid checking header command payload room
         → answers (Frame r) room′ ≡ writing checking header command payload room
-    unfolding writing leastRoom
+    unfolding writing
     writer-done r room′ short within is-laid =
         let within′ : length payload ≤ mostData checking = rw is-most at within in
         let size : length (frameOf checking header command payload) ≤ length room =

@@ -43,10 +43,17 @@ frameOf checking header command payload = framed checking header (command ∷ pa
 unfoldable pub leastLength : Bool → ℕ
 leastLength checking = 1 + checkLength checking
 
--- "Data is at most 252 bytes with checking and 254 without"
+-- "so a frame has 3 + L bytes, at most 258"
+abbrev pub longestFrame : ℕ
+longestFrame = 258
+
+-- "Data is at most 252 bytes with checking and 254 without": the most that any frame carries, and what a frame carries under a choice
+abbrev pub mostPayload : ℕ
+mostPayload = 254
+
 unfoldable pub mostData : Bool → ℕ
 mostData true = 252
-mostData false = 254
+mostData false = mostPayload
 
 -- of the L bytes behind the length byte, the command and data
 unfoldable pub contentOf : Bool → List ℕ → List ℕ

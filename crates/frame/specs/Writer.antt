@@ -12,7 +12,7 @@ use Rattle.frame.specs.Frame.{checkLength, framed, frameOf, mostData}
 use Rattle.frame.specs.Acknowledgement.{acknowledgement}
 
 -- "reply or writer's room below 265"
-unfoldable pub leastRoom : ℕ
+abbrev pub leastRoom : ℕ
 leastRoom = 265
 
 -- 01's number of each answer

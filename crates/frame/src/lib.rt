@@ -24,6 +24,15 @@ pub enum Written {
     RoomTooSmall,
 }
 
+// "reply or writer's room below 265" is refused.
+pub const LEAST_ROOM: usize = 265;
+
+// "a frame has 3 + L bytes, at most 258"
+pub const LONGEST_FRAME: usize = 258;
+
+// "Data is at most 252 bytes with checking and 254 without": the most that any frame carries.
+pub const MOST_PAYLOAD: usize = 254;
+
 // The length byte of an acknowledgement.
 const ACKNOWLEDGEMENT_LENGTH: u8 = 4;
 
@@ -49,7 +58,7 @@ pub fn most_data(checking: bool) -> usize
     ensures { λ r. ⌜ r ≡ mostData checking ⌝ }
     ensures { λ r. ⌜ r ≤ 254 ⌝ }
 {
-    if checking { 252 } else { 254 }
+    if checking { 252 } else { MOST_PAYLOAD }
 }
 
 // Lays header and length byte.
@@ -187,7 +196,7 @@ pub fn write_frame(
     ensures { λ r. ⌜ answers r (now (room .exit)) ≡ writing checking (headerBytes header) command (now (payload .entry)) (now (room .entry)) ⌝ }
     ensures { λ r. ⌜ numberOf r ≡ writerNumber checking (now (payload .entry)) (now (room .entry)) ⌝ }
 {
-    if room.len() < 265 {
+    if room.len() < LEAST_ROOM {
         return Written::RoomTooSmall;
     }
     if most_data(checking) < payload.len() {

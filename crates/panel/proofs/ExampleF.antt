@@ -14,7 +14,8 @@ use Rattle.line.specs.declared.Asked.{Asked}
 use Rattle.line.specs.declared.Report.the-variants as line
 use Rattle.line.specs.State.{padded}
 use Rattle.line.specs.Methods.{givenByte, givenBytes, asked}
-use Rattle.words.specs.Words.{wordCount, wordAtAddress}
+use Rattle.wire.specs.Addresses.{wordCount}
+use Rattle.words.specs.Words.{wordAtAddress}
 use Rattle.commands.proofs.ExampleF.{exampleData, example-f}
 use Rattle.touch.specs.declared.Setup.{Setup}
 use Rattle.panel.specs.declared.Panel.{Panel}
@@ -55,7 +56,7 @@ module _ (pages width height : ℕ) where
   -- the frame has come whole: asking with words and room as they must be sets word 0010 to 500
   pub example-f-of-the-panel : (words room : List ℕ) → length words ≡ 28672 → 265 ≤ length room
       → wordAtAddress (reporting (exampleFed pages width height) words room .words) 0x10 ≡ 500
-  unfolding reporting lent wordCount leastRoom
+  unfolding reporting lent
   example-f-of-the-panel words room whole large =
       let a = asked (exampleFed pages width height .reader) in
       rw (eq-eqb (length words) 28672 whole, le-leb 265 (length room) large, frame-read)

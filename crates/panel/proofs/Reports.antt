@@ -20,7 +20,7 @@ use Rattle.line.specs.declared.Report.the-variants as line
 use Rattle.line.specs.declared.Asked.{Asked}
 use Rattle.line.specs.Methods.{asked}
 use Rattle.registers.specs.declared.Registers.{Registers}
-use Rattle.words.specs.Words.{wordCount}
+use Rattle.wire.specs.Addresses.{wordCount}
 use Rattle.commands.specs.declared.Performed.{Performed}
 use Rattle.commands.specs.Perform.{Performance, performs, performance}
 use Rattle.touch.specs.declared.Setup.{Setup}
@@ -34,7 +34,7 @@ use Rattle.panel.specs.State.{headerFor, headerOf, answering}
 use Rattle.panel.specs.Reporting.{lent, acknowledged, Effects, effects, accepting, catchAfter, reports, handing, reporting}
 
 pub lent-judged : (words room : ℕ) → (eqb words 28672 && leb 265 room) ≡ lent words room
-unfolding lent wordCount leastRoom
+unfolding lent
 lent-judged words room = refl
 
 module _ (setup : Setup) (command : ℕ) (good : Bool) (room : List ℕ) (c k : Bool) (is-c : c ≡ checkingOf setup) (is-k : k ≡ acknowledgingOf setup) where

@@ -7,7 +7,7 @@ use borrow.Author.Tests.{eq-eqb, ne-eqb}
 use lib.ListN.{length}
 use Rattle.line.specs.Methods.{busy}
 use Rattle.registers.specs.Touched.{isDown, isTouchOff}
-use Rattle.words.specs.Words.{wordCount}
+use Rattle.wire.specs.Addresses.{wordCount}
 use Rattle.touch.specs.declared.Verdict.{Verdict}
 use Rattle.touch.specs.declared.Verdict.the-variants.{Good, NotRecords, Wrong}
 use Rattle.touch.specs.Judge.{judged}
@@ -56,18 +56,18 @@ module _ (panel : Panel) (table words : List ℕ) (x y : ℕ) where
     number-13 i is = judged-so (Wrong i) is
 
   pub number-14 : (length words ≡ 28672 → ⊥) → contacts contact.NotLent panel words ≡ contacting panel table words x y
-  unfolding contacting wordCount
+  unfolding contacting
   number-14 other = rw (ne-eqb (length words) 28672 other)
 
   module _ (whole : length words ≡ 28672) (waits : Bool) (is-waits : waits ≡ busy (panel .reader)) where
     pub number-1 : waits ≡ true → contacts contact.Waits panel words ≡ contacting panel table words x y
-    unfolding contacting wordCount
+    unfolding contacting
     number-1 is = rw (eq-eqb (length words) 28672 whole, sym is-waits ∙ is)
 
     pub then-judged : (r : Contacted) (left : List ℕ) → waits ≡ false
         → contacts (r .answer) (r .panel) left ≡ contactJudged (judged (panel .setup) table) panel table words x y
         → contacts (r .answer) (r .panel) left ≡ contacting panel table words x y
-    unfolding contacting wordCount
+    unfolding contacting
     then-judged r left is e = rw (eq-eqb (length words) 28672 whole, sym is-waits ∙ is) e
 
 module _ (panel : Panel) (waits : Bool) (is-waits : waits ≡ busy (panel .reader)) where

@@ -10,7 +10,7 @@ use Rattle.line.specs.declared.Report.the-variants as line
 use Rattle.line.specs.State.{padded}
 use Rattle.line.specs.Methods.{busy, asked}
 use Rattle.registers.specs.Touched.{isDown, isTouchOff}
-use Rattle.words.specs.Words.{wordCount}
+use Rattle.wire.specs.Addresses.{wordCount}
 use Rattle.touch.specs.declared.Verdict.{Verdict}
 use Rattle.touch.specs.declared.Verdict.the-variants.{Good, NotRecords, Wrong}
 use Rattle.touch.specs.Judge.{judged}

@@ -12,7 +12,7 @@ use Rattle.line.specs.declared.Asked.{Asked}
 use Rattle.line.specs.State.{padded}
 use Rattle.line.specs.Methods.{asked}
 use Rattle.registers.specs.declared.Registers.{Registers}
-use Rattle.words.specs.Words.{wordCount}
+use Rattle.wire.specs.Addresses.{wordCount}
 use Rattle.commands.specs.Perform.{performance}
 use Rattle.touch.specs.declared.Setup.{Setup}
 use Rattle.touch.specs.Setup.{checkingOf}

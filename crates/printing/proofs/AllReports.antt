@@ -21,7 +21,7 @@ use Rattle.line.specs.Methods.{busy, isAnswer, asked}
 use Rattle.line.specs.Reached.{reportAs}
 use Rattle.line.proofs.Carried.{waiting-is, ask-carried}
 use Rattle.line.proofs.Truths.{never, and-left}
-use Rattle.words.specs.Words.{wordCount}
+use Rattle.wire.specs.Addresses.{wordCount}
 use Rattle.panel.specs.declared.Panel.{Panel}
 use Rattle.panel.specs.Reporting.{lent, handing, reporting}
 use Rattle.panel.specs.Sound.{lineOf, Sound}
@@ -48,7 +48,7 @@ handed-reader a (line.BadCheck command) panel words room some = refl
 handed-reader a (line.Accepted command count) panel words room some = refl
 
 all-lent : (words : List ℕ) → length words ≡ wordCount → lent (length words) (length replyRoom) ≡ true
-unfolding lent replyRoom leastRoom
+unfolding lent replyRoom
 all-lent words long = rw (eq-eqb (length words) wordCount long)
 
 module _ (panel : Panel) (words : List ℕ) (sound : Sound panel) (is-busy : busy (panel .reader) ≡ true) where

@@ -13,7 +13,7 @@ use Rattle.wire.specs.Bytes.{Bytes}
 use Rattle.wire.proofs.Over.{take-over}
 use Rattle.reading.proofs.ByteLists.{bytes-nil, bytes-cons, bytes-append, bytes-drop}
 use Rattle.line.proofs.Truths.{never, or-left, or-right}
-use Rattle.words.specs.Words.{wordCount}
+use Rattle.wire.specs.Addresses.{wordCount}
 use Rattle.panel.specs.Start.{newPanel, noPanel}
 use Rattle.trace.specs.declared.Answer.the-variants.{Done}
 use Rattle.telling.specs.Told.{leastText}

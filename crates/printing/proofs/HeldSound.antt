@@ -13,7 +13,7 @@ use Rattle.wire.proofs.LaidAt.{length-laidAt}
 use Rattle.frame.specs.Frame.{headerBytes}
 use Rattle.reading.specs.Place.{look, behind, cutShort}
 use Rattle.line.proofs.Truths.{never, and-left}
-use Rattle.words.specs.Words.{wordCount}
+use Rattle.wire.specs.Addresses.{wordCount}
 use Rattle.panel.specs.declared.Panel.{Panel}
 use Rattle.panel.specs.declared.Start.{Start}
 use Rattle.panel.specs.declared.StartAnswer.{StartAnswer}

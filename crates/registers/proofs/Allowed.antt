@@ -11,7 +11,8 @@ use lib.ListN.{length}
 use Rattle.wire.specs.ByteOrder.{word}
 use Rattle.wire.proofs.LaidAt.{length-laidAt}
 use Rattle.registers.specs.declared.Registers.{Registers}
-use Rattle.registers.specs.Table.{registerCount, registerAt, writable}
+use Rattle.wire.specs.Addresses.{registerCount}
+use Rattle.registers.specs.Table.{registerAt, writable}
 use Rattle.registers.specs.Run.{covers, allWritable, halfPage, unwritableRun, given, wrongValue, written}
 use Rattle.registers.specs.Touched.{pageOf}
 use Rattle.registers.proofs.Written.{written-at, others-stay}
@@ -64,7 +65,7 @@ all-writable address (suc n) all register from below =
 
 module _ (registers : Registers) (whole : length (registers .bytes) ≡ 256) (address : ℕ) (bytes : List ℕ) (fits : address + length bytes ≤ 256) where
   pub length-written : length (written registers address bytes .bytes) ≡ 256
-  unfolding written registerCount
+  unfolding written
   length-written = rw (le-leb (address + length bytes) 256 fits) (length-laidAt (registers .bytes) bytes address (omega arith) ∙ whole)
 
   -- what the run covers is the byte given to it

@@ -11,20 +11,21 @@ use lib.ListN.{length, set}
 use Rattle.wire.specs.Room.{over, laidAt, lays, laid}
 use Rattle.wire.proofs.Over.{over-nil, over-more, and-true, left-false, right-false, laid-not, laid-whole}
 use Rattle.registers.specs.declared.Registers.{Registers}
-use Rattle.registers.specs.Table.{registerCount, holding, registerAt, registerRun}
+use Rattle.wire.specs.Addresses.{registerCount}
+use Rattle.registers.specs.Table.{holding, registerAt, registerRun}
 use Rattle.registers.specs.Run.{written}
 
 pub run-written : (registers : Registers) (address a : ℕ) (bytes next : List ℕ) → a ≡ address → a + length bytes ≤ 256
     → next ≡ laidAt a bytes (registers .bytes)
     → _≡_ {A = Registers} (holding next) (written registers address bytes)
-unfolding written registerCount
+unfolding written
 run-written registers address a bytes next is fits e =
     let fits′ : address + length bytes ≤ 256 = omega arith in
     rw (le-leb (address + length bytes) 256 fits′, e, is)
 
 pub run-refused : (registers : Registers) (address a : ℕ) (bytes : List ℕ) → a ≡ address → 256 < a + length bytes
     → registers ≡ written registers address bytes
-unfolding written registerCount
+unfolding written
 run-refused registers address a bytes is past =
     let past′ : 256 < address + length bytes = omega arith in
     rw (lt-leb (address + length bytes) 256 past′)
@@ -67,7 +68,6 @@ module _ (registers : Registers) (address a n m : ℕ) (room : List ℕ) (is-a :
   fits = leb n (length room)
 
   pub read-past : 256 < a + m → lays 0 room ≡ laid (within && fits) (registerRun registers address n) room
-  unfolding registerCount
   read-past past = laid-not (within && fits) (registerRun registers address n) room (left-false within fits (lt-leb (address + n) 256 (omega arith)))
 
   pub read-no-room : length room < m → lays 0 room ≡ laid (within && fits) (registerRun registers address n) room
@@ -75,7 +75,6 @@ module _ (registers : Registers) (address a n m : ℕ) (room : List ℕ) (is-a :
 
   pub read-done : (left : List ℕ) → a + m ≤ 256 → m ≤ length room → left ≡ over (registerRun registers a m) room
       → lays m left ≡ laid (within && fits) (registerRun registers address n) room
-  unfolding registerCount
   read-done left inside small is =
       laid-whole (within && fits) (registerRun registers a m) (registerRun registers address n) room left m
       (and-true within fits (le-leb (address + n) 256 (omega arith)) (le-leb n (length room) (omega arith)))

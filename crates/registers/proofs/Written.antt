@@ -9,7 +9,8 @@ use lib.ListN.{length, getD}
 use Rattle.wire.specs.Room.{laidAt}
 use Rattle.wire.proofs.LaidAt.{laid-inside, laid-before, laid-behind}
 use Rattle.registers.specs.declared.Registers.{Registers}
-use Rattle.registers.specs.Table.{registerCount, registerAt, registerRun}
+use Rattle.wire.specs.Addresses.{registerCount}
+use Rattle.registers.specs.Table.{registerAt, registerRun}
 use Rattle.registers.specs.Run.{written}
 
 module _ (registers : Registers) (whole : length (registers .bytes) ≡ 256) (address : ℕ) (bytes : List ℕ) (fits : address + length bytes ≤ 256) where
@@ -17,7 +18,7 @@ module _ (registers : Registers) (whole : length (registers .bytes) ≡ 256) (ad
   after = written registers address bytes
 
   laid-bytes : after .bytes ≡ laidAt address bytes (registers .bytes)
-  unfolding written registerCount
+  unfolding written
   laid-bytes = rw (le-leb (address + length bytes) 256 fits)
 
   -- inside the run stands what was written

@@ -7,7 +7,8 @@ use lib.ListN.{length, getD}
 use Rattle.wire.specs.ByteOrder.{word}
 use Rattle.wire.specs.Room.{laidAt}
 use Rattle.registers.specs.declared.Registers.{Registers}
-use Rattle.registers.specs.Table.{registerCount, holding, writable}
+use Rattle.wire.specs.Addresses.{registerCount}
+use Rattle.registers.specs.Table.{holding, writable}
 
 -- the run of n registers from an address on has this one
 unfoldable pub covers : ℕ → ℕ → ℕ → Bool

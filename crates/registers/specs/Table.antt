@@ -6,10 +6,6 @@ use lib.Dec.{eqb}
 use lib.ListN.{getD, set, replicate}
 use Rattle.registers.specs.declared.Registers.{Registers}
 
--- "There are 256 register bytes"
-unfoldable pub registerCount : ℕ
-registerCount = 256
-
 abbrev pub holding : List ℕ → Registers
 holding bytes = record { bytes = bytes }
 

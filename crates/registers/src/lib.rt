@@ -5,7 +5,8 @@ ghost use Prim.Native.Nat.{_+_, _^_, _≤_, _<_};
 ghost use lib.Dec.{leb};
 ghost use lib.ListN.{length};
 ghost use Rattle.wire.specs.Room.{over, laidAt, lays, laid};
-ghost use Rattle.registers.specs.Table.{registerCount, startRegisters, registerAt, registerRun, writable};
+ghost use Rattle.wire.specs.Addresses.{registerCount};
+ghost use Rattle.registers.specs.Table.{startRegisters, registerAt, registerRun, writable};
 ghost use Rattle.registers.specs.Touched.{pageOf, withPage, isDown, withStatus, isTouchOff, withPlace};
 ghost use Rattle.registers.specs.Run.{covers, allWritable, unwritableRun, given, wrongValue, written};
 

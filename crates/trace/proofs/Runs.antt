@@ -13,7 +13,7 @@ use Rattle.wire.proofs.Over.{over-nil}
 use Rattle.line.specs.declared.Reader.{Reader}
 use Rattle.line.specs.Methods.{busy, givenByte, gave, plus, givenBytes}
 use Rattle.line.proofs.Truths.{and-left, and-right}
-use Rattle.words.specs.Words.{wordCount}
+use Rattle.wire.specs.Addresses.{wordCount}
 use Rattle.panel.specs.declared.Panel.{Panel}
 use Rattle.panel.specs.declared.FedBytes.{FedBytes}
 use Rattle.panel.specs.Inputs.{fedBytes}
@@ -197,7 +197,7 @@ module _ (trace : Trace) (table words room input : List ℕ) (w : Bool) (is-w : 
   takes-input took table′ words′ left is e = rw (sym is-w ∙ is) e
 
 pub lent-judged : (table words room : ℕ) → (leb 4128 table && eqb words 28672 && leb 1024 room) ≡ lentTo table words room
-unfolding lentTo tableBytes keptRecords leastText wordCount
+unfolding lentTo tableBytes keptRecords leastText
 lent-judged table words room = refl
 
 module _ (trace : Trace) (table words room input : List ℕ) (l : Bool) (is-l : l ≡ lentTo (length table) (length words) (length room)) where

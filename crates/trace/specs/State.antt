@@ -6,7 +6,7 @@ use lib.Dec.{eqb, leb}
 use lib.ListN.{length, take, replicate}
 use Rattle.wire.specs.Room.{over}
 use Rattle.line.specs.Methods.{busy}
-use Rattle.words.specs.Words.{wordCount}
+use Rattle.wire.specs.Addresses.{wordCount}
 use Rattle.touch.specs.declared.Setup.{Setup}
 use Rattle.touch.specs.Table.{mostRecords, recordBytes}
 use Rattle.panel.specs.declared.Panel.{Panel}

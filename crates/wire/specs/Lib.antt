@@ -1,3 +1,4 @@
 pub mod Bytes
 pub mod ByteOrder
 pub mod Room
+pub mod Addresses

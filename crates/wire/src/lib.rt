@@ -4,6 +4,11 @@ ghost use mathlib.Core.Path.{_≡_};
 ghost use Prim.Native.Nat.{_<_};
 ghost use Rattle.wire.specs.ByteOrder.{highByte, lowByte, word, byteAt, wordAt};
 
+// 01: "There are 256 register bytes and 28,672 variable words, 0x0000 to 0x6FFF"; `registerCount` and `wordCount` in specs/.
+pub const REGISTER_COUNT: usize = 256;
+
+pub const WORD_COUNT: usize = 28672;
+
 // A byte as a 16-bit number.
 pub fn wide(b: u8) -> u16
     ensures { λ r. ⌜ r ≡ b ⌝ }

@@ -1,4 +1,4 @@
--- 01: "There are 256 register bytes and 28,672 variable words, 0x0000 to 0x6FFF, lent by the caller as 16-bit numbers."
+-- 01: "28,672 variable words, 0x0000 to 0x6FFF, lent by the caller as 16-bit numbers." Their number is `wordCount` of crate wire.
 use Prim.Native.Nat.{ℕ, _+_}
 use mathlib.Core.Bool.{cond, _&&_}
 use mathlib.Core.List.{List, [], _∷_}
@@ -6,9 +6,6 @@ use lib.Dec.{leb}
 use lib.ListN.{length, getD, set, take, drop}
 use Rattle.wire.specs.ByteOrder.{word, highByte, lowByte}
 use Rattle.wire.specs.Room.{laidAt, Laid, laid}
-
-unfoldable pub wordCount : ℕ
-wordCount = 28672
 
 -- one word, and the words with one of them set; an address past the end has none
 unfoldable pub wordAtAddress : List ℕ → ℕ → ℕ
