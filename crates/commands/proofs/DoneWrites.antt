@@ -13,8 +13,7 @@ use Rattle.registers.specs.Run.{unwritableRun, wrongValue}
 use Rattle.registers.proofs.Allowed.{neither}
 use Rattle.words.specs.Words.{wordsOf}
 use Rattle.commands.specs.declared.Outcome.the-variants.{Done, WrongData, PastEnd, Unwritable, WrongValue}
-use Rattle.commands.specs.Outcome.{writeRegistersOutcome, writeWordsOutcome}
-use Rattle.commands.specs.Effect.{isDone}
+use Rattle.commands.specs.Outcome.{isDone, writeRegistersOutcome, writeWordsOutcome}
 use Rattle.commands.proofs.Reading.{peel}
 
 -- "0x80, address (1), one or more bytes"

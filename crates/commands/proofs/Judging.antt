@@ -35,39 +35,37 @@ module _ (pages : ℕ) (content : List ℕ) where
   unfolding writeRegistersOutcome
   write-short short = rw (lt-ltb (length content) 2 short)
 
-  module _ (enough : 2 ≤ length content) (a : ℕ) (is-a : a ≡ getD content 0 0) where
-    pub write-past : 256 < a + length lent → PastEnd ≡ writeRegistersOutcome pages content
+  module _ (enough : 2 ≤ length content) (p : Bool) (is-p : p ≡ ltb registerCount (getD content 0 0 + length lent)) where
+    is-p′ : p ≡ ltb registerCount (getD content 0 0 + length (drop 1 content))
+    is-p′ = rw (part-whole content 1) at is-p
+
+    pub write-past : p ≡ true → PastEnd ≡ writeRegistersOutcome pages content
     unfolding writeRegistersOutcome
-    write-past past =
-        let past′ : 256 < getD content 0 0 + length (drop 1 content) = rw (is-a, part-whole content 1) at past in
-        rw (le-ltb (length content) 2 enough, lt-ltb 256 (getD content 0 0 + length (drop 1 content)) past′)
+    write-past past = rw (le-ltb (length content) 2 enough, sym is-p′ ∙ past)
 
-    module _ (inside : a + length lent ≤ 256) (u : Bool) (is-u : u ≡ unwritableRun (getD content 0 0) (length lent)) where
-      inside′ : getD content 0 0 + length (drop 1 content) ≤ 256
-      inside′ = rw (is-a, part-whole content 1) at inside
-
+    module _ (inside : p ≡ false) (u : Bool) (is-u : u ≡ unwritableRun (getD content 0 0) (length lent)) where
       is-u′ : u ≡ unwritableRun (getD content 0 0) (length (drop 1 content))
       is-u′ = rw (part-whole content 1) at is-u
 
       pub write-unwritable : u ≡ true → Unwritable ≡ writeRegistersOutcome pages content
       unfolding writeRegistersOutcome
       write-unwritable is =
-          rw (le-ltb (length content) 2 enough, le-ltb 256 (getD content 0 0 + length (drop 1 content)) inside′, sym is-u′ ∙ is)
+          rw (le-ltb (length content) 2 enough, sym is-p′ ∙ inside, sym is-u′ ∙ is)
 
       module _ (writable : u ≡ false) (w : Bool) (is-w : w ≡ wrongValue (getD content 0 0) lent pages) where
         is-w′ : w ≡ wrongValue (getD content 0 0) (drop 1 content) pages
         is-w′ = rw (part-whole content 1) at is-w
 
-        judged : (o : Outcome) → o ≡ cond w WrongValue Done → o ≡ writeRegistersOutcome pages content
+        valued : (o : Outcome) → o ≡ cond w WrongValue Done → o ≡ writeRegistersOutcome pages content
         unfolding writeRegistersOutcome
-        judged o is =
-            rw (le-ltb (length content) 2 enough, le-ltb 256 (getD content 0 0 + length (drop 1 content)) inside′, sym is-u′ ∙ writable, ← is-w′) is
+        valued o is =
+            rw (le-ltb (length content) 2 enough, sym is-p′ ∙ inside, sym is-u′ ∙ writable, ← is-w′) is
 
         pub write-wrong : w ≡ true → WrongValue ≡ writeRegistersOutcome pages content
-        write-wrong is = judged WrongValue (rw is)
+        write-wrong is = valued WrongValue (rw is)
 
         pub write-good : w ≡ false → Done ≡ writeRegistersOutcome pages content
-        write-good is = judged Done (rw is)
+        write-good is = valued Done (rw is)
 
 -- 0x81
 module _ (checking : Bool) (content : List ℕ) where
@@ -75,19 +73,16 @@ module _ (checking : Bool) (content : List ℕ) where
   unfolding readRegistersOutcome
   read-shape other = rw (ne-eqb (length content) 2 other)
 
-  module _ (shape : length content ≡ 2) (a n : ℕ) (is-a : a ≡ getD content 0 0) (is-n : n ≡ getD content 1 0) where
-    pub read-past : 256 < a + n → PastEnd ≡ readRegistersOutcome checking content
+  module _ (shape : length content ≡ 2) (n : ℕ) (is-n : n ≡ getD content 1 0) (p : Bool) (is-p : p ≡ ltb registerCount (getD content 0 0 + n)) where
+    pub read-past : p ≡ true → PastEnd ≡ readRegistersOutcome checking content
     unfolding readRegistersOutcome
-    read-past past =
-        let past′ : 256 < getD content 0 0 + getD content 1 0 = rw (is-a, is-n) at past in
-        rw (eq-eqb (length content) 2 shape, lt-ltb 256 (getD content 0 0 + getD content 1 0) past′)
+    read-past past = rw (eq-eqb (length content) 2 shape, ← is-n, sym is-p ∙ past)
 
-    module _ (inside : a + n ≤ 256) (l : Bool) (is-l : l ≡ replyTooLong checking (2 + n)) where
+    module _ (inside : p ≡ false) (l : Bool) (is-l : l ≡ replyTooLong checking (2 + n)) where
       decided : (o : Outcome) → o ≡ cond l ReplyTooLong Done → o ≡ readRegistersOutcome checking content
       unfolding readRegistersOutcome
       decided o is =
-          let inside′ : getD content 0 0 + getD content 1 0 ≤ 256 = rw (is-a, is-n) at inside in
-          rw (eq-eqb (length content) 2 shape, le-ltb 256 (getD content 0 0 + getD content 1 0) inside′, ← is-n, ← is-l) is
+          rw (eq-eqb (length content) 2 shape, ← is-n, sym is-p ∙ inside, ← is-l) is
 
       pub read-long : l ≡ true → ReplyTooLong ≡ readRegistersOutcome checking content
       read-long is = decided ReplyTooLong (rw is)
@@ -103,29 +98,28 @@ module _ (content : List ℕ) (shape : wrongShape content ≡ false) where
   enough : 4 ≤ length content
   enough = ltb-false (length content) 4 (or-false-left (ltb (length content) 4) (eqb (length content % 2) 1) shape)
 
-  pub one-or-more : (a : ℕ) → 1 ≤ a + length content / 2
-  one-or-more a = omega (arith, enough)
+  pub one-or-more : 1 ≤ length content / 2
+  one-or-more = omega (arith, enough)
 
-  run-end : (a : ℕ) → a ≡ wordAt content 0 → wordAt content 0 + length (wordsOf (drop 2 content)) ≡ a + length content / 2 - 1
-  run-end a is-a =
-      let carried : length (wordsOf (drop 2 content)) ≡ length content / 2 - 1 = length-wordsOf (drop 2 content) ∙ simp length-drop (omega (arith, enough)) in
-      rw (carried, ← is-a) (omega (arith, enough))
+  carried : length (wordsOf (drop 2 content)) ≡ length content / 2 - 1
+  carried = length-wordsOf (drop 2 content) ∙ simp length-drop (omega (arith, enough))
 
 module _ (end : ℕ) (content : List ℕ) where
   pub store-shape : wrongShape content ≡ true → WrongData ≡ writeWordsOutcome end content
   unfolding writeWordsOutcome
   store-shape is = rw is
 
-  module _ (shape : wrongShape content ≡ false) (a : ℕ) (is-a : a ≡ wordAt content 0) where
-    pub store-past : end < a + length content / 2 - 1 → PastEnd ≡ writeWordsOutcome end content
-    unfolding writeWordsOutcome
-    store-past past =
-        rw (shape, lt-ltb end (wordAt content 0 + length (wordsOf (drop 2 content))) (rw (run-end content shape a is-a) past))
+  module _ (shape : wrongShape content ≡ false) (a : ℕ) (is-a : a ≡ wordAt content 0) (p : Bool) (is-p : p ≡ ltb end (a + (length content / 2 - 1))) where
+    stored-past : p ≡ ltb end (wordAt content 0 + length (wordsOf (drop 2 content)))
+    stored-past = is-p ∙ rw (is-a, carried content shape)
 
-    pub store-good : a + length content / 2 - 1 ≤ end → Done ≡ writeWordsOutcome end content
+    pub store-past : p ≡ true → PastEnd ≡ writeWordsOutcome end content
     unfolding writeWordsOutcome
-    store-good inside =
-        rw (shape, le-ltb end (wordAt content 0 + length (wordsOf (drop 2 content))) (rw (run-end content shape a is-a) inside))
+    store-past past = rw (shape, sym stored-past ∙ past)
+
+    pub store-good : p ≡ false → Done ≡ writeWordsOutcome end content
+    unfolding writeWordsOutcome
+    store-good inside = rw (shape, sym stored-past ∙ inside)
 
 -- 0x83
 module _ (end : ℕ) (checking : Bool) (content : List ℕ) where
@@ -133,19 +127,19 @@ module _ (end : ℕ) (checking : Bool) (content : List ℕ) where
   unfolding readWordsOutcome
   fetch-shape other = rw (ne-eqb (length content) 3 other)
 
-  module _ (shape : length content ≡ 3) (a n : ℕ) (is-a : a ≡ wordAt content 0) (is-n : n ≡ getD content 2 0) where
-    pub fetch-past : end < a + n → PastEnd ≡ readWordsOutcome end checking content
-    unfolding readWordsOutcome
-    fetch-past past =
-        let past′ : end < wordAt content 0 + getD content 2 0 = rw (is-a, is-n) at past in
-        rw (eq-eqb (length content) 3 shape, lt-ltb end (wordAt content 0 + getD content 2 0) past′)
+  module _ (shape : length content ≡ 3) (a n : ℕ) (is-a : a ≡ wordAt content 0) (is-n : n ≡ getD content 2 0) (p : Bool) (is-p : p ≡ ltb end (a + n)) where
+    fetched-past : p ≡ ltb end (wordAt content 0 + getD content 2 0)
+    fetched-past = is-p ∙ rw (is-a, is-n)
 
-    module _ (inside : a + n ≤ end) (l : Bool) (is-l : l ≡ replyTooLong checking (3 + (n + n))) where
+    pub fetch-past : p ≡ true → PastEnd ≡ readWordsOutcome end checking content
+    unfolding readWordsOutcome
+    fetch-past past = rw (eq-eqb (length content) 3 shape, sym fetched-past ∙ past)
+
+    module _ (inside : p ≡ false) (l : Bool) (is-l : l ≡ replyTooLong checking (3 + (n + n))) where
       settled : (o : Outcome) → o ≡ cond l ReplyTooLong Done → o ≡ readWordsOutcome end checking content
       unfolding readWordsOutcome
       settled o is =
-          let inside′ : wordAt content 0 + getD content 2 0 ≤ end = rw (is-a, is-n) at inside in
-          rw (eq-eqb (length content) 3 shape, le-ltb end (wordAt content 0 + getD content 2 0) inside′, ← is-n, ← is-l) is
+          rw (eq-eqb (length content) 3 shape, sym fetched-past ∙ inside, ← is-n, ← is-l) is
 
       pub fetch-long : l ≡ true → ReplyTooLong ≡ readWordsOutcome end checking content
       fetch-long is = settled ReplyTooLong (rw is)

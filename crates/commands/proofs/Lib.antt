@@ -2,7 +2,7 @@ pub mod Judging
 pub mod Writing
 pub mod Replies
 pub mod Reading
-pub mod Performing
+pub mod Performance
 pub mod Determined
 pub mod Refusals
 pub mod DoneWrites

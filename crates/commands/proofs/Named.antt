@@ -7,16 +7,18 @@ use Prim.Native.Nat.{ℕ, _+_, _≤_, _<_}
 use borrow.Author.Tests.{ltb-true, ltb-false, eqb-true}
 use lib.Dec.{eqb, ltb}
 use lib.ListN.{length, getD, drop}
+use Rattle.wire.specs.Addresses.{registerCount}
 use Rattle.wire.specs.ByteOrder.{byteAt, wordAt}
 use Rattle.registers.specs.declared.Registers.{Registers}
 use Rattle.registers.specs.Table.{registerAt}
-use Rattle.registers.specs.Run.{covers, written}
 use Rattle.registers.proofs.Written.{others-stay}
 use Rattle.words.specs.Words.{wordAtAddress, wordsOf, wordsWritten}
 use Rattle.words.proofs.Written.{other-words-stay}
-use Rattle.commands.specs.Outcome.{writeRegistersOutcome, writeWordsOutcome}
-use Rattle.commands.specs.Effect.{isDone, registersWritten, wordsWriting}
-use Rattle.commands.specs.Perform.{Performance, performance}
+use Rattle.commands.specs.declared.Fixed.{Fixed}
+use Rattle.commands.specs.Lent.{Lent}
+use Rattle.commands.specs.Outcome.{isDone, writeRegistersOutcome, writeWordsOutcome}
+use Rattle.commands.specs.Effect.{registersLeft, catchDropped, registersWriting, wordsWriting, replying, registersReplying, wordsReplying}
+use Rattle.commands.specs.Perform.{registersBy, Performance, performance}
 use Rattle.commands.proofs.DoneWrites.{registers-passed, words-passed}
 
 -- a place lies before a run, in it or behind it
@@ -54,96 +56,99 @@ of-four f r false true c v w x y p q s t = q
 of-four f r false false true v w x y p q s t = s
 of-four f r false false false v w x y p q s t = t
 
-abbrev writesRegisters : ℕ → List ℕ → Bool
-writesRegisters pages content = isDone (writeRegistersOutcome pages content)
+abbrev writesRegisters : Fixed → List ℕ → Bool
+writesRegisters fixed content = isDone (writeRegistersOutcome (fixed .pages) content)
 
 abbrev writesWords : List ℕ → List ℕ → Bool
 writesWords words content = isDone (writeWordsOutcome (length words) content)
 
-module _ (registers : Registers) (pages : ℕ) (checking : Bool) (header content words room : List ℕ) where
-  written-by-80 : performance registers pages checking header 0x80 content words room .performed .registers
-      ≡ cond (writesRegisters pages content) (written registers (byteAt content 0) (drop 1 content)) registers
-  unfolding performance registersWritten
-  written-by-80 = refl
+module _ (fixed : Fixed) (registers : Registers) (content : List ℕ) (lent : Lent) where
+  writes-by-80 : performance fixed registers 0x80 content lent .performed .writes ≡ writesRegisters fixed content
+  unfolding performance registersWriting
+  writes-by-80 = refl
 
-  paged-by-80 : performance registers pages checking header 0x80 content words room .performed .paged
-      ≡ (writesRegisters pages content && covers (byteAt content 0) (length (drop 1 content)) 0x03)
-  unfolding performance registersWritten
-  paged-by-80 = refl
+  drops-by-80 : performance fixed registers 0x80 content lent .performed .drops ≡ (writesRegisters fixed content && catchDropped content)
+  unfolding performance registersWriting
+  drops-by-80 = refl
 
-  written-by-82 : performance registers pages checking header 0x82 content words room .words
-      ≡ cond (writesWords words content) (wordsWritten words (wordAt content 0) (drop 2 content)) words
+  written-by-82 : performance fixed registers 0x82 content lent .lent .words
+      ≡ cond (writesWords (lent .words) content) (wordsWritten (lent .words) (wordAt content 0) (drop 2 content)) (lent .words)
   unfolding performance wordsWriting
   written-by-82 = refl
 
   module _ (command : ℕ) where
-    -- only 0x80 writes registers and the page
-    pub registers-stay : eqb command 0x80 ≡ false → performance registers pages checking header command content words room .performed .registers ≡ registers
-    unfolding performance
-    registers-stay not =
+    -- only 0x80 writes registers and drops the catch
+    writes-none : eqb command 0x80 ≡ false → performance fixed registers command content lent .performed .writes ≡ false
+    unfolding performance registersReplying wordsWriting wordsReplying replying
+    writes-none not =
         rw not
-        (of-four (λ (d : Performance). d .performed .registers) registers (eqb command 0x81) (eqb command 0x82) (eqb command 0x83) _ _ _ _ refl refl refl refl)
+        (of-four (λ (d : Performance). d .performed .writes) false (eqb command 0x81) (eqb command 0x82) (eqb command 0x83) _ _ _ _ refl refl refl refl)
 
-    pub page-stays : eqb command 0x80 ≡ false → performance registers pages checking header command content words room .performed .paged ≡ false
-    unfolding performance
-    page-stays not =
+    pub catch-stays : eqb command 0x80 ≡ false → performance fixed registers command content lent .performed .drops ≡ false
+    unfolding performance registersReplying wordsWriting wordsReplying replying
+    catch-stays not =
         rw not
-        (of-four (λ (d : Performance). d .performed .paged) false (eqb command 0x81) (eqb command 0x82) (eqb command 0x83) _ _ _ _ refl refl refl refl)
+        (of-four (λ (d : Performance). d .performed .drops) false (eqb command 0x81) (eqb command 0x82) (eqb command 0x83) _ _ _ _ refl refl refl refl)
+
+    pub registers-stay : eqb command 0x80 ≡ false → registersBy (performance fixed registers command content lent .performed) registers content ≡ registers
+    registers-stay not = rw (writes-none not)
 
     -- only 0x82 writes words
-    pub words-stay : eqb command 0x82 ≡ false → performance registers pages checking header command content words room .words ≡ words
+    pub words-stay : eqb command 0x82 ≡ false → performance fixed registers command content lent .lent .words ≡ lent .words
     unfolding performance
     words-stay not =
         rw not
-        (of-four (λ (d : Performance). d .words) words (eqb command 0x80) (eqb command 0x81) (eqb command 0x83) _ _ _ _ refl refl refl refl)
+        (of-four (λ (d : Performance). d .lent .words) (lent .words) (eqb command 0x80) (eqb command 0x81) (eqb command 0x83) _ _ _ _ refl refl refl refl)
 
     -- an 0x80 and an 0x82 that are done write their run; one that is refused writes nothing
-    pub registers-as-done : (b : Bool) → command ≡ 0x80 → writesRegisters pages content ≡ b
-        → performance registers pages checking header command content words room .performed .registers
-        ≡ cond b (written registers (byteAt content 0) (drop 1 content)) registers
-    registers-as-done b is done = rw (is, written-by-80, done)
+    pub registers-as-done : (b : Bool) → command ≡ 0x80 → writesRegisters fixed content ≡ b
+        → registersBy (performance fixed registers command content lent .performed) registers content ≡ cond b (registersLeft registers content) registers
+    registers-as-done b is done = rw (is, writes-by-80, done)
 
-    pub page-as-done : command ≡ 0x80
-        → performance registers pages checking header command content words room .performed .paged
-        ≡ (writesRegisters pages content && covers (byteAt content 0) (length (drop 1 content)) 0x03)
-    page-as-done is = rw (is, paged-by-80)
+    pub catch-as-done : command ≡ 0x80
+        → performance fixed registers command content lent .performed .drops ≡ (writesRegisters fixed content && catchDropped content)
+    catch-as-done is = rw (is, drops-by-80)
 
-    pub words-as-done : (b : Bool) → command ≡ 0x82 → writesWords words content ≡ b
-        → performance registers pages checking header command content words room .words
-        ≡ cond b (wordsWritten words (wordAt content 0) (drop 2 content)) words
+    pub words-as-done : (b : Bool) → command ≡ 0x82 → writesWords (lent .words) content ≡ b
+        → performance fixed registers command content lent .lent .words
+        ≡ cond b (wordsWritten (lent .words) (wordAt content 0) (drop 2 content)) (lent .words)
     words-as-done b is done = rw (is, written-by-82, done)
 
     -- a register stays, or an 0x80 that is done has it in its run
-    pub register-named : length (registers .bytes) ≡ 256 → (address : ℕ)
-        → (registerAt (performance registers pages checking header command content words room .performed .registers) address ≡ registerAt registers address)
-        ⊎ NamesRegister command content pages address
-    register-named whole address = go (eqb command 0x80) refl (writesRegisters pages content) refl
+    pub register-named : length (registers .bytes) ≡ registerCount → (address : ℕ)
+        → (registerAt (registersBy (performance fixed registers command content lent .performed) registers content) address ≡ registerAt registers address)
+        ⊎ NamesRegister command content (fixed .pages) address
+    unfolding registersLeft
+    register-named whole address = go (eqb command 0x80) refl (writesRegisters fixed content) refl
       where
         after : Registers
-        after = performance registers pages checking header command content words room .performed .registers
+        after = registersBy (performance fixed registers command content lent .performed) registers content
 
-        wrote : command ≡ 0x80 → writesRegisters pages content ≡ true → Placed address (byteAt content 0) (length (drop 1 content))
-            → (registerAt after address ≡ registerAt registers address) ⊎ NamesRegister command content pages address
+        wrote : command ≡ 0x80 → writesRegisters fixed content ≡ true → Placed address (byteAt content 0) (length (drop 1 content))
+            → (registerAt after address ≡ registerAt registers address) ⊎ NamesRegister command content (fixed .pages) address
         wrote is done (inside from below) = inr (record { writes = is; done = done; from = from; below = below })
         wrote is done (outside out) =
             inl (ap (λ (r : Registers). registerAt r address) (registers-as-done true is done)
-            ∙ others-stay registers whole (byteAt content 0) (drop 1 content) (registers-passed pages content done .fits) address out)
+            ∙ others-stay registers whole (byteAt content 0) (drop 1 content) (registers-passed (fixed .pages) content done .fits) address out)
 
-        go : (a : Bool) → eqb command 0x80 ≡ a → (b : Bool) → writesRegisters pages content ≡ b
-            → (registerAt after address ≡ registerAt registers address) ⊎ NamesRegister command content pages address
+        go : (a : Bool) → eqb command 0x80 ≡ a → (b : Bool) → writesRegisters fixed content ≡ b
+            → (registerAt after address ≡ registerAt registers address) ⊎ NamesRegister command content (fixed .pages) address
         go false is b done = inl (ap (λ (r : Registers). registerAt r address) (registers-stay is))
         go true is false done =
             inl (ap (λ (r : Registers). registerAt r address) (registers-as-done false (eqb-true command 0x80 is) done))
         go true is true done = wrote (eqb-true command 0x80 is) done (placed address (byteAt content 0) (length (drop 1 content)))
 
     -- a word stays, or an 0x82 that is done has it in its run
-    pub word-named : (k : ℕ) → (wordAtAddress (performance registers pages checking header command content words room .words) k ≡ wordAtAddress words k)
-        ⊎ NamesWord command content (length words) k
+    pub word-named : (k : ℕ) → (wordAtAddress (performance fixed registers command content lent .lent .words) k ≡ wordAtAddress (lent .words) k)
+        ⊎ NamesWord command content (length (lent .words)) k
     unfolding wordAtAddress
-    word-named k = go (eqb command 0x82) refl (writesWords words content) refl
+    word-named k = go (eqb command 0x82) refl (writesWords (lent .words) content) refl
       where
+        words : List ℕ
+        words = lent .words
+
         after : List ℕ
-        after = performance registers pages checking header command content words room .words
+        after = performance fixed registers command content lent .lent .words
 
         wrote : command ≡ 0x82 → writesWords words content ≡ true → Placed k (wordAt content 0) (length (wordsOf (drop 2 content)))
             → (getD after k 0 ≡ getD words k 0) ⊎ NamesWord command content (length words) k

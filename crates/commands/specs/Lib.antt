@@ -1,3 +1,4 @@
+pub mod Lent
 pub mod Outcome
 pub mod Reply
 pub mod Effect

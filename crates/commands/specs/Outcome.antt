@@ -1,7 +1,7 @@
 -- 01, "Numbers given back": "asking for a report 14, then 2 to 7 in turn". Each list below stands in that order; the first condition that
 -- holds gives the number.
 use Prim.Native.Nat.{ℕ, _+_, _%_}
-use mathlib.Core.Bool.{Bool, cond, not, _||_}
+use mathlib.Core.Bool.{Bool, true, false, cond, not, _||_}
 use mathlib.Core.List.{List}
 use lib.Dec.{eqb, ltb}
 use lib.ListN.{length, drop}
@@ -10,17 +10,27 @@ use Rattle.frame.specs.Frame.{checkLength}
 use Rattle.wire.specs.Addresses.{registerCount}
 use Rattle.registers.specs.Run.{unwritableRun, wrongValue}
 use Rattle.words.specs.Words.{wordsOf}
+use Rattle.commands.specs.declared.Fixed.{Fixed}
 use Rattle.commands.specs.declared.Outcome.{Outcome}
 use Rattle.commands.specs.declared.Outcome.the-variants.{Done, UnknownCommand, WrongData, PastEnd, Unwritable, WrongValue, ReplyTooLong}
 
-unfoldable pub numberOf : Outcome → ℕ
-numberOf Done = 0
-numberOf UnknownCommand = 2
-numberOf WrongData = 3
-numberOf PastEnd = 4
-numberOf Unwritable = 5
-numberOf WrongValue = 6
-numberOf ReplyTooLong = 7
+unfoldable pub numberOfOutcome : Outcome → ℕ
+numberOfOutcome Done = 0
+numberOfOutcome UnknownCommand = 2
+numberOfOutcome WrongData = 3
+numberOfOutcome PastEnd = 4
+numberOfOutcome Unwritable = 5
+numberOfOutcome WrongValue = 6
+numberOfOutcome ReplyTooLong = 7
+
+abbrev pub isDone : Outcome → Bool
+isDone Done = true
+isDone UnknownCommand = false
+isDone WrongData = false
+isDone PastEnd = false
+isDone Unwritable = false
+isDone WrongValue = false
+isDone ReplyTooLong = false
 
 -- "reply frame's L would pass 255": the reply has its command and this much data
 unfoldable pub replyTooLong : Bool → ℕ → Bool
@@ -66,10 +76,10 @@ readWordsOutcome end checking content =
     Done))
 
 -- "command not 80 to 83"
-unfoldable pub outcome : (pages end : ℕ) → Bool → ℕ → List ℕ → Outcome
-outcome pages end checking command content =
-    cond (eqb command 0x80) (writeRegistersOutcome pages content)
-    (cond (eqb command 0x81) (readRegistersOutcome checking content)
+unfoldable pub outcome : Fixed → (end : ℕ) → (command : ℕ) → (content : List ℕ) → Outcome
+outcome fixed end command content =
+    cond (eqb command 0x80) (writeRegistersOutcome (fixed .pages) content)
+    (cond (eqb command 0x81) (readRegistersOutcome (fixed .checking) content)
     (cond (eqb command 0x82) (writeWordsOutcome end content)
-    (cond (eqb command 0x83) (readWordsOutcome end checking content)
+    (cond (eqb command 0x83) (readWordsOutcome end (fixed .checking) content)
     UnknownCommand)))

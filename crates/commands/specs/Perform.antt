@@ -1,40 +1,37 @@
--- 01: "An accepted frame takes effect when its report is handed over": what a command does to registers, words and reply room.
+-- 01: "An accepted frame takes effect when its report is handed over": what a command answers, and what is lent as it leaves it.
 use Prim.Native.Nat.{ℕ}
-use mathlib.Core.Bool.{Bool, false, cond}
+use mathlib.Core.Bool.{cond}
 use mathlib.Core.List.{List}
 use lib.Dec.{eqb}
 use Rattle.registers.specs.declared.Registers.{Registers}
-use Rattle.commands.specs.declared.Outcome.{Outcome}
+use Rattle.commands.specs.declared.Fixed.{Fixed}
 use Rattle.commands.specs.declared.Outcome.the-variants.{UnknownCommand}
 use Rattle.commands.specs.declared.Performed.{Performed}
-use Rattle.commands.specs.declared.Replied.{Replied}
-use Rattle.commands.specs.Effect.{registersWritten, wordsWriting, registersReplying, wordsReplying}
+use Rattle.commands.specs.Lent.{Lent, withWords, withRoom}
+use Rattle.commands.specs.Effect.{answered, registersLeft, registersWriting, WordsWriting, wordsWriting, Replying, registersReplying, wordsReplying}
+
+-- the registers as a command that has been performed leaves them
+abbrev pub registersBy : Performed → Registers → (content : List ℕ) → Registers
+registersBy performed registers content = cond (performed .writes) (registersLeft registers content) registers
 
 pub record Performance : Type 0 where
   pub performed : Performed
-  pub words : List ℕ
-  pub room : List ℕ
+  pub lent : Lent
 
-abbrev pub performs : Performed → List ℕ → List ℕ → Performance
-performs performed words room = record { performed = performed; words = words; room = room }
+abbrev pub performs : Performed → Lent → Performance
+performs performed lent = record { performed = performed; lent = lent }
 
--- the registers stay, and the page is not written
-abbrev pub besideReply : Registers → Replied → Performed
-besideReply registers replied = record { outcome = replied .outcome; registers = registers; paged = false; count = replied .count }
+-- a command that leaves all that is lent but the words, or but the room
+abbrev pub onWords : Lent → WordsWriting → Performance
+onWords lent done = performs (done .performed) (withWords lent (done .words))
 
--- an outcome without a reply
-abbrev pub noReply : Outcome → Replied
-noReply o = record { outcome = o; count = 0 }
+abbrev pub onRoom : Lent → Replying → Performance
+onRoom lent done = performs (done .performed) (withRoom lent (done .room))
 
-unfoldable pub performance : Registers → ℕ → Bool → List ℕ → ℕ → List ℕ → List ℕ → List ℕ → Performance
-performance registers pages checking header command content words room =
-    let write = registersWritten registers pages content in
-    let read = registersReplying registers checking header content room in
-    let store = wordsWriting words content in
-    let fetch = wordsReplying words checking header content room in
-    cond (eqb command 0x80)
-    (performs (record { outcome = write .outcome; registers = write .registers; paged = write .paged; count = 0 }) words room)
-    (cond (eqb command 0x81) (performs (besideReply registers (read .replied)) words (read .room))
-    (cond (eqb command 0x82) (performs (besideReply registers (noReply (store .outcome))) (store .words) room)
-    (cond (eqb command 0x83) (performs (besideReply registers (fetch .replied)) words (fetch .room))
-    (performs (besideReply registers (noReply UnknownCommand)) words room))))
+unfoldable pub performance : Fixed → Registers → (command : ℕ) → (content : List ℕ) → Lent → Performance
+performance fixed registers command content lent =
+    cond (eqb command 0x80) (performs (registersWriting (fixed .pages) content) lent)
+    (cond (eqb command 0x81) (onRoom lent (registersReplying fixed registers content (lent .room)))
+    (cond (eqb command 0x82) (onWords lent (wordsWriting (lent .words) content))
+    (cond (eqb command 0x83) (onRoom lent (wordsReplying fixed (lent .words) content (lent .room)))
+    (performs (answered UnknownCommand 0) lent))))

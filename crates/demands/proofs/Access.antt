@@ -33,7 +33,7 @@ use Rattle.commands.specs.Outcome.{writeRegistersOutcome, readRegistersOutcome,
 use Rattle.commands.specs.Effect.{isDone, registersWritten, wordsWriting, replying, registersReplying, wordsReplying}
 use Rattle.commands.specs.Perform.{Performance, performs, performance}
 use Rattle.commands.specs.Reply.{registersReply, wordsReply}
-use Rattle.commands.proofs.Performing.{performs-outcome}
+use Rattle.commands.proofs.Performance.{performs-outcome}
 use Rattle.commands.proofs.Reading.{registers-short, words-within, words-short}
 use Rattle.commands.proofs.Replies.{length-registersReply, length-wordsReply}
 use Rattle.touch.specs.declared.Setup.{Setup}

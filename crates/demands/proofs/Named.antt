@@ -19,7 +19,7 @@ use Rattle.commands.specs.Outcome as Outcome
 use Rattle.commands.specs.Outcome.{outcome}
 use Rattle.commands.specs.Effect.{isDone}
 use Rattle.commands.proofs.Named as Command
-use Rattle.commands.proofs.Performing.{performs-outcome}
+use Rattle.commands.proofs.Performance.{performs-outcome}
 use Rattle.touch.specs.Setup.{checkingOf}
 use Rattle.contact.specs.Contact as Contact
 use Rattle.contact.proofs.Named as Touch

@@ -34,7 +34,7 @@ use Rattle.words.specs.Words.{wordsOf}
 use Rattle.commands.specs.declared.Outcome.the-variants.{Done, UnknownCommand, WrongData, PastEnd, Unwritable, WrongValue, ReplyTooLong}
 use Rattle.commands.specs.Outcome as Outcome
 use Rattle.commands.specs.Outcome.{outcome, writeRegistersOutcome, readRegistersOutcome, writeWordsOutcome, readWordsOutcome, replyTooLong}
-use Rattle.commands.proofs.Performing.{performs-outcome}
+use Rattle.commands.proofs.Performance.{performs-outcome}
 use Rattle.touch.specs.declared.Setup.{Setup}
 use Rattle.touch.specs.declared.Record.{Record}
 use Rattle.touch.specs.declared.Found.{Found}

@@ -17,7 +17,7 @@ use Rattle.line.specs.Methods.{busy, givenByte, givenMark, givenBytes, asked}
 use Rattle.commands.specs.declared.Outcome.{Outcome}
 use Rattle.commands.specs.Outcome as Outcome
 use Rattle.commands.specs.Outcome.{outcome}
-use Rattle.commands.proofs.Performing.{performs-outcome}
+use Rattle.commands.proofs.Performance.{performs-outcome}
 use Rattle.commands.proofs.Refusals.{number-refuses, number-at-most-7, refusal-changes-nothing}
 use Rattle.touch.specs.declared.Setup.{Setup}
 use Rattle.touch.specs.declared.Verdict.{Verdict}

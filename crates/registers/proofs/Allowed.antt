@@ -13,7 +13,7 @@ use Rattle.wire.proofs.LaidAt.{length-laidAt}
 use Rattle.registers.specs.declared.Registers.{Registers}
 use Rattle.wire.specs.Addresses.{registerCount}
 use Rattle.registers.specs.Table.{registerAt, writable}
-use Rattle.registers.specs.Run.{covers, allWritable, halfPage, unwritableRun, given, wrongValue, written}
+use Rattle.registers.specs.Run.{covers, allWritable, halfPage, unwritableRun, byteFor, wrongValue, registersAfter}
 use Rattle.registers.specs.Touched.{pageOf}
 use Rattle.registers.proofs.Written.{written-at, others-stay}
 use Rattle.registers.proofs.Touched.{same-page}
@@ -64,28 +64,28 @@ all-writable address (suc n) all register from below =
         there (omega arith) (omega arith)
 
 module _ (registers : Registers) (whole : length (registers .bytes) ≡ 256) (address : ℕ) (bytes : List ℕ) (fits : address + length bytes ≤ 256) where
-  pub length-written : length (written registers address bytes .bytes) ≡ 256
-  unfolding written
+  pub length-written : length (registersAfter registers address bytes .bytes) ≡ 256
+  unfolding registersAfter
   length-written = rw (le-leb (address + length bytes) 256 fits) (length-laidAt (registers .bytes) bytes address (omega arith) ∙ whole)
 
   -- what the run covers is the byte given to it
-  given-now : (register : ℕ) → covers address (length bytes) register ≡ true → registerAt (written registers address bytes) register ≡ given address bytes register
-  unfolding given
+  given-now : (register : ℕ) → covers address (length bytes) register ≡ true → registerAt (registersAfter registers address bytes) register ≡ byteFor address bytes register
+  unfolding byteFor
   given-now register is =
       let two = in-run address (length bytes) register is in
       let place : address + (register - address) ≡ register = omega arith in
-      ap (registerAt (written registers address bytes)) (sym place) ∙ written-at registers whole address bytes fits (register - address) (omega arith)
+      ap (registerAt (registersAfter registers address bytes)) (sym place) ∙ written-at registers whole address bytes fits (register - address) (omega arith)
 
-  stays-out : (register : ℕ) → covers address (length bytes) register ≡ false → registerAt (written registers address bytes) register ≡ registerAt registers register
+  stays-out : (register : ℕ) → covers address (length bytes) register ≡ false → registerAt (registersAfter registers address bytes) register ≡ registerAt registers register
   stays-out register is = others-stay registers whole address bytes fits register (out-of-run address (length bytes) register is)
 
   module _ (may : unwritableRun address (length bytes) ≡ false) where
-    -- "isn't writable": what is not stays, whatever is written
-    pub unwritable-stays : (register : ℕ) → writable register ≡ false → registerAt (written registers address bytes) register ≡ registerAt registers register
+    -- "isn't writable": what is not stays, whatever is registersAfter
+    pub unwritable-stays : (register : ℕ) → writable register ≡ false → registerAt (registersAfter registers address bytes) register ≡ registerAt registers register
     unfolding unwritableRun
     unwritable-stays register never = go (covers address (length bytes) register) refl
       where
-        go : (b : Bool) → covers address (length bytes) register ≡ b → registerAt (written registers address bytes) register ≡ registerAt registers register
+        go : (b : Bool) → covers address (length bytes) register ≡ b → registerAt (registersAfter registers address bytes) register ≡ registerAt registers register
         go false is = stays-out register is
         go true is =
             let two = in-run address (length bytes) register is in
@@ -94,21 +94,21 @@ module _ (registers : Registers) (whole : length (registers .bytes) ≡ 256) (ad
             no (sym (all-writable address (length bytes) all register (two .0) (two .1)) ∙ never)
 
     -- "page, below P", "both bytes together"
-    pub page-stays-below : (pages : ℕ) → wrongValue address bytes pages ≡ false → pageOf registers < pages → pageOf (written registers address bytes) < pages
+    pub page-stays-below : (pages : ℕ) → wrongValue address bytes pages ≡ false → pageOf registers < pages → pageOf (registersAfter registers address bytes) < pages
     unfolding unwritableRun halfPage wrongValue
     page-stays-below pages right below =
         go (covers address (length bytes) 0x03) refl (covers address (length bytes) 0x04) refl
         (neither (not (allWritable address (length bytes))) _ may .1)
-        (neither (covers address (length bytes) 0x01 && ltb 0x3F (given address bytes 0x01)) _ right .1)
+        (neither (covers address (length bytes) 0x01 && ltb 0x3F (byteFor address bytes 0x01)) _ right .1)
       where
         go : (high : Bool) → covers address (length bytes) 0x03 ≡ high → (low : Bool) → covers address (length bytes) 0x04 ≡ low
             → (high && not low || not high && low) ≡ false
-            → (high && leb pages (word (given address bytes 0x03) (given address bytes 0x04))) ≡ false
-            → pageOf (written registers address bytes) < pages
+            → (high && leb pages (word (byteFor address bytes 0x03) (byteFor address bytes 0x04))) ≡ false
+            → pageOf (registersAfter registers address bytes) < pages
         go true p true q half value =
-            let least : word (given address bytes 0x03) (given address bytes 0x04) < pages =
-            leb-false pages (word (given address bytes 0x03) (given address bytes 0x04)) value in
+            let least : word (byteFor address bytes 0x03) (byteFor address bytes 0x04) < pages =
+            leb-false pages (word (byteFor address bytes 0x03) (byteFor address bytes 0x04)) value in
             unfold pageOf in rw (given-now 0x03 p, given-now 0x04 q) least
         go true p false q half value = no half
         go false p true q half value = no half
-        go false p false q half value = rw (same-page (written registers address bytes) registers (stays-out 0x03 p) (stays-out 0x04 q)) below
+        go false p false q half value = rw (same-page (registersAfter registers address bytes) registers (stays-out 0x03 p) (stays-out 0x04 q)) below

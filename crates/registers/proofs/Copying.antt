@@ -7,25 +7,25 @@ use native.Mathlib.Nat.{add-zero}
 use native.Mathlib.Omega.{arith}
 use borrow.Author.Tests.{le-leb, lt-leb}
 use lib.Dec.{leb}
-use lib.ListN.{length, set}
+use lib.ListN.{length, getD, set}
 use Rattle.wire.specs.Room.{over, laidAt, lays, laid}
 use Rattle.wire.proofs.Over.{over-nil, over-more, and-true, left-false, right-false, laid-not, laid-whole}
 use Rattle.registers.specs.declared.Registers.{Registers}
 use Rattle.wire.specs.Addresses.{registerCount}
 use Rattle.registers.specs.Table.{holding, registerAt, registerRun}
-use Rattle.registers.specs.Run.{written}
+use Rattle.registers.specs.Run.{registersAfter}
 
 pub run-written : (registers : Registers) (address a : ℕ) (bytes next : List ℕ) → a ≡ address → a + length bytes ≤ 256
     → next ≡ laidAt a bytes (registers .bytes)
-    → _≡_ {A = Registers} (holding next) (written registers address bytes)
-unfolding written
+    → _≡_ {A = Registers} (holding next) (registersAfter registers address bytes)
+unfolding registersAfter
 run-written registers address a bytes next is fits e =
     let fits′ : address + length bytes ≤ 256 = omega arith in
     rw (le-leb (address + length bytes) 256 fits′, e, is)
 
 pub run-refused : (registers : Registers) (address a : ℕ) (bytes : List ℕ) → a ≡ address → 256 < a + length bytes
-    → registers ≡ written registers address bytes
-unfolding written
+    → registers ≡ registersAfter registers address bytes
+unfolding registersAfter
 run-refused registers address a bytes is past =
     let past′ : 256 < address + length bytes = omega arith in
     rw (lt-leb (address + length bytes) 256 past′)
@@ -49,7 +49,8 @@ unfolding registerRun
 read-none registers address room = sym (over-nil room)
 
 pub read-more : (registers : Registers) (address i n v : ℕ) (room₀ room : List ℕ) → room ≡ over (registerRun registers address i) room₀
-    → i < n → n ≤ length room₀ → v ≡ registerAt registers (address + i) → set room i v ≡ over (registerRun registers address (i + 1)) room₀
+    → i < n → n ≤ length room₀ → v ≡ getD (registers .bytes) (address + i) 0 → set room i v ≡ over (registerRun registers address (i + 1)) room₀
+unfolding registerAt
 read-more registers address i n v room₀ room is more fits e =
     let one : i + 1 ≡ suc i = omega arith in
     rw (is, one, run-more registers address i, ← e) (over-more (registerRun registers address i) room₀ v i (length-run registers address i) (omega arith))

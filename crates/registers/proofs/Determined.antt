@@ -7,16 +7,18 @@ use Rattle.registers.proofs.is_unwritable.Reads as is-unwritable
 use Rattle.registers.proofs.is_unwritable.Kinds as is-unwritable-kinds
 use Rattle.registers.proofs.is_wrong_value.Reads as is-wrong-value
 use Rattle.registers.proofs.is_wrong_value.Kinds as is-wrong-value-kinds
-use Rattle.registers.proofs.is_covered.Reads as is-covered
-use Rattle.registers.proofs.is_covered.Kinds as is-covered-kinds
+use Rattle.registers.proofs.drops_catch.Reads as drops-catch
+use Rattle.registers.proofs.drops_catch.Kinds as drops-catch-kinds
+use Rattle.registers.proofs.RegisterAddress.passes_end.Reads as passes-end
+use Rattle.registers.proofs.RegisterAddress.passes_end.Kinds as passes-end-kinds
 use Rattle.registers.proofs.Registers.start.Reads as start
 use Rattle.registers.proofs.Registers.start.Kinds as start-kinds
 use Rattle.registers.proofs.Registers.at.Reads as at
 use Rattle.registers.proofs.Registers.at.Kinds as at-kinds
 use Rattle.registers.proofs.Registers.write.Reads as write
 use Rattle.registers.proofs.Registers.write.Kinds as write-kinds
-use Rattle.registers.proofs.Registers.read.Reads as read
-use Rattle.registers.proofs.Registers.read.Kinds as read-kinds
+use Rattle.registers.proofs.read.Reads as read
+use Rattle.registers.proofs.read.Kinds as read-kinds
 use Rattle.registers.proofs.Registers.page.Reads as page
 use Rattle.registers.proofs.Registers.page.Kinds as page-kinds
 use Rattle.registers.proofs.Registers.with_page.Reads as with-page
@@ -36,8 +38,11 @@ is-unwritable-determined κs a x y s t p q = cc
 pub is-wrong-value-determined : OneAnswer 1 is-wrong-value-kinds.ps is-wrong-value-kinds.r is-wrong-value.Post
 is-wrong-value-determined κs a x y s t p q = cc
 
-pub is-covered-determined : OneAnswer 1 is-covered-kinds.ps is-covered-kinds.r is-covered.Post
-is-covered-determined κs a x y s t p q = cc
+pub drops-catch-determined : OneAnswer 1 drops-catch-kinds.ps drops-catch-kinds.r drops-catch.Post
+drops-catch-determined κs a x y s t p q = cc
+
+pub passes-end-determined : OneAnswer 0 passes-end-kinds.ps passes-end-kinds.r passes-end.Post
+passes-end-determined κs a x y s t p q = p ∙ sym q
 
 pub start-determined : OneAnswer 0 start-kinds.ps start-kinds.r start.Post
 start-determined κs a x y s t p q = p ∙ sym q
@@ -48,7 +53,7 @@ at-determined κs a x y s t p q = p ∙ sym q
 pub write-determined : OneAnswer 1 write-kinds.ps write-kinds.r write.Post
 write-determined κs a x y s t p q = p ∙ sym q
 
-pub read-determined : OneAnswerLeft 1 read-kinds.ps read-kinds.r read.Post (λ κs s. now (s .1 .1 .1 .0))
+pub read-determined : OneAnswerLeft 2 read-kinds.ps read-kinds.r read.Post (λ κs s. now (s .1 .1 .1 .0))
 read-determined κs a x y s t p q = (ap (λ (l : Laid). l .count) (p ∙ sym q), ap (λ (l : Laid). l .room) (p ∙ sym q))
 
 pub page-determined : OneAnswer 0 page-kinds.ps page-kinds.r page.Post

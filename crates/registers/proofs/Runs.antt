@@ -1,16 +1,19 @@
 -- Laws of runs of registers, as loops go through them.
-use mathlib.Core.Path.{_≡_, sym, _∙_}
+use mathlib.Core.Path.{_≡_, refl, sym, _∙_}
 use mathlib.Core.Bool.{Bool, true, false, cond, _&&_, _||_, not}
 use mathlib.Core.List.{List}
 use Prim.Native.Nat.{ℕ, suc, _+_, _-_, _≤_, _<_}
 use native.Mathlib.Nat.{add-zero, sub-zero}
 use native.Mathlib.Omega.{arith}
+use borrow.Author.Tests.{ltb-true, ltb-false, lt-ltb, le-ltb}
 use lib.Dec.{leb, ltb}
 use lib.ListN.{length, getD, set, replicate}
+use Rattle.wire.specs.Addresses.{registerCount}
 use Rattle.wire.specs.ByteOrder.{word}
+use Rattle.wire.specs.Room.{laidAt}
 use Rattle.registers.specs.declared.Registers.{Registers}
-use Rattle.registers.specs.Table.{holding, startRegisters, registerAt, writable}
-use Rattle.registers.specs.Run.{covers, allWritable, halfPage, unwritableRun, given, wrongValue}
+use Rattle.registers.specs.Table.{holding, startRows, withRows, startRegisters, registerAt, writable}
+use Rattle.registers.specs.Run.{covers, allWritable, halfPage, unwritableRun, byteFor, wrongValue, dropsCatch}
 
 -- what is left of a run decides
 pub writable-start : (address n : ℕ) → allWritable address n ≡ allWritable (address + 0) (n - 0)
@@ -42,33 +45,41 @@ pub run-unwritable : (address a n : ℕ) (w high low : Bool) → a ≡ address �
 unfolding unwritableRun halfPage
 run-unwritable address a n w high low is p q r = rw (p, q, r, is)
 
-pub given-behind : (register address : ℕ) (bytes : List ℕ) (b : ℕ) → b ≡ getD bytes (register - address) 0 → b ≡ given address bytes register
-unfolding given
-given-behind register address bytes b is = is
+pub byte-behind : (register address : ℕ) (bytes : List ℕ) (b : ℕ) → b ≡ getD bytes (register - address) 0 → b ≡ byteFor address bytes register
+unfolding byteFor
+byte-behind register address bytes b is = is
 
 -- a run that begins past the register gives it nothing; its first byte stands in
-pub given-before : (register address : ℕ) (bytes : List ℕ) (b : ℕ) → register < address → b ≡ getD bytes 0 0 → b ≡ given address bytes register
-unfolding given
-given-before register address bytes b past is =
+pub byte-before : (register address : ℕ) (bytes : List ℕ) (b : ℕ) → register < address → b ≡ getD bytes 0 0 → b ≡ byteFor address bytes register
+unfolding byteFor
+byte-before register address bytes b past is =
     let none : register - address ≡ 0 = omega arith in
     rw none is
 
 pub run-wrong : (address a : ℕ) (bytes : List ℕ) (pages light high low page : ℕ) (has-light has-page : Bool) → a ≡ address
-    → light ≡ given a bytes 1 → high ≡ given a bytes 3 → low ≡ given a bytes 4 → page ≡ word high low
+    → light ≡ byteFor a bytes 1 → high ≡ byteFor a bytes 3 → low ≡ byteFor a bytes 4 → page ≡ word high low
     → has-light ≡ covers a (length bytes) 1 → has-page ≡ covers a (length bytes) 3
     → (has-light && ltb 0x3F light || has-page && leb pages page) ≡ wrongValue address bytes pages
 unfolding wrongValue
 run-wrong address a bytes pages light high low page has-light has-page is p q r s t u = rw (p, s, q, r, t, u, is)
 
 pub started : (h1 h2 v w : ℕ) (checking acknowledging : Bool) → v ≡ cond checking 0x10 0x00 → w ≡ cond acknowledging 0x08 0x00
-    → _≡_ {A = Registers} (holding (set (set (set (set (set (set (set (replicate 256 0) 0x00 0x10) 0x01 0x3F) 0x0B 0xFF) 0x12 v) 0x13 h1) 0x1A h2) 0x1C w))
+    → _≡_ {A = Registers} (holding (set (set (set (set (set (set (set (replicate registerCount 0) 0x00 0x10) 0x01 0x3F) 0x0B 0xFF) 0x12 v) 0x13 h1) 0x1A h2) 0x1C w))
     (startRegisters h1 h2 checking acknowledging)
-unfolding startRegisters
+unfolding startRegisters startRows withRows laidAt
 started h1 h2 v w checking acknowledging p q = rw (p, q)
 
 pub read-at : (registers : Registers) (address a r : ℕ) → a ≡ address → r ≡ getD (registers .bytes) a 0 → r ≡ registerAt registers address
 unfolding registerAt
 read-at registers address a r is e = rw (← is) e
 
-pub covered : (address register a n r : ℕ) (c : Bool) → a ≡ address → r ≡ register → c ≡ covers a n r → c ≡ covers address n register
-covered address register a n r c p q is = is ∙ rw (p, q)
+pub run-drops : (address a : ℕ) (bytes : List ℕ) (c : Bool) → a ≡ address → c ≡ covers a (length bytes) 3 → c ≡ dropsCatch address bytes
+unfolding dropsCatch
+run-drops address a bytes c p is = is ∙ rw p
+
+pub end-passed : (address a n : ℕ) → a ≡ address → a < registerCount → ltb (registerCount - a) n ≡ ltb registerCount (address + n)
+end-passed address a n is below = go (ltb registerCount (address + n)) refl
+  where
+    go : (b : Bool) → ltb registerCount (address + n) ≡ b → ltb (registerCount - a) n ≡ b
+    go true past = lt-ltb (registerCount - a) n (omega (arith, ltb-true registerCount (address + n) past))
+    go false inside = le-ltb (registerCount - a) n (omega (arith, ltb-false registerCount (address + n) inside))

@@ -1,4 +1,4 @@
--- What a write leaves: its run reads back what was written, and no other register changes.
+-- What a write leaves: its run reads back what was registersAfter, and no other register changes.
 use mathlib.Core.Path.{_≡_, refl, sym, ap, _∙_}
 use mathlib.Core.Logic.{_⊎_, ⊎-elim}
 use mathlib.Core.List.{List, [], _∷_}
@@ -11,17 +11,17 @@ use Rattle.wire.proofs.LaidAt.{laid-inside, laid-before, laid-behind}
 use Rattle.registers.specs.declared.Registers.{Registers}
 use Rattle.wire.specs.Addresses.{registerCount}
 use Rattle.registers.specs.Table.{registerAt, registerRun}
-use Rattle.registers.specs.Run.{written}
+use Rattle.registers.specs.Run.{registersAfter}
 
 module _ (registers : Registers) (whole : length (registers .bytes) ≡ 256) (address : ℕ) (bytes : List ℕ) (fits : address + length bytes ≤ 256) where
   abbrev after : Registers
-  after = written registers address bytes
+  after = registersAfter registers address bytes
 
   laid-bytes : after .bytes ≡ laidAt address bytes (registers .bytes)
-  unfolding written
+  unfolding registersAfter
   laid-bytes = rw (le-leb (address + length bytes) 256 fits)
 
-  -- inside the run stands what was written
+  -- inside the run stands what was registersAfter
   pub written-at : (i : ℕ) → i < length bytes → registerAt after (address + i) ≡ getD bytes i 0
   unfolding registerAt
   written-at i inside = rw laid-bytes (laid-inside (registers .bytes) bytes address (omega arith) i inside)
@@ -48,8 +48,8 @@ run-by-each registers address (b ∷ bytes) each =
     next : (i : ℕ) → suc address + i ≡ address + suc i
     next i = omega arith
 
--- what was written is read back
+-- what was registersAfter is read back
 pub written-reads-back : (registers : Registers) → length (registers .bytes) ≡ 256 → (address : ℕ) (bytes : List ℕ) → address + length bytes ≤ 256
-    → registerRun (written registers address bytes) address (length bytes) ≡ bytes
+    → registerRun (registersAfter registers address bytes) address (length bytes) ≡ bytes
 written-reads-back registers whole address bytes fits =
-    run-by-each (written registers address bytes) address bytes (written-at registers whole address bytes fits)
+    run-by-each (registersAfter registers address bytes) address bytes (written-at registers whole address bytes fits)

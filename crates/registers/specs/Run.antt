@@ -27,17 +27,21 @@ unfoldable pub unwritableRun : ℕ → ℕ → Bool
 unwritableRun address n = not (allWritable address n) || halfPage address n
 
 -- the byte that a run of these bytes gives to a register
-unfoldable pub given : ℕ → List ℕ → ℕ → ℕ
-given address bytes register = getD bytes (register - address) 0
+unfoldable pub byteFor : ℕ → List ℕ → ℕ → ℕ
+byteFor address bytes register = getD bytes (register - address) 0
 
 -- 6: "backlight above 3F, or page not below P"
 unfoldable pub wrongValue : ℕ → List ℕ → ℕ → Bool
 wrongValue address bytes pages =
     let n = length bytes in
-    covers address n 0x01 && ltb 0x3F (given address bytes 0x01)
-    || covers address n 0x03 && leb pages (word (given address bytes 0x03) (given address bytes 0x04))
+    covers address n 0x01 && ltb 0x3F (byteFor address bytes 0x01)
+    || covers address n 0x03 && leb pages (word (byteFor address bytes 0x03) (byteFor address bytes 0x04))
 
--- the registers with these bytes from an address on; a run that passes the end leaves them
-unfoldable pub written : Registers → ℕ → List ℕ → Registers
-written registers address bytes =
+-- what a write that is done leaves of the registers: its bytes in its run; a run that passes the end, which is never done, leaves them
+unfoldable pub registersAfter : Registers → (address : ℕ) → (bytes : List ℕ) → Registers
+registersAfter registers address bytes =
     cond (leb (address + length bytes) registerCount) (holding (laidAt address bytes (registers .bytes))) registers
+
+-- "Every page write by a command .. drops the catch": whether a write that is done does
+unfoldable pub dropsCatch : (address : ℕ) → (bytes : List ℕ) → Bool
+dropsCatch address bytes = covers address (length bytes) 0x03

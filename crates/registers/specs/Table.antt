@@ -3,19 +3,58 @@ use Prim.Native.Nat.{ℕ, zero, suc}
 use mathlib.Core.Bool.{Bool, cond, _||_}
 use mathlib.Core.List.{List, [], _∷_}
 use lib.Dec.{eqb}
-use lib.ListN.{getD, set, replicate}
+use lib.ListN.{getD, replicate}
+use Rattle.wire.specs.Room.{laidAt}
+use Rattle.wire.specs.Addresses.{registerCount}
 use Rattle.registers.specs.declared.Registers.{Registers}
 
 abbrev pub holding : List ℕ → Registers
 holding bytes = record { bytes = bytes }
 
--- the column "Start": version 10, backlight 3F, touch enable FF; 12 is "10 if checking, else 00"; 13 and 1A are H1 and H2;
--- 1C is "08 if acknowledging, else 00"
-unfoldable pub startRegisters : ℕ → ℕ → Bool → Bool → Registers
-startRegisters h1 h2 checking acknowledging =
-    holding
-    (set (set (set (set (set (set (set (replicate 256 0) 0x00 0x10) 0x01 0x3F) 0x0B 0xFF)
-    0x12 (cond checking 0x10 0x00)) 0x13 h1) 0x1A h2) 0x1C (cond acknowledging 0x08 0x00))
+-- a row of the table: the first address and what stands there at the start
+pub record Row : Type 0 where
+  pub address : ℕ
+  pub start : List ℕ
+
+abbrev row : ℕ → List ℕ → Row
+row address start = record { address = address; start = start }
+
+-- the columns "Address" and "Start"
+unfoldable pub startRows : (h1 h2 : ℕ) → (checking acknowledging : Bool) → List Row
+startRows h1 h2 checking acknowledging =
+    -- version
+    row 0x00 (0x10 ∷ [])
+    -- backlight
+    ∷ row 0x01 (0x3F ∷ [])
+    -- buzzer
+    ∷ row 0x02 (0x00 ∷ [])
+    -- page
+    ∷ row 0x03 (0x00 ∷ 0x00 ∷ [])
+    -- touch flag
+    ∷ row 0x05 (0x00 ∷ [])
+    -- touch status
+    ∷ row 0x06 (0x00 ∷ [])
+    -- touch X, Y
+    ∷ row 0x07 (0x00 ∷ 0x00 ∷ 0x00 ∷ 0x00 ∷ [])
+    -- touch enable
+    ∷ row 0x0B (0xFF ∷ [])
+    -- "10 if checking, else 00"
+    ∷ row 0x12 (cond checking 0x10 0x00 ∷ [])
+    -- H1, H2
+    ∷ row 0x13 (h1 ∷ [])
+    ∷ row 0x1A (h2 ∷ [])
+    -- "08 if acknowledging, else 00"
+    ∷ row 0x1C (cond acknowledging 0x08 0x00 ∷ [])
+    ∷ []
+
+-- rows laid one after the other over what stands
+unfoldable pub withRows : List Row → List ℕ → List ℕ
+withRows [] bytes = bytes
+withRows (r ∷ rows) bytes = withRows rows (laidAt (r .address) (r .start) bytes)
+
+-- "Every other register reads 00": the rows over zeros
+unfoldable pub startRegisters : (h1 h2 : ℕ) → (checking acknowledging : Bool) → Registers
+startRegisters h1 h2 checking acknowledging = holding (withRows (startRows h1 h2 checking acknowledging) (replicate registerCount 0))
 
 -- what a register reads
 unfoldable pub registerAt : Registers → ℕ → ℕ

@@ -2,19 +2,31 @@
 ghost use mathlib.Core.Path.{_≡_};
 ghost use mathlib.Core.Bool.{cond, _&&_};
 ghost use Prim.Native.Nat.{_+_, _^_, _≤_, _<_};
-ghost use lib.Dec.{leb};
+ghost use lib.Dec.{leb, ltb};
 ghost use lib.ListN.{length};
 ghost use Rattle.wire.specs.Room.{over, laidAt, lays, laid};
 ghost use Rattle.wire.specs.Addresses.{registerCount};
-ghost use Rattle.registers.specs.Table.{startRegisters, registerAt, registerRun, writable};
+ghost use Rattle.registers.specs.Table.{holding, startRegisters, registerAt, registerRun, writable};
 ghost use Rattle.registers.specs.Touched.{pageOf, withPage, isDown, withStatus, isTouchOff, withPlace};
-ghost use Rattle.registers.specs.Run.{covers, allWritable, unwritableRun, given, wrongValue, written};
+ghost use Rattle.registers.specs.Run.{covers, allWritable, unwritableRun, byteFor, wrongValue, registersAfter, dropsCatch};
+
+use wire::REGISTER_COUNT;
 
 // An address of a register. It cannot stand where a word's address is meant, nor the other way round.
 pub struct RegisterAddress(pub u8);
 
+// The bytes are lent to what only reads registers.
 pub struct Registers {
-    pub bytes: [u8; 256],
+    pub bytes: [u8; REGISTER_COUNT],
+}
+
+impl RegisterAddress {
+    // A run of n registers from here on passes the end.
+    pub fn passes_end(self, n: usize) -> bool
+        ensures { λ r. ⌜ r ≡ ltb registerCount (self .0 + n) ⌝ }
+    {
+        REGISTER_COUNT - wire::count(self.0) < n
+    }
 }
 
 fn is_writable(address: usize) -> bool
@@ -61,16 +73,16 @@ pub fn is_unwritable(address: RegisterAddress, bytes: &[u8]) -> bool
     !all_writable(a, n) | ((high & !low) | (!high & low))
 }
 
-// These bytes from the address on would have this register in their run.
-pub fn is_covered(address: RegisterAddress, bytes: &[u8], register: RegisterAddress) -> bool
-    ensures { λ r. ⌜ r ≡ covers (address .0) (length (now (bytes .entry))) (register .0) ⌝ }
+// A write of these bytes from the address on drops the catch, where it is done.
+pub fn drops_catch(address: RegisterAddress, bytes: &[u8]) -> bool
+    ensures { λ r. ⌜ r ≡ dropsCatch (address .0) (now (bytes .entry)) ⌝ }
 {
-    has(wire::count(address.0), bytes.len(), wire::count(register.0))
+    has(wire::count(address.0), bytes.len(), 0x03)
 }
 
 // The byte that a run of these bytes gives to a register.
-fn given_to(register: usize, address: usize, bytes: &[u8]) -> u8
-    ensures { λ r. ⌜ r ≡ given address (now (bytes .entry)) register ⌝ }
+fn byte_for(register: usize, address: usize, bytes: &[u8]) -> u8
+    ensures { λ r. ⌜ r ≡ byteFor address (now (bytes .entry)) register ⌝ }
 {
     if address <= register {
         wire::byte_at(bytes, register - address)
@@ -85,8 +97,8 @@ pub fn is_wrong_value(address: RegisterAddress, bytes: &[u8], pages: u16) -> boo
 {
     let a = wire::count(address.0);
     let n = bytes.len();
-    let light = given_to(0x01, a, bytes);
-    let page = wire::word(given_to(0x03, a, bytes), given_to(0x04, a, bytes));
+    let light = byte_for(0x01, a, bytes);
+    let page = wire::word(byte_for(0x03, a, bytes), byte_for(0x04, a, bytes));
     (has(a, n, 0x01) & (0x3F < light)) | (has(a, n, 0x03) & (pages <= page))
 }
 
@@ -98,8 +110,8 @@ fn shown(on: bool, bit: u8) -> u8
 }
 
 // The array with these bytes from a place on.
-fn with_run(old: [u8; 256], at: usize, bytes: &[u8]) -> [u8; 256]
-    requires { ⌜ at + length (now bytes) ≤ 256 ⌝ }
+fn with_run(old: [u8; REGISTER_COUNT], at: usize, bytes: &[u8]) -> [u8; REGISTER_COUNT]
+    requires { ⌜ at + length (now bytes) ≤ registerCount ⌝ }
     ensures { λ r. ⌜ r ≡ laidAt at (now (bytes .entry)) old ⌝ }
 {
     let mut next = old;
@@ -111,12 +123,41 @@ fn with_run(old: [u8; 256], at: usize, bytes: &[u8]) -> [u8; 256]
     next
 }
 
+// Lays the run of n registers over the room's front.
+fn read_run(registers: &[u8], a: usize, n: usize, room: &mut [u8])
+    requires { ⌜ (a + n ≤ registerCount) × (n ≤ length (now room)) ⌝ }
+    ensures { λ _. ⌜ now (room .exit) ≡ over (registerRun (holding (now (registers .entry))) a n) (now (room .entry)) ⌝ }
+{
+    let mut i = 0;
+    while i < n {
+        room[i] = wire::byte_at(registers, a + i);
+        i += 1;
+    }
+}
+
+// Lays what n of the registers lent read, from the address on, over the room's front; answers n. A run that passes the end, or that the
+// room does not hold, leaves the room and answers 0.
+pub fn read(registers: &[u8], address: RegisterAddress, n: u8, room: &mut [u8]) -> usize
+    ensures { λ r. ⌜ lays r (now (room .exit)) ≡ laid (leb (address .0 + n) registerCount && leb n (length (now (room .entry)))) (registerRun (holding (now (registers .entry))) (address .0) n) (now (room .entry)) ⌝ }
+{
+    let a = wire::count(address.0);
+    let m = wire::count(n);
+    if REGISTER_COUNT < a + m {
+        return 0;
+    }
+    if room.len() < m {
+        return 0;
+    }
+    read_run(registers, a, m, room);
+    m
+}
+
 impl Registers {
     // The registers of a panel that has just been started.
     pub fn start(h1: u8, h2: u8, checking: bool, acknowledging: bool) -> Registers
         ensures { λ r. ⌜ r ≡ startRegisters h1 h2 checking acknowledging ⌝ }
     {
-        let mut bytes = [0u8; 256];
+        let mut bytes = [0u8; REGISTER_COUNT];
         bytes[0x00] = 0x10;
         bytes[0x01] = 0x3F;
         bytes[0x0B] = 0xFF;
@@ -137,11 +178,11 @@ impl Registers {
 
     // With these bytes from the address on; a run that passes the end leaves all as it stood.
     pub fn write(self, address: RegisterAddress, bytes: &[u8]) -> Registers
-        ensures { λ r. ⌜ r ≡ written self (address .0) (now (bytes .entry)) ⌝ }
+        ensures { λ r. ⌜ r ≡ registersAfter self (address .0) (now (bytes .entry)) ⌝ }
     {
         let a = wire::count(address.0);
         let n = bytes.len();
-        if a + n <= 256 {
+        if a + n <= REGISTER_COUNT {
             let old = self.bytes;
             Registers {
                 bytes: with_run(old, a, bytes),
@@ -149,35 +190,6 @@ impl Registers {
         } else {
             self
         }
-    }
-
-    // Lays the run of n registers over the room's front.
-    fn read_run(self, a: usize, n: usize, room: &mut [u8])
-        requires { ⌜ (a + n ≤ 256) × (n ≤ length (now room)) ⌝ }
-        ensures { λ _. ⌜ now (room .exit) ≡ over (registerRun self a n) (now (room .entry)) ⌝ }
-    {
-        let mut i = 0;
-        while i < n {
-            room[i] = self.at(RegisterAddress((a + i) as u8));
-            i += 1;
-        }
-    }
-
-    // Lays what n registers read, from the address on, over the room's front; answers n. A run that passes the end, or that the room
-    // does not hold, leaves the room and answers 0.
-    pub fn read(self, address: RegisterAddress, n: u8, room: &mut [u8]) -> usize
-        ensures { λ r. ⌜ lays r (now (room .exit)) ≡ laid (leb (address .0 + n) registerCount && leb n (length (now (room .entry)))) (registerRun self (address .0) n) (now (room .entry)) ⌝ }
-    {
-        let a = wire::count(address.0);
-        let m = wire::count(n);
-        if 256 < a + m {
-            return 0;
-        }
-        if room.len() < m {
-            return 0;
-        }
-        self.read_run(a, m, room);
-        m
     }
 
     // The page that is shown.

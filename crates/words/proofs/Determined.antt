@@ -3,6 +3,8 @@ use mathlib.Core.Path.{refl, sym, ap, _∙_}
 use denote.Ref.{now}
 use Rattle.wire.specs.Room.{Laid}
 use Rattle.wire.proofs.OneAnswer.{OneAnswer, OneAnswerLeft}
+use Rattle.words.proofs.WordAddress.passes_end.Reads as passes-end
+use Rattle.words.proofs.WordAddress.passes_end.Kinds as passes-end-kinds
 use Rattle.words.proofs.at.Reads as at
 use Rattle.words.proofs.at.Kinds as at-kinds
 use Rattle.words.proofs.set.Reads as set
@@ -11,6 +13,9 @@ use Rattle.words.proofs.write.Reads as write
 use Rattle.words.proofs.write.Kinds as write-kinds
 use Rattle.words.proofs.read.Reads as read
 use Rattle.words.proofs.read.Kinds as read-kinds
+
+pub passes-end-determined : OneAnswer 0 passes-end-kinds.ps passes-end-kinds.r passes-end.Post
+passes-end-determined κs a x y s t p q = p ∙ sym q
 
 pub at-determined : OneAnswer 1 at-kinds.ps at-kinds.r at.Post
 at-determined κs a x y s t p q = p ∙ sym q

@@ -1,12 +1,26 @@
 // The variable words of 01, addressed by word and lent by the caller.
 ghost use mathlib.Core.Path.{_≡_};
 ghost use Prim.Native.Nat.{_+_, _*_, _/_, _≤_};
+ghost use lib.Dec.{ltb};
 ghost use lib.ListN.{length};
 ghost use Rattle.wire.specs.Room.{over, laidAt, lays};
 ghost use Rattle.words.specs.Words.{wordAtAddress, wordSet, wordsOf, bytesOf, wordRun, wordsWritten, wordsLaid};
 
 // An address of a word. It cannot stand where a register's address is meant, nor the other way round.
 pub struct WordAddress(pub u16);
+
+impl WordAddress {
+    // A run of n words from here on passes the end of so many.
+    pub fn passes_end(self, n: usize, end: usize) -> bool
+        ensures { λ r. ⌜ r ≡ ltb end (self .0 + n) ⌝ }
+    {
+        let a = self.0 as usize;
+        if end < a {
+            return true;
+        }
+        end - a < n
+    }
+}
 
 // The word at an address; past the end, 0.
 pub fn at(words: &[u16], address: WordAddress) -> u16

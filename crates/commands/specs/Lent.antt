@@ -1,0 +1,19 @@
+-- What the caller lends to a call, and has back as the call leaves it. What is lent besides, one day, is one field more.
+use Prim.Native.Nat.{ℕ}
+use mathlib.Core.List.{List}
+
+pub record Lent : Type 0 where
+  -- "28,672 variable words, .. lent by the caller as 16-bit numbers"
+  pub words : List ℕ
+  -- "Reply room is at least 265 bytes; bytes past the reported count stay."
+  pub room : List ℕ
+
+abbrev pub lending : (words room : List ℕ) → Lent
+lending words room = record { words = words; room = room }
+
+-- the same but for one of them
+abbrev pub withWords : Lent → (words : List ℕ) → Lent
+withWords lent words = lending words (lent .room)
+
+abbrev pub withRoom : Lent → (room : List ℕ) → Lent
+withRoom lent room = lending (lent .words) room
