@@ -1,6 +1,6 @@
 -- One answer fits each public function.
 use mathlib.Core.Path.{sym, ap, _∙_}
-use mathlib.Core.List.{List}
+use mathlib.Core.List.{List, []}
 use Prim.Native.Nat.{ℕ}
 use denote.Ref.{now}
 use Rattle.wire.proofs.OneAnswer.{OneAnswer, OneAnswerLeft}
@@ -34,10 +34,11 @@ use Rattle.panel.proofs.Panel.is_waiting.Kinds as is-waiting-kinds
 pub report-determined :
     OneAnswerLeft 2 report-kinds.ps report-kinds.r report.Post {B = List ℕ × List ℕ} (λ κs s. (now (s .1 .0), now (s .1 .1 .0)))
 report-determined κs a x y s t p q =
-    (ap (λ (d : Reporting). d .reported) (p ∙ sym q), ap (λ (d : Reporting). (d .words, d .room)) (p ∙ sym q))
+    (ap (λ (d : Reporting). d .reported) (p ∙ sym q), ap (λ (d : Reporting). (d .lent .words, d .lent .room)) (p ∙ sym q))
 
 pub contact-determined : OneAnswerLeft 2 contact-kinds.ps contact-kinds.r contact.Post (λ κs s. now (s .1 .1 .0))
-contact-determined κs a x y s t p q = (ap (λ (d : Contacting). d .contacted) (p ∙ sym q), ap (λ (d : Contacting). d .words) (p ∙ sym q))
+contact-determined κs a x y s t p q =
+    (ap (λ (d : Contacting). d .contacted) (p [] ∙ sym (q [])), ap (λ (d : Contacting). d .lent .words) (p [] ∙ sym (q [])))
 
 pub start-determined : OneAnswer 1 start-kinds.ps start-kinds.r start.Post
 start-determined κs a x y s t p q = p ∙ sym q

@@ -16,13 +16,14 @@ use Rattle.line.specs.State.{padded}
 use Rattle.line.specs.Methods.{givenByte, givenBytes, asked}
 use Rattle.wire.specs.Addresses.{wordCount}
 use Rattle.words.specs.Words.{wordAtAddress}
+use Rattle.commands.specs.Lent.{Lent, withRoom}
 use Rattle.commands.proofs.ExampleF.{exampleData, example-f}
 use Rattle.touch.specs.declared.Setup.{Setup}
 use Rattle.panel.specs.declared.Panel.{Panel}
-use Rattle.panel.specs.State.{headerOf}
+use Rattle.panel.specs.State.{fixedFor}
 use Rattle.panel.specs.Start.{newPanel}
 use Rattle.panel.specs.Inputs.{fedBytes}
-use Rattle.panel.specs.Reporting.{lent, acknowledged, accepting, handing, reporting}
+use Rattle.panel.specs.Reporting.{enough, acknowledged, accepting, handingOver, handing, reporting}
 
 -- "Checking off", with any pages and screen
 abbrev pub plain : (pages width height : ℕ) → Setup
@@ -35,14 +36,14 @@ abbrev pub exampleFed : (pages width height : ℕ) → Panel
 exampleFed pages width height = fedBytes (newPanel (plain pages width height)) exampleFrame .panel
 
 -- what handing over an 0x82 with this data stores
-stored-500 : (pages width height : ℕ) (words room : List ℕ) → 0x10 < length words → (a : Asked) → take 4 (a .payload) ≡ exampleData
-    → wordAtAddress (handing a (line.Accepted 0x82 4) (exampleFed pages width height) words room .words) 0x10 ≡ 500
-unfolding handing accepting fedBytes newPanel
-stored-500 pages width height words room long a is =
+stored-500 : (pages width height : ℕ) (lent : Lent) → 0x10 < length (lent .words) → (a : Asked) → take 4 (a .payload) ≡ exampleData
+    → wordAtAddress (handing a (line.Accepted 0x82 4) (exampleFed pages width height) lent .lent .words) 0x10 ≡ 500
+unfolding handing handingOver accepting fedBytes newPanel
+stored-500 pages width height lent long a is =
     let setup = plain pages width height in
-    let answer = acknowledged setup 0x82 true room in
+    let answer = acknowledged setup 0x82 true (lent .room) in
     let panel = exampleFed pages width height in
-    rw is (example-f (panel .registers) pages (headerOf setup) words (drop (answer .count) (answer .room)) long)
+    rw is (example-f (fixedFor setup) (panel .registers) (withRoom lent (drop (answer .count) (answer .room))) long)
 
 module _ (pages width height : ℕ) where
   frame-read : asked (exampleFed pages width height .reader) .report ≡ line.Accepted 0x82 4
@@ -54,10 +55,10 @@ module _ (pages width height : ℕ) where
   data-read = refl
 
   -- the frame has come whole: asking with words and room as they must be sets word 0010 to 500
-  pub example-f-of-the-panel : (words room : List ℕ) → length words ≡ 28672 → 265 ≤ length room
-      → wordAtAddress (reporting (exampleFed pages width height) words room .words) 0x10 ≡ 500
-  unfolding reporting lent
-  example-f-of-the-panel words room whole large =
+  pub example-f-of-the-panel : (lent : Lent) → length (lent .words) ≡ wordCount → leastRoom ≤ length (lent .room)
+      → wordAtAddress (reporting (exampleFed pages width height) lent .lent .words) 0x10 ≡ 500
+  unfolding reporting enough
+  example-f-of-the-panel lent whole large =
       let a = asked (exampleFed pages width height .reader) in
-      rw (eq-eqb (length words) 28672 whole, le-leb 265 (length room) large, frame-read)
-      (stored-500 pages width height words room (omega arith) (record { report = line.Accepted 0x82 4; payload = a .payload; reader = a .reader }) data-read)
+      rw (eq-eqb (length (lent .words)) wordCount whole, le-leb leastRoom (length (lent .room)) large, frame-read)
+      (stored-500 pages width height lent (omega arith) (record { report = line.Accepted 0x82 4; payload = a .payload; reader = a .reader }) data-read)

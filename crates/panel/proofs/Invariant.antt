@@ -8,7 +8,11 @@ use native.Mathlib.Omega.{arith}
 use lib.ListN.{length, getD, set, replicate}
 use lib.Seq.{getD-set-other}
 use Rattle.line.specs.Methods.{busy}
-use Rattle.registers.specs.Table.{startRegisters, registerAt, writable}
+use Rattle.wire.specs.Addresses.{registerCount}
+use Rattle.wire.specs.Room.{laidAt}
+use Rattle.registers.specs.declared.Registers.{Registers}
+use Rattle.registers.specs.Table.{startRows, withRows, startRegisters, registerAt, writable}
+use Rattle.registers.proofs.Runs.{started as start-sets}
 use Rattle.registers.specs.Touched.{pageOf, isDown}
 use Rattle.touch.specs.declared.Setup.{Setup}
 use Rattle.touch.specs.declared.Verdict.{Verdict}
@@ -45,8 +49,8 @@ reachable-sound _ (by-start setup table is) = started-sound setup table is
 reachable-sound _ (by-byte panel b byte before) = byte-sound panel (reachable-sound panel before) b byte
 reachable-sound _ (by-mark panel before) = mark-sound panel (reachable-sound panel before)
 reachable-sound _ (by-bytes panel bytes are before) = bytes-sound panel (reachable-sound panel before) bytes are
-reachable-sound _ (by-report panel words room before) = report-sound panel (reachable-sound panel before) words room
-reachable-sound _ (by-contact panel table words x y before) = contact-sound panel (reachable-sound panel before) table words x y
+reachable-sound _ (by-report panel lent before) = report-sound panel (reachable-sound panel before) lent
+reachable-sound _ (by-contact panel c lent before) = contact-sound panel (reachable-sound panel before) c lent
 reachable-sound _ (by-lift panel before) = lift-sound panel (reachable-sound panel before)
 
 true-false : _≡_ {A = Bool} true false → ⊥
@@ -65,19 +69,21 @@ sets-elsewhere z address p q r s t u v a b c d e f g =
 -- what the table prints no start for reads 00 at the start
 start-reads-00 : (h1 h2 : ℕ) (checking acknowledging : Bool) (address : ℕ) → writable address ≡ false → address ≢ 0x00 → address ≢ 0x12 → address ≢ 0x13
     → address ≢ 0x1A → address ≢ 0x1C → registerAt (startRegisters h1 h2 checking acknowledging) address ≡ 0
-unfolding startRegisters registerAt writable
+unfolding registerAt writable
 start-reads-00 h1 h2 checking acknowledging address never a b c d e =
     let light : address ≢ 0x01 = λ is. true-false (ap writable (sym is) ∙ never) in
     let enable : address ≢ 0x0B = λ is. true-false (ap writable (sym is) ∙ never) in
-    sets-elsewhere (replicate 256 0) address 0x10 0x3F 0xFF (cond checking 0x10 0x00) h1 h2 (cond acknowledging 0x08 0x00) a light enable b c d e
-    ∙ none-of-zeros 256 address
+    ap (λ (r : Registers). getD (r .bytes) address 0)
+    (sym (start-sets h1 h2 (cond checking 0x10 0x00) (cond acknowledging 0x08 0x00) checking acknowledging refl refl))
+    ∙ sets-elsewhere (replicate registerCount 0) address 0x10 0x3F 0xFF (cond checking 0x10 0x00) h1 h2 (cond acknowledging 0x08 0x00) a light enable b c d e
+    ∙ none-of-zeros registerCount address
 
 module _ (panel : Panel) (reachable : Reachable panel) where
   sound : Sound panel
   sound = reachable-sound panel reachable
 
   -- "There are 256 register bytes"
-  pub always-256-registers : length (panel .registers .bytes) ≡ 256
+  pub always-256-registers : length (panel .registers .bytes) ≡ registerCount
   always-256-registers = sound .pad .whole
 
   -- "page, below P"
@@ -94,19 +100,19 @@ module _ (panel : Panel) (reachable : Reachable panel) where
 
   -- "00 version", "12 10 if checking, else 00", "13, 1A H1, H2", "1C 08 if acknowledging, else 00"
   pub version-always-10 : panelRegister panel 0x00 ≡ 0x10
-  unfolding startRegisters registerAt writable
+  unfolding startRegisters startRows withRows laidAt registerAt writable
   version-always-10 = sound .fixed 0x00 refl (inl (omega arith))
 
   pub checking-always-told : panelRegister panel 0x12 ≡ cond (checkingOf (panel .setup)) 0x10 0x00
-  unfolding startRegisters registerAt writable
+  unfolding startRegisters startRows withRows laidAt registerAt writable
   checking-always-told = sound .fixed 0x12 refl (inr (omega arith))
 
   pub header-always-told : (panelRegister panel 0x13 ≡ panel .setup .h1) × (panelRegister panel 0x1A ≡ panel .setup .h2)
-  unfolding startRegisters registerAt writable
+  unfolding startRegisters startRows withRows laidAt registerAt writable
   header-always-told = (sound .fixed 0x13 refl (inr (omega arith)), sound .fixed 0x1A refl (inr (omega arith)))
 
   pub acknowledging-always-told : panelRegister panel 0x1C ≡ cond (acknowledgingOf (panel .setup)) 0x08 0x00
-  unfolding startRegisters registerAt writable
+  unfolding startRegisters startRows withRows laidAt registerAt writable
   acknowledging-always-told = sound .fixed 0x1C refl (inr (omega arith))
 
   -- "Every other register reads 00"

@@ -8,4 +8,3 @@ pub mod Named
 pub mod Soundness
 pub mod Invariant
 pub mod ExampleF
-pub mod WithoutRegisters

@@ -8,14 +8,15 @@ use lib.ListN.{length, take, drop}
 use Rattle.line.specs.declared.Report.the-variants as line
 use Rattle.line.specs.Methods.{asked}
 use Rattle.words.specs.Words.{wordAtAddress}
+use Rattle.wire.specs.Addresses.{registerCount}
+use Rattle.commands.specs.Lent.{Lent, withRoom}
 use Rattle.commands.proofs.Named as Command
-use Rattle.touch.specs.Setup.{checkingOf}
 use Rattle.contact.proofs.Named as Touch
 use Rattle.panel.specs.declared.Panel.{Panel}
-use Rattle.panel.specs.State.{headerOf, padOf, panelRegister}
+use Rattle.panel.specs.State.{fixedFor, padOf, panelRegister}
 use Rattle.panel.specs.Inputs.{fedByte, fedMark, fedBytes}
-use Rattle.panel.specs.Reporting.{acknowledged, accepting, handing, reporting}
-use Rattle.panel.specs.Contacts.{contacting, lifting}
+use Rattle.panel.specs.Reporting.{acknowledged, accepting, handingOver, handing, reporting}
+use Rattle.panel.specs.Contacts.{Contact, contacting, lifting}
 use Rattle.panel.proofs.Ways.{contact-ways, lift-ways, report-ways}
 
 -- the frame that is handed over names the word or the register
@@ -27,48 +28,50 @@ pub data ReportNamesRegister (panel : Panel) (address : ℕ) : Type 0 where
   accepted : (command count : ℕ) → asked (panel .reader) .report ≡ line.Accepted command count
       → Command.NamesRegister command (take count (asked (panel .reader) .payload)) (panel .setup .pages) address → ReportNamesRegister panel address
 
-module _ (panel : Panel) (words room : List ℕ) where
-  pub reported-word : (k : ℕ) → (wordAtAddress (reporting panel words room .words) k ≡ wordAtAddress words k) ⊎ ReportNamesWord panel words k
-  unfolding handing accepting
+module _ (panel : Panel) (lent : Lent) where
+  pub reported-word : (k : ℕ) → (wordAtAddress (reporting panel lent .lent .words) k ≡ wordAtAddress (lent .words) k) ⊎ ReportNamesWord panel (lent .words) k
+  unfolding handing handingOver accepting
   reported-word k =
-      report-ways panel words room (λ r. (wordAtAddress (r .words) k ≡ wordAtAddress words k) ⊎ ReportNamesWord panel words k) (λ h payload. inl refl)
+      report-ways panel lent (λ r. (wordAtAddress (r .lent .words) k ≡ wordAtAddress (lent .words) k) ⊎ ReportNamesWord panel (lent .words) k) (λ h payload. inl refl)
       (λ command is. inl refl)
       (λ command count is.
       let setup = panel .setup in
-      let answer = acknowledged setup command true room in
+      let answer = acknowledged setup command true (lent .room) in
       ⊎-elim inl (λ named. inr (accepted command count is named))
-      (Command.word-named (panel .registers) (setup .pages) (checkingOf setup) (headerOf setup) (take count (asked (panel .reader) .payload)) words
-      (drop (answer .count) (answer .room)) command k))
+      (Command.word-named (fixedFor setup) (panel .registers) (take count (asked (panel .reader) .payload)) (withRoom lent (drop (answer .count) (answer .room)))
+      command k))
 
-  pub reported-register : length (panel .registers .bytes) ≡ 256 → (address : ℕ)
-      → (panelRegister (reporting panel words room .reported .panel) address ≡ panelRegister panel address) ⊎ ReportNamesRegister panel address
-  unfolding handing accepting
+  pub reported-register : length (panel .registers .bytes) ≡ registerCount → (address : ℕ)
+      → (panelRegister (reporting panel lent .reported .panel) address ≡ panelRegister panel address) ⊎ ReportNamesRegister panel address
+  unfolding handing handingOver accepting
   reported-register whole address =
-      report-ways panel words room (λ r. (panelRegister (r .reported .panel) address ≡ panelRegister panel address) ⊎ ReportNamesRegister panel address)
+      report-ways panel lent (λ r. (panelRegister (r .reported .panel) address ≡ panelRegister panel address) ⊎ ReportNamesRegister panel address)
       (λ h payload. inl refl) (λ command is. inl refl)
       (λ command count is.
       let setup = panel .setup in
-      let answer = acknowledged setup command true room in
+      let answer = acknowledged setup command true (lent .room) in
       ⊎-elim inl (λ named. inr (accepted command count is named))
-      (Command.register-named (panel .registers) (setup .pages) (checkingOf setup) (headerOf setup) (take count (asked (panel .reader) .payload)) words
-      (drop (answer .count) (answer .room)) command whole address))
+      (Command.register-named (fixedFor setup) (panel .registers) (take count (asked (panel .reader) .payload)) (withRoom lent (drop (answer .count) (answer .room)))
+      command whole address))
 
-module _ (panel : Panel) (table words : List ℕ) (x y : ℕ) where
+module _ (panel : Panel) (c : Contact) (lent : Lent) where
   -- the word of the record that acts, or of the caught one
-  pub contacted-word : (k : ℕ) → (wordAtAddress (contacting panel table words x y .words) k ≡ wordAtAddress words k) ⊎ Touch.NamesWord (padOf panel) table x y k
+  pub contacted-word : (k : ℕ) → (wordAtAddress (contacting panel c lent .lent .words) k ≡ wordAtAddress (lent .words) k)
+      ⊎ Touch.NamesWord (padOf panel) (c .table) (c .x) (c .y) k
   contacted-word k =
-      contact-ways panel table words x y (λ c. (wordAtAddress (c .words) k ≡ wordAtAddress words k) ⊎ Touch.NamesWord (padOf panel) table x y k)
-      (λ answer. inl refl) (λ good. Touch.word-named (padOf panel) table words x y k)
+      contact-ways panel c lent
+      (λ r. (wordAtAddress (r .lent .words) k ≡ wordAtAddress (lent .words) k) ⊎ Touch.NamesWord (padOf panel) (c .table) (c .x) (c .y) k)
+      (λ answer. inl refl) (λ good. Touch.word-named (padOf panel) (c .table) (lent .words) (c .x) (c .y) k)
 
   -- 03-04 for a next page, 05 the flag, 06 the status, 07-0A the place
-  pub contacted-register : length (panel .registers .bytes) ≡ 256 → (address : ℕ) → (address < 0x03) ⊎ (0x0B ≤ address)
-      → panelRegister (contacting panel table words x y .contacted .panel) address ≡ panelRegister panel address
+  pub contacted-register : length (panel .registers .bytes) ≡ registerCount → (address : ℕ) → (address < 0x03) ⊎ (0x0B ≤ address)
+      → panelRegister (contacting panel c lent .contacted .panel) address ≡ panelRegister panel address
   contacted-register whole address outside =
-      contact-ways panel table words x y (λ c. panelRegister (c .contacted .panel) address ≡ panelRegister panel address)
-      (λ answer. refl) (λ good. Touch.other-register-stays (padOf panel) whole table words x y address outside)
+      contact-ways panel c lent (λ r. panelRegister (r .contacted .panel) address ≡ panelRegister panel address)
+      (λ answer. refl) (λ good. Touch.other-register-stays (padOf panel) whole (c .table) (lent .words) (c .x) (c .y) address outside)
 
 -- "Lift: status 02"
-pub lifted-register : (panel : Panel) → length (panel .registers .bytes) ≡ 256 → (address : ℕ) → address ≢ 0x06
+pub lifted-register : (panel : Panel) → length (panel .registers .bytes) ≡ registerCount → (address : ℕ) → address ≢ 0x06
     → panelRegister (lifting panel .panel) address ≡ panelRegister panel address
 lifted-register panel whole address other =
     lift-ways panel (λ l. panelRegister (l .panel) address ≡ panelRegister panel address) refl refl (Touch.lift-only-status (padOf panel) whole address other)

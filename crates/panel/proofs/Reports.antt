@@ -12,7 +12,8 @@ use lib.Seq.{take-all}
 use Rattle.wire.specs.Room.{over, Laid, lays, laid}
 use Rattle.wire.proofs.Parts.{part-whole, part-end, front-length}
 use Rattle.frame.specs.declared.Header.{Header}
-use Rattle.frame.specs.Frame.{headerBytes}
+use Rattle.frame.specs.Frame.{headerBytes, mostPayload}
+use Rattle.line.specs.State.{padded}
 use Rattle.frame.specs.Acknowledgement.{acknowledgement}
 use Rattle.frame.specs.Writer.{leastRoom, acknowledgementLaid}
 use Rattle.line.specs.declared.Report.{Report}
@@ -22,6 +23,9 @@ use Rattle.line.specs.Methods.{asked}
 use Rattle.registers.specs.declared.Registers.{Registers}
 use Rattle.wire.specs.Addresses.{wordCount}
 use Rattle.commands.specs.declared.Performed.{Performed}
+use Rattle.commands.specs.declared.Fixed.{Fixed}
+use Rattle.commands.specs.Lent.{lending, withRoom}
+use Rattle.commands.specs.Effect.{registersLeft}
 use Rattle.commands.specs.Perform.{Performance, performs, performance}
 use Rattle.touch.specs.declared.Setup.{Setup}
 use Rattle.touch.specs.Setup.{checkingOf, acknowledgingOf}
@@ -29,12 +33,13 @@ use Rattle.contact.specs.declared.Catch.{Catch}
 use Rattle.panel.specs.declared.Panel.{Panel}
 use Rattle.panel.specs.declared.Handed.the-variants as handed
 use Rattle.panel.specs.declared.Effected.{Effected}
+use Rattle.panel.specs.declared.HandedOver.{HandedOver}
 use Rattle.panel.specs.declared.Reported.{Reported}
-use Rattle.panel.specs.State.{headerFor, headerOf, answering}
-use Rattle.panel.specs.Reporting.{lent, acknowledged, Effects, effects, accepting, catchAfter, reports, handing, reporting}
+use Rattle.panel.specs.State.{headerFor, headerOf, fixedFor, answering}
+use Rattle.panel.specs.Reporting.{enough, acknowledged, Effects, effects, accepting, HandingOver, overs, onlyHanded, acceptedOver, handingOver, lengthOf, catchAfter, Reporting, reports, handing, refused, reporting}
 
-pub lent-judged : (words room : ℕ) → (eqb words 28672 && leb 265 room) ≡ lent words room
-unfolding lent
+pub lent-judged : (words room : ℕ) → (eqb words wordCount && leb leastRoom room) ≡ enough words room
+unfolding enough
 lent-judged words room = refl
 
 module _ (setup : Setup) (command : ℕ) (good : Bool) (room : List ℕ) (c k : Bool) (is-c : c ≡ checkingOf setup) (is-k : k ≡ acknowledgingOf setup) where
@@ -75,75 +80,123 @@ reply-begins setup command good room left count is long =
     let same : count ≡ acknowledged setup command good room .count = ap (λ (l : Laid). l .count) is in
     omega arith
 
--- the acknowledgement, and the command with the room's part behind it
-pub accepts : (setup : Setup) (registers : Registers) (command : ℕ) (content words room : List ℕ) (count : ℕ) (left : List ℕ) (c : Bool) (header : Header)
-    (p : Performed) (words′ part : List ℕ) → lays count left ≡ acknowledged setup command true room → c ≡ checkingOf setup → header ≡ headerFor setup
-    → performs p words′ part ≡ performance registers (setup .pages) c (headerBytes header) command content words (take (length left - count) (drop count left))
-    → effects (record { performed = p; acknowledged = count }) words′ (take count left ++ (part ++ drop (length left - count) (drop count left)))
-    ≡ accepting setup registers command content words room
+pub fixed-made : (setup : Setup) (header : Header) (c : Bool) → header ≡ headerFor setup → c ≡ checkingOf setup
+    → _≡_ {A = Fixed} (record { header = header; checking = c; pages = setup .pages }) (fixedFor setup)
+fixed-made setup header c is-h is-c = rw (is-h, is-c)
+
+-- the command with the room's part behind the acknowledgement
+abbrev behindAnswer : Setup → Registers → (command : ℕ) → (content words : List ℕ) → Laid → Performance
+behindAnswer setup registers command content words l = performance (fixedFor setup) registers command content (lending words (drop (l .count) (l .room)))
+
+abbrev joinedBehind : Laid → Performance → Effects
+joinedBehind l d = effects (record { performed = d .performed; acknowledged = l .count }) (withRoom (d .lent) (take (l .count) (l .room) ++ d .lent .room))
+
+pub accepts : (setup : Setup) (registers : Registers) (command : ℕ) (content words room : List ℕ) (count : ℕ) (left : List ℕ) (fixed : Fixed)
+    (p : Performed) (words′ part : List ℕ) → lays count left ≡ acknowledged setup command true room → fixed ≡ fixedFor setup
+    → performs p (lending words′ part) ≡ performance fixed registers command content (lending words (take (length left - count) (drop count left)))
+    → effects (record { performed = p; acknowledged = count }) (lending words′ (take count left ++ (part ++ drop (length left - count) (drop count left))))
+    ≡ accepting setup registers command content (lending words room)
 unfolding accepting
-accepts setup registers command content words room count left c header p words′ part is-answer is-c is-h is-p =
-    let done : performs p words′ part ≡ performance registers (setup .pages) (checkingOf setup) (headerOf setup) command content words (drop count left) =
-    is-p ∙ rw (part-whole left count, is-c, is-h) in
+accepts setup registers command content words room count left fixed p words′ part is-answer is-fixed is-p =
+    let done : performs p (lending words′ part) ≡ behindAnswer setup registers command content words (lays count left) =
+    is-p ∙ rw (part-whole left count, is-fixed) in
     rw (part-end left count, append-nil)
-    (ap (λ (d : Performance). effects (record { performed = d .performed; acknowledged = count }) (d .words) (take count left ++ d .room)) done
-    ∙ ap (λ (l : Laid).
-    effects (record { performed = performance registers (setup .pages) (checkingOf setup) (headerOf setup) command content words (drop (l .count) (l .room)) .performed; acknowledged = l .count })
-    (performance registers (setup .pages) (checkingOf setup) (headerOf setup) command content words (drop (l .count) (l .room)) .words)
-    (take (l .count) (l .room) ++ performance registers (setup .pages) (checkingOf setup) (headerOf setup) command content words (drop (l .count) (l .room)) .room)) is-answer)
+    (ap (joinedBehind (lays count left)) done
+    ∙ ap (λ (l : Laid). joinedBehind l (behindAnswer setup registers command content words l)) is-answer)
 
 -- the data that was handed over, out of its array
-pub within-inside : (count n : ℕ) (payload : List ℕ) → n ≡ min count 254 → length payload ≡ 254 → n ≤ length payload
-within-inside count n payload is long = omega (arith, min-le-right count 254)
+pub within-inside : (count n : ℕ) (payload : List ℕ) → n ≡ min count mostPayload → length payload ≡ mostPayload → n ≤ length payload
+within-inside count n payload is long = omega (arith, min-le-right count mostPayload)
 
-pub within-long : (count n : ℕ) (payload : List ℕ) → n ≡ min count 254 → length payload ≡ 254 → n ≡ length (take n payload)
+pub within-long : (count n : ℕ) (payload : List ℕ) → n ≡ min count mostPayload → length payload ≡ mostPayload → n ≡ length (take n payload)
 within-long count n payload is long = front-length n payload (within-inside count n payload is long)
 
-pub taken-same : (count n : ℕ) (payload : List ℕ) → n ≡ min count 254 → length payload ≡ 254 → take n payload ≡ take count payload
-taken-same count n payload is long = go (leb count 254) refl
+pub taken-same : (count n : ℕ) (payload : List ℕ) → n ≡ min count mostPayload → length payload ≡ mostPayload → take n payload ≡ take count payload
+taken-same count n payload is long = go (leb count mostPayload) refl
   where
-    go : (b : Bool) → leb count 254 ≡ b → take n payload ≡ take count payload
+    go : (b : Bool) → leb count mostPayload ≡ b → take n payload ≡ take count payload
     go true t =
-        let small : count ≤ 254 = leb-true count 254 t in
+        let small : count ≤ mostPayload = leb-true count mostPayload t in
         let same : n ≡ count = is ∙ min-eq-left small in
         ap (λ (k : ℕ). take k payload) same
     go false t =
-        let large : 254 < count = leb-false count 254 t in
-        let most : n ≡ 254 = is ∙ min-eq-right (le-of-lt large) in
+        let large : mostPayload < count = leb-false count mostPayload t in
+        let most : n ≡ mostPayload = is ∙ min-eq-right (le-of-lt large) in
         take-all n payload (omega arith) ∙ sym (take-all count payload (omega arith))
 
-pub accepted-handed : (panel : Panel) (words room : List ℕ) (a : Asked) (command len n : ℕ) (e : Effected) (words′ left : List ℕ) (catch : Catch)
-    → n ≡ min len 254 → length (a .payload) ≡ 254
-    → effects e words′ left ≡ accepting (panel .setup) (panel .registers) command (take n (a .payload)) words room
-    → catch ≡ catchAfter (e .performed .paged) (panel .catch)
-    → reports
-    (record {
-      handed = handed.Accepted command len (e .performed .outcome) (e .acknowledged) (e .performed .count);
-      payload = a .payload;
-      panel = record { setup = panel .setup; registers = e .performed .registers; catch = catch; reader = a .reader };
-    }) words′ left
-    ≡ handing a (line.Accepted command len) panel words room
-unfolding handing
-accepted-handed panel words room a command len n e words′ left catch is-n long done is-catch =
-    let whole : effects e words′ left ≡ accepting (panel .setup) (panel .registers) command (take len (a .payload)) words room =
-    done ∙ ap (λ (content : List ℕ). accepting (panel .setup) (panel .registers) command content words room) (taken-same len n (a .payload) is-n long) in
-    rw is-catch
-    (ap (λ (d : Effects).
+-- a report that is handed over
+module _ (setup : Setup) (registers : Registers) (report : Report) (payload words room : List ℕ) where
+  pub over-nothing : (o : HandedOver) → report ≡ line.Nothing → o ≡ onlyHanded handed.Nothing
+      → overs o (lending words room) ≡ handingOver setup registers report payload (lending words room)
+  unfolding handingOver
+  over-nothing o is is-o = rw (is, is-o)
+
+  pub over-bad : (command count : ℕ) (left : List ℕ) (o : HandedOver) → report ≡ line.BadCheck command → lays count left ≡ acknowledged setup command false room
+      → o ≡ onlyHanded (handed.BadCheck command count) → overs o (lending words left) ≡ handingOver setup registers report payload (lending words room)
+  unfolding handingOver
+  over-bad command count left o is e is-o =
+      rw (is, is-o) (ap (λ (l : Laid). overs (onlyHanded (handed.BadCheck command (l .count))) (lending words (l .room))) e)
+
+  pub over-accepted : (command len n : ℕ) (e : Effected) (words′ left : List ℕ) (o : HandedOver) → report ≡ line.Accepted command len → n ≡ min len mostPayload
+      → length payload ≡ mostPayload → effects e (lending words′ left) ≡ accepting setup registers command (take n payload) (lending words room)
+      → o ≡ acceptedOver command len e → overs o (lending words′ left) ≡ handingOver setup registers report payload (lending words room)
+  unfolding handingOver
+  over-accepted command len n e words′ left o is is-n long done is-o =
+      rw (is, is-o)
+      (ap (λ (d : Effects). overs (acceptedOver command len (d .effected)) (d .lent))
+      (done ∙ ap (λ (content : List ℕ). accepting setup registers command content (lending words room)) (taken-same len n payload is-n long)))
+
+-- words or room are not what they must be
+pub refused-is : (panel : Panel) (payload : List ℕ) → payload ≡ padded mostPayload []
+    → _≡_ {A = Reported} (record { handed = handed.NotLent; payload = payload; panel = panel }) (refused panel)
+refused-is panel payload empty = rw empty
+
+-- the panel behind a report
+abbrev leftBehind : Panel → Asked → HandingOver → Reporting
+leftBehind panel a done =
     reports
     (record {
-      handed = handed.Accepted command len (d .effected .performed .outcome) (d .effected .acknowledged) (d .effected .performed .count);
+      handed = done .over .handed;
       payload = a .payload;
       panel = record {
         setup = panel .setup;
-        registers = d .effected .performed .registers;
-        catch = catchAfter (d .effected .performed .paged) (panel .catch);
+        registers = cond (done .over .writes) (registersLeft (panel .registers) (take (lengthOf (a .report)) (a .payload))) (panel .registers);
+        catch = catchAfter (done .over .drops) (panel .catch);
         reader = a .reader;
       };
-    }) (d .words) (d .room)) whole)
+    })
+    (done .lent)
 
-module _ (panel : Panel) (words room : List ℕ) (l : Bool) (is-l : l ≡ lent (length words) (length room)) where
-  pub lent-asked : (r : Reported) (words′ left : List ℕ) → l ≡ true
-      → reports r words′ left ≡ handing (asked (panel .reader)) (asked (panel .reader) .report) panel words room
-      → reports r words′ left ≡ reporting panel words room
+module _ (panel : Panel) (words room : List ℕ) (l : Bool) (is-l : l ≡ enough (length words) (length room)) where
+  pub reported-refused : (r : Reported) → l ≡ false → r ≡ refused panel → reports r (lending words room) ≡ reporting panel (lending words room)
   unfolding reporting
-  lent-asked r words′ left is e = rw (sym is-l ∙ is) e
+  reported-refused r is is-r = rw (is-r, sym is-l ∙ is)
+
+  module _ (is : l ≡ true) (a : Asked) (is-a : a ≡ asked (panel .reader)) (o : HandedOver) (words′ left : List ℕ)
+      (is-o : overs o (lending words′ left) ≡ handingOver (panel .setup) (panel .registers) (a .report) (a .payload) (lending words room))
+      (catch : Catch) (is-catch : catch ≡ catchAfter (o .drops) (panel .catch)) where
+    behind : leftBehind panel a (overs o (lending words′ left)) ≡ reporting panel (lending words room)
+    unfolding reporting handing
+    behind = rw (sym is-l ∙ is) (ap (leftBehind panel a) is-o ∙ ap (λ (x : Asked). handing x (x .report) panel (lending words room)) is-a)
+
+    pub reported-stays : o .writes ≡ false
+        → reports
+        (record {
+          handed = o .handed;
+          payload = a .payload;
+          panel = record { setup = panel .setup; registers = panel .registers; catch = catch; reader = a .reader };
+        }) (lending words′ left) ≡ reporting panel (lending words room)
+    reported-stays stays = rw is-catch (rw stays at behind)
+
+    pub reported-writes : (len n : ℕ) (after : Registers) → o .writes ≡ true → len ≡ lengthOf (a .report) → n ≡ min len mostPayload
+        → length (a .payload) ≡ mostPayload → after ≡ registersLeft (panel .registers) (take n (a .payload))
+        → reports
+        (record {
+          handed = o .handed;
+          payload = a .payload;
+          panel = record { setup = panel .setup; registers = after; catch = catch; reader = a .reader };
+        }) (lending words′ left) ≡ reporting panel (lending words room)
+    reported-writes len n after writes is-len is-n long is-after =
+        let same : take n (a .payload) ≡ take (lengthOf (a .report)) (a .payload) =
+        taken-same len n (a .payload) is-n long ∙ ap (λ (k : ℕ). take k (a .payload)) is-len in
+        rw (is-catch, is-after, same) (rw writes at behind)

@@ -22,20 +22,24 @@ use Rattle.line.specs.Methods.{busy, gave, plus, givenByte, givenMark, givenByt
 use Rattle.line.proofs.Carried.{waiting-is, held-waiting, byte-carried, mark-carried, ask-carried, reached-new, reached-byte, reached-mark, reached-report}
 use Rattle.reading.specs.Moves.{fresh, waiting, withByte, withMark, afterReport}
 use Rattle.registers.specs.declared.Registers.{Registers}
-use Rattle.registers.specs.Table.{startRegisters, registerAt, writable}
+use Rattle.wire.specs.Addresses.{registerCount}
+use Rattle.wire.specs.Room.{laidAt}
+use Rattle.registers.specs.Table.{startRows, withRows, startRegisters, registerAt, writable}
 use Rattle.registers.specs.Touched.{pageOf}
 use Rattle.registers.proofs.Touched.{same-status}
 use Rattle.registers.proofs.Allowed.{length-written, unwritable-stays, page-stays-below}
-use Rattle.commands.specs.Outcome.{writeRegistersOutcome}
-use Rattle.commands.specs.Effect.{isDone}
-use Rattle.commands.specs.Perform.{performance}
+use Rattle.commands.specs.declared.Fixed.{Fixed}
+use Rattle.commands.specs.Lent.{Lent, withRoom}
+use Rattle.commands.specs.Outcome.{isDone, writeRegistersOutcome}
+use Rattle.commands.specs.Effect.{registersLeft}
+use Rattle.commands.specs.Perform.{registersBy, performance}
 use Rattle.commands.proofs.DoneWrites.{registers-passed}
 use Rattle.commands.proofs.Named.{registers-stay, registers-as-done}
 use Rattle.touch.specs.declared.Setup.{Setup}
 use Rattle.touch.specs.declared.Record.{Record}
 use Rattle.touch.specs.Record.{slides}
 use Rattle.touch.specs.Judge.{goodRecord}
-use Rattle.touch.specs.Setup.{checkingOf, goodSetup}
+use Rattle.touch.specs.Setup.{goodSetup}
 use Rattle.touch.proofs.GoodFields.{left, right}
 use Rattle.contact.specs.declared.Catch.{Catch}
 use Rattle.contact.specs.declared.Catch.the-variants.{Free, Caught}
@@ -45,11 +49,11 @@ use Rattle.contact.proofs.Named.{other-register-stays, lift-only-status}
 use Rattle.contact.proofs.Soundness.{touched-sound, lifted-sound}
 use Rattle.panel.specs.declared.Panel.{Panel}
 use Rattle.panel.specs.State as State
-use Rattle.panel.specs.State.{headerOf, withReader}
+use Rattle.panel.specs.State.{fixedFor, withReader}
 use Rattle.panel.specs.Start.{newPanel}
 use Rattle.panel.specs.Inputs.{fedByte, fedMark, fedBytes}
-use Rattle.panel.specs.Reporting.{acknowledged, accepting, catchAfter, handing, reporting}
-use Rattle.panel.specs.Contacts.{contacting, lifting}
+use Rattle.panel.specs.Reporting.{acknowledged, accepting, handingOver, catchAfter, handing, reporting}
+use Rattle.panel.specs.Contacts.{Contact, contacting, lifting}
 use Rattle.panel.specs.Sound.{lineOf, Reads, Sound}
 use Rattle.panel.proofs.Ways.{contact-ways, lift-ways, report-ways}
 
@@ -67,7 +71,7 @@ pages-some setup good =
     (right a b (left (a && b) c (left (a && b && c) d (left (a && b && c && d) e (left (a && b && c && d && e) f (left (a && b && c && d && e && f) g good))))))
 
 pub new-sound : (setup : Setup) → goodSetup setup ≡ true → Sound (newPanel setup)
-unfolding newPanel startRegisters pageOf registerAt
+unfolding newPanel startRegisters startRows withRows laidAt pageOf registerAt
 new-sound setup good =
     record {
       pad = record {
@@ -149,13 +153,13 @@ module _ (panel : Panel) (sound : Sound panel) where
 
 -- touches
 module _ (panel : Panel) (sound : Sound panel) where
-  pub contact-sound : (table words : List ℕ) (x y : ℕ) → Sound (contacting panel table words x y .contacted .panel)
-  contact-sound table words x y =
-      contact-ways panel table words x y (λ c. Sound (c .contacted .panel)) (λ answer. sound)
+  pub contact-sound : (c : Contact) (lent : Lent) → Sound (contacting panel c lent .contacted .panel)
+  contact-sound c lent =
+      contact-ways panel c lent (λ r. Sound (r .contacted .panel)) (λ answer. sound)
       (λ good. record {
-        pad = touched-sound (panel .setup) (State.padOf panel) (sound .pad) x y table words good;
+        pad = touched-sound (panel .setup) (State.padOf panel) (sound .pad) (c .x) (c .y) (c .table) (lent .words) good;
         fixed = λ address never outside.
-            other-register-stays (State.padOf panel) (sound .pad .whole) table words x y address outside ∙ sound .fixed address never outside;
+            other-register-stays (State.padOf panel) (sound .pad .whole) (c .table) (lent .words) (c .x) (c .y) address outside ∙ sound .fixed address never outside;
         reads = sound .reads;
       })
 
@@ -182,26 +186,30 @@ record Allowed (pages : ℕ) (before after : Registers) : Type 0 where
 same-allowed : (pages : ℕ) (before after : Registers) → length (before .bytes) ≡ 256 → pageOf before < pages → after ≡ before → Allowed pages before after
 same-allowed pages before after whole below is = rw is (record { whole = whole; below = below; stays = λ address never. refl })
 
-performed-allowed : (registers : Registers) (pages : ℕ) (checking : Bool) (header : List ℕ) (command : ℕ) (content words room : List ℕ)
-    → length (registers .bytes) ≡ 256 → pageOf registers < pages
-    → Allowed pages registers (performance registers pages checking header command content words room .performed .registers)
-performed-allowed registers pages checking header command content words room whole below =
-    go (eqb command 0x80) refl (isDone (writeRegistersOutcome pages content)) refl
+performed-allowed : (fixed : Fixed) (registers : Registers) (command : ℕ) (content : List ℕ) (lent : Lent)
+    → length (registers .bytes) ≡ registerCount → pageOf registers < fixed .pages
+    → Allowed (fixed .pages) registers (registersBy (performance fixed registers command content lent .performed) registers content)
+unfolding registersLeft
+performed-allowed fixed registers command content lent whole below =
+    go (eqb command 0x80) refl (isDone (writeRegistersOutcome (fixed .pages) content)) refl
   where
+    pages : ℕ
+    pages = fixed .pages
+
     after : Registers
-    after = performance registers pages checking header command content words room .performed .registers
+    after = registersBy (performance fixed registers command content lent .performed) registers content
 
     go : (a : Bool) → eqb command 0x80 ≡ a → (b : Bool) → isDone (writeRegistersOutcome pages content) ≡ b → Allowed pages registers after
     go false other b done =
-        same-allowed pages registers after whole below (registers-stay registers pages checking header content words room command other)
+        same-allowed pages registers after whole below (registers-stay fixed registers content lent command other)
     go true is false done =
         same-allowed pages registers after whole below
-        (registers-as-done registers pages checking header content words room command false (eqb-true command 0x80 is) done)
+        (registers-as-done fixed registers content lent command false (eqb-true command 0x80 is) done)
     go true is true done =
         let passed = registers-passed pages content done in
         let first = byteAt content 0 in
         let bytes = drop 1 content in
-        rw (registers-as-done registers pages checking header content words room command true (eqb-true command 0x80 is) done)
+        rw (registers-as-done fixed registers content lent command true (eqb-true command 0x80 is) done)
         (record {
           whole = length-written registers whole first bytes (passed .fits);
           below = page-stays-below registers whole first bytes (passed .fits) (passed .may) pages (passed .right) below;
@@ -209,15 +217,15 @@ performed-allowed registers pages checking header command content words room who
         })
 
 -- a command leaves the status, and drops the catch or leaves it
-pad-after : (setup : Setup) (before after : Registers) (catch : Catch) (paged : Bool) → Pad.Sound setup (padOf before catch) → Allowed (setup .pages) before after
-    → Pad.Sound setup (padOf after (catchAfter paged catch))
+pad-after : (setup : Setup) (before after : Registers) (catch : Catch) (drops : Bool) → Pad.Sound setup (padOf before catch) → Allowed (setup .pages) before after
+    → Pad.Sound setup (padOf after (catchAfter drops catch))
 unfolding writable
-pad-after setup before after catch paged sound allowed =
+pad-after setup before after catch drops sound allowed =
     record {
       whole = allowed .whole;
       below = allowed .below;
-      up-free = λ up. free paged (sound .up-free (sym (same-status after before (allowed .stays 0x06 refl)) ∙ up));
-      caught-good = good paged;
+      up-free = λ up. free drops (sound .up-free (sym (same-status after before (allowed .stays 0x06 refl)) ∙ up));
+      caught-good = good drops;
     }
   where
     free : (b : Bool) → catch ≡ Free → catchAfter b catch ≡ Free
@@ -229,21 +237,21 @@ pad-after setup before after catch paged sound allowed =
     good false r is = sound .caught-good r is
 
 -- an ask
-pub report-sound : (panel : Panel) → Sound panel → (words room : List ℕ) → Sound (reporting panel words room .reported .panel)
-unfolding handing accepting
-report-sound panel sound words room =
+pub report-sound : (panel : Panel) → Sound panel → (lent : Lent) → Sound (reporting panel lent .reported .panel)
+unfolding handing handingOver accepting
+report-sound panel sound lent =
     let asks = reads-asked (lineOf (panel .setup)) (panel .reader) (sound .reads) in
-    report-ways panel words room (λ r. Sound (r .reported .panel)) (λ h payload. sound)
+    report-ways panel lent (λ r. Sound (r .reported .panel)) (λ h payload. sound)
     (λ command is. reader-sound panel sound (asked (panel .reader) .reader) asks)
     (λ command count is.
     let setup = panel .setup in
-    let answer = acknowledged setup command true room in
+    let answer = acknowledged setup command true (lent .room) in
     let content = take count (asked (panel .reader) .payload) in
-    let part = drop (answer .count) (answer .room) in
-    let done = performance (panel .registers) (setup .pages) (checkingOf setup) (headerOf setup) command content words part in
-    let allowed = performed-allowed (panel .registers) (setup .pages) (checkingOf setup) (headerOf setup) command content words part (sound .pad .whole) (sound .pad .below) in
+    let part = withRoom lent (drop (answer .count) (answer .room)) in
+    let done = performance (fixedFor setup) (panel .registers) command content part in
+    let allowed = performed-allowed (fixedFor setup) (panel .registers) command content part (sound .pad .whole) (sound .pad .below) in
     record {
-      pad = pad-after setup (panel .registers) (done .performed .registers) (panel .catch) (done .performed .paged) (sound .pad) allowed;
+      pad = pad-after setup (panel .registers) (registersBy (done .performed) (panel .registers) content) (panel .catch) (done .performed .drops) (sound .pad) allowed;
       fixed = λ address never outside. allowed .stays address never ∙ sound .fixed address never outside;
       reads = asks;
     })

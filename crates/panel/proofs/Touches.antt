@@ -11,6 +11,7 @@ use Rattle.wire.specs.Addresses.{wordCount}
 use Rattle.touch.specs.declared.Verdict.{Verdict}
 use Rattle.touch.specs.declared.Verdict.the-variants.{Good, NotRecords, Wrong}
 use Rattle.touch.specs.Judge.{judged}
+use Rattle.commands.specs.Lent.{Lent, lending}
 use Rattle.contact.specs.declared.Pad.{Pad}
 use Rattle.contact.specs.Contact.{Touching, leaves, touched, lifted}
 use Rattle.panel.specs.declared.Panel.{Panel}
@@ -19,56 +20,63 @@ use Rattle.panel.specs.declared.Contacted.{Contacted}
 use Rattle.panel.specs.declared.LiftAnswer.the-variants as lift
 use Rattle.panel.specs.declared.Lifted.{Lifted}
 use Rattle.panel.specs.State.{padOf, withPad}
-use Rattle.panel.specs.Contacts.{onScreen, contacts, contactOn, contactJudged, contacting, lifting}
+use Rattle.panel.specs.Contacts.{onScreen, Contact, contactAt, contacts, contactOn, contactJudged, contacting, lifting}
 
 module _ (panel : Panel) (table words : List ℕ) (x y : ℕ) where
+  abbrev at : Contact
+  at = contactAt table x y
+
   module _ (off : Bool) (is-off : off ≡ isTouchOff (panel .registers)) where
-    pub number-9 : off ≡ true → contacts contact.TouchOff panel words ≡ contactOn panel table words x y
+    pub number-9 : off ≡ true → (room : List ℕ) → contacts contact.TouchOff panel (lending words room) ≡ contactOn panel at (lending words room)
     unfolding contactOn
-    number-9 is = rw (sym is-off ∙ is)
+    number-9 is room = rw (sym is-off ∙ is)
 
     module _ (live : off ≡ false) where
-      pub number-8 : onScreen (panel .setup) x y ≡ false → contacts contact.OffScreen panel words ≡ contactOn panel table words x y
+      pub number-8 : onScreen (panel .setup) x y ≡ false → (room : List ℕ)
+          → contacts contact.OffScreen panel (lending words room) ≡ contactOn panel at (lending words room)
       unfolding contactOn
-      number-8 is = rw (sym is-off ∙ live, is)
+      number-8 is room = rw (sym is-off ∙ live, is)
 
       pub contact-done : (pad : Pad) (next : Panel) (left : List ℕ) → onScreen (panel .setup) x y ≡ true → leaves pad left ≡ touched (padOf panel) table words x y
-          → next ≡ withPad panel pad → contacts contact.Done next left ≡ contactOn panel table words x y
+          → next ≡ withPad panel pad → (room : List ℕ) → contacts contact.Done next (lending left room) ≡ contactOn panel at (lending words room)
       unfolding contactOn
-      contact-done pad next left is e is-next =
-          rw (sym is-off ∙ live, is, is-next) (ap (λ (t : Touching). contacts contact.Done (withPad panel (t .pad)) (t .words)) e)
+      contact-done pad next left is e is-next room =
+          rw (sym is-off ∙ live, is, is-next) (ap (λ (t : Touching). contacts contact.Done (withPad panel (t .pad)) (lending (t .words) room)) e)
 
   module _ (verdict : Verdict) (is-verdict : verdict ≡ judged (panel .setup) table) where
-    judged-so : (given : Verdict) → verdict ≡ given → contactJudged given panel table words x y ≡ contactJudged (judged (panel .setup) table) panel table words x y
-    judged-so given is = ap (λ (v : Verdict). contactJudged v panel table words x y) (sym is ∙ is-verdict)
+    judged-so : (given : Verdict) → verdict ≡ given → (lent : Lent) → contactJudged given panel at lent ≡ contactJudged (judged (panel .setup) table) panel at lent
+    judged-so given is lent = ap (λ (v : Verdict). contactJudged v panel at lent) (sym is ∙ is-verdict)
 
-    pub table-good : (r : Contacted) (left : List ℕ) → verdict ≡ Good → contacts (r .answer) (r .panel) left ≡ contactOn panel table words x y
-        → contacts (r .answer) (r .panel) left ≡ contactJudged (judged (panel .setup) table) panel table words x y
+    pub table-good : (r : Contacted) (left : List ℕ) → verdict ≡ Good
+        → ((room : List ℕ) → contacts (r .answer) (r .panel) (lending left room) ≡ contactOn panel at (lending words room)) → (room : List ℕ)
+        → contacts (r .answer) (r .panel) (lending left room) ≡ contactJudged (judged (panel .setup) table) panel at (lending words room)
     unfolding contactJudged
-    table-good r left is e = e ∙ judged-so Good is
+    table-good r left is e room = e room ∙ judged-so Good is (lending words room)
 
-    pub number-12 : verdict ≡ NotRecords → contacts contact.NotRecords panel words ≡ contactJudged (judged (panel .setup) table) panel table words x y
+    pub number-12 : verdict ≡ NotRecords → (room : List ℕ)
+        → contacts contact.NotRecords panel (lending words room) ≡ contactJudged (judged (panel .setup) table) panel at (lending words room)
     unfolding contactJudged
-    number-12 is = judged-so NotRecords is
+    number-12 is room = judged-so NotRecords is (lending words room)
 
-    pub number-13 : (i : ℕ) → verdict ≡ Wrong i → contacts (contact.WrongRecord i) panel words ≡ contactJudged (judged (panel .setup) table) panel table words x y
+    pub number-13 : (i : ℕ) → verdict ≡ Wrong i → (room : List ℕ)
+        → contacts (contact.WrongRecord i) panel (lending words room) ≡ contactJudged (judged (panel .setup) table) panel at (lending words room)
     unfolding contactJudged
-    number-13 i is = judged-so (Wrong i) is
+    number-13 i is room = judged-so (Wrong i) is (lending words room)
 
-  pub number-14 : (length words ≡ 28672 → ⊥) → contacts contact.NotLent panel words ≡ contacting panel table words x y
+  pub number-14 : (length words ≡ wordCount → ⊥) → (room : List ℕ) → contacts contact.NotLent panel (lending words room) ≡ contacting panel at (lending words room)
   unfolding contacting
-  number-14 other = rw (ne-eqb (length words) 28672 other)
+  number-14 other room = rw (ne-eqb (length words) wordCount other)
 
-  module _ (whole : length words ≡ 28672) (waits : Bool) (is-waits : waits ≡ busy (panel .reader)) where
-    pub number-1 : waits ≡ true → contacts contact.Waits panel words ≡ contacting panel table words x y
+  module _ (whole : length words ≡ wordCount) (waits : Bool) (is-waits : waits ≡ busy (panel .reader)) where
+    pub number-1 : waits ≡ true → (room : List ℕ) → contacts contact.Waits panel (lending words room) ≡ contacting panel at (lending words room)
     unfolding contacting
-    number-1 is = rw (eq-eqb (length words) 28672 whole, sym is-waits ∙ is)
+    number-1 is room = rw (eq-eqb (length words) wordCount whole, sym is-waits ∙ is)
 
     pub then-judged : (r : Contacted) (left : List ℕ) → waits ≡ false
-        → contacts (r .answer) (r .panel) left ≡ contactJudged (judged (panel .setup) table) panel table words x y
-        → contacts (r .answer) (r .panel) left ≡ contacting panel table words x y
+        → ((room : List ℕ) → contacts (r .answer) (r .panel) (lending left room) ≡ contactJudged (judged (panel .setup) table) panel at (lending words room))
+        → (room : List ℕ) → contacts (r .answer) (r .panel) (lending left room) ≡ contacting panel at (lending words room)
     unfolding contacting
-    then-judged r left is e = rw (eq-eqb (length words) 28672 whole, sym is-waits ∙ is) e
+    then-judged r left is e room = rw (eq-eqb (length words) wordCount whole, sym is-waits ∙ is) (e room)
 
 module _ (panel : Panel) (waits : Bool) (is-waits : waits ≡ busy (panel .reader)) where
   pub lift-waits : waits ≡ true → _≡_ {A = Lifted} (record { answer = lift.Waits; panel = panel }) (lifting panel)

@@ -11,6 +11,7 @@ use Rattle.touch.specs.declared.Setup.{Setup}
 use Rattle.touch.specs.declared.Verdict.{Verdict}
 use Rattle.touch.specs.declared.Verdict.the-variants.{Good, NotRecords, Wrong}
 use Rattle.touch.specs.Judge.{judged}
+use Rattle.commands.specs.Lent.{Lent, withWords}
 use Rattle.contact.specs.Contact.{touched, lifted}
 use Rattle.panel.specs.declared.Panel.{Panel}
 use Rattle.panel.specs.declared.ContactAnswer.{ContactAnswer}
@@ -24,33 +25,42 @@ use Rattle.panel.specs.State.{padOf, withPad}
 abbrev pub onScreen : Setup → (x y : ℕ) → Bool
 onScreen setup x y = ltb x (setup .width) && ltb y (setup .height)
 
--- what a contact answers, and the words as it leaves them
+-- what a contact brings: "The table is lent again at each contact", and the point
+pub record Contact : Type 0 where
+  pub table : List ℕ
+  pub x : ℕ
+  pub y : ℕ
+
+abbrev pub contactAt : (table : List ℕ) → (x y : ℕ) → Contact
+contactAt table x y = record { table = table; x = x; y = y }
+
+-- what a contact answers, and what is lent as it leaves it
 pub record Contacting : Type 0 where
   pub contacted : Contacted
-  pub words : List ℕ
+  pub lent : Lent
 
-abbrev pub contacts : ContactAnswer → Panel → List ℕ → Contacting
-contacts answer panel words = record { contacted = record { answer = answer; panel = panel }; words = words }
+abbrev pub contacts : ContactAnswer → Panel → Lent → Contacting
+contacts answer panel lent = record { contacted = record { answer = answer; panel = panel }; lent = lent }
 
 -- with a good table: 9, then 8, else the contact is done
-unfoldable pub contactOn : Panel → List ℕ → List ℕ → (x y : ℕ) → Contacting
-contactOn panel table words x y =
-    let done = touched (padOf panel) table words x y in
-    cond (isTouchOff (panel .registers)) (contacts contact.TouchOff panel words)
-    (cond (not (onScreen (panel .setup) x y)) (contacts contact.OffScreen panel words)
-    (contacts contact.Done (withPad panel (done .pad)) (done .words)))
+unfoldable pub contactOn : Panel → Contact → Lent → Contacting
+contactOn panel c lent =
+    let done = touched (padOf panel) (c .table) (lent .words) (c .x) (c .y) in
+    cond (isTouchOff (panel .registers)) (contacts contact.TouchOff panel lent)
+    (cond (not (onScreen (panel .setup) (c .x) (c .y))) (contacts contact.OffScreen panel lent)
+    (contacts contact.Done (withPad panel (done .pad)) (withWords lent (done .words))))
 
 -- "The table is lent again at each contact and judged again by 12 and 13."
-unfoldable pub contactJudged : Verdict → Panel → List ℕ → List ℕ → (x y : ℕ) → Contacting
-contactJudged Good panel table words x y = contactOn panel table words x y
-contactJudged NotRecords panel table words x y = contacts contact.NotRecords panel words
-contactJudged (Wrong i) panel table words x y = contacts (contact.WrongRecord i) panel words
+unfoldable pub contactJudged : Verdict → Panel → Contact → Lent → Contacting
+contactJudged Good panel c lent = contactOn panel c lent
+contactJudged NotRecords panel c lent = contacts contact.NotRecords panel lent
+contactJudged (Wrong i) panel c lent = contacts (contact.WrongRecord i) panel lent
 
-unfoldable pub contacting : Panel → List ℕ → List ℕ → (x y : ℕ) → Contacting
-contacting panel table words x y =
-    cond (not (eqb (length words) wordCount)) (contacts contact.NotLent panel words)
-    (cond (busy (panel .reader)) (contacts contact.Waits panel words)
-    (contactJudged (judged (panel .setup) table) panel table words x y))
+unfoldable pub contacting : Panel → Contact → Lent → Contacting
+contacting panel c lent =
+    cond (not (eqb (length (lent .words)) wordCount)) (contacts contact.NotLent panel lent)
+    (cond (busy (panel .reader)) (contacts contact.Waits panel lent)
+    (contactJudged (judged (panel .setup) (c .table)) panel c lent))
 
 -- "Lifts are taken with touch off."
 unfoldable pub lifting : Panel → Lifted

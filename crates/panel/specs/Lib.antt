@@ -6,4 +6,3 @@ pub mod Reporting
 pub mod Contacts
 pub mod Sound
 pub mod Reachable
-pub mod WithoutRegisters

@@ -1,6 +1,6 @@
 -- 01, "Numbers given back": the number of each answer.
 use Prim.Native.Nat.{ℕ}
-use Rattle.commands.specs.Outcome as Outcome
+use Rattle.commands.specs.Outcome.{numberOfOutcome}
 use Rattle.panel.specs.declared.StartAnswer.{StartAnswer}
 use Rattle.panel.specs.declared.StartAnswer.the-variants as start
 use Rattle.panel.specs.declared.Handed.{Handed}
@@ -21,7 +21,7 @@ unfoldable pub reportNumber : Handed → ℕ
 reportNumber handed.NotLent = 14
 reportNumber handed.Nothing = 0
 reportNumber (handed.BadCheck command acknowledged) = 0
-reportNumber (handed.Accepted command count outcome acknowledged replied) = Outcome.numberOf outcome
+reportNumber (handed.Accepted command count outcome acknowledged replied) = numberOfOutcome outcome
 
 unfoldable pub contactNumber : ContactAnswer → ℕ
 contactNumber contact.Done = 0

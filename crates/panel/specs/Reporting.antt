@@ -4,7 +4,9 @@ use mathlib.Core.Bool.{Bool, true, false, cond, _&&_}
 use mathlib.Core.List.{List, [], _++_}
 use lib.Dec.{eqb, leb}
 use lib.ListN.{length, take, drop}
+use Rattle.wire.specs.Addresses.{wordCount}
 use Rattle.wire.specs.Room.{Laid, lays}
+use Rattle.frame.specs.Frame.{mostPayload}
 use Rattle.frame.specs.Writer.{leastRoom, acknowledgementLaid}
 use Rattle.line.specs.declared.Report.{Report}
 use Rattle.line.specs.declared.Report.the-variants as line
@@ -12,81 +14,118 @@ use Rattle.line.specs.declared.Asked.{Asked}
 use Rattle.line.specs.State.{padded}
 use Rattle.line.specs.Methods.{asked}
 use Rattle.registers.specs.declared.Registers.{Registers}
-use Rattle.wire.specs.Addresses.{wordCount}
+use Rattle.commands.specs.Lent.{Lent, withRoom}
+use Rattle.commands.specs.Effect.{registersLeft}
 use Rattle.commands.specs.Perform.{performance}
 use Rattle.touch.specs.declared.Setup.{Setup}
-use Rattle.touch.specs.Setup.{checkingOf}
 use Rattle.contact.specs.declared.Catch.{Catch}
 use Rattle.contact.specs.declared.Catch.the-variants.{Free}
 use Rattle.panel.specs.declared.Panel.{Panel}
+use Rattle.panel.specs.declared.Handed.{Handed}
 use Rattle.panel.specs.declared.Handed.the-variants as handed
 use Rattle.panel.specs.declared.Effected.{Effected}
+use Rattle.panel.specs.declared.HandedOver.{HandedOver}
 use Rattle.panel.specs.declared.Reported.{Reported}
-use Rattle.panel.specs.State.{headerOf, answering, withReader}
+use Rattle.panel.specs.State.{headerOf, fixedFor, answering}
 
 -- "14: words lent aren't 28,672, or reply .. room below 265"
-unfoldable pub lent : (words room : ℕ) → Bool
-lent words room = eqb words wordCount && leb leastRoom room
+unfoldable pub enough : (words room : ℕ) → Bool
+enough words room = eqb words wordCount && leb leastRoom room
+
+abbrev pub wellLent : Lent → Bool
+wellLent lent = enough (length (lent .words)) (length (lent .room))
 
 -- "With checking and acknowledging both on, each accepted frame is first answered by header, length, command, 0xFF, check; each bad check
 -- by the same with 0x00."
-unfoldable pub acknowledged : Setup → ℕ → Bool → List ℕ → Laid
+unfoldable pub acknowledged : Setup → (command : ℕ) → (good : Bool) → (room : List ℕ) → Laid
 acknowledged setup command good room = cond (answering setup) (acknowledgementLaid (headerOf setup) command good room) (lays 0 room)
 
--- what an accepted frame does to words and room
+-- what an accepted frame does, how long its acknowledgement is, and what is lent as it leaves it
 pub record Effects : Type 0 where
   pub effected : Effected
-  pub words : List ℕ
-  pub room : List ℕ
+  pub lent : Lent
 
-abbrev pub effects : Effected → List ℕ → List ℕ → Effects
-effects effected words room = record { effected = effected; words = words; room = room }
+abbrev pub effects : Effected → Lent → Effects
+effects effected lent = record { effected = effected; lent = lent }
 
 -- "The reply follows the acknowledgement at once in the same room." "A refused command still has its acknowledgement."
-unfoldable pub accepting : Setup → Registers → ℕ → List ℕ → List ℕ → List ℕ → Effects
-accepting setup registers command content words room =
-    let answer = acknowledged setup command true room in
-    let done = performance registers (setup .pages) (checkingOf setup) (headerOf setup) command content words (drop (answer .count) (answer .room)) in
-    effects (record { performed = done .performed; acknowledged = answer .count }) (done .words) (take (answer .count) (answer .room) ++ done .room)
+unfoldable pub accepting : Setup → Registers → (command : ℕ) → (content : List ℕ) → Lent → Effects
+accepting setup registers command content lent =
+    let answer = acknowledged setup command true (lent .room) in
+    let done = performance (fixedFor setup) registers command content (withRoom lent (drop (answer .count) (answer .room))) in
+    effects (record { performed = done .performed; acknowledged = answer .count })
+    (withRoom (done .lent) (take (answer .count) (answer .room) ++ done .lent .room))
 
--- what asking for a report answers, and words and room as it leaves them
-pub record Reporting : Type 0 where
-  pub reported : Reported
-  pub words : List ℕ
-  pub room : List ℕ
+-- a report that is handed over: what is answered, whether the frame's data is to be written into the registers, whether the catch is to be dropped;
+-- and what is lent as that leaves it
+pub record HandingOver : Type 0 where
+  pub over : HandedOver
+  pub lent : Lent
 
-abbrev pub reports : Reported → List ℕ → List ℕ → Reporting
-reports reported words room = record { reported = reported; words = words; room = room }
+abbrev pub overs : HandedOver → Lent → HandingOver
+overs over lent = record { over = over; lent = lent }
+
+abbrev pub onlyHanded : Handed → HandedOver
+onlyHanded handed = record { handed = handed; writes = false; drops = false }
+
+abbrev pub acceptedOver : (command count : ℕ) → Effected → HandedOver
+acceptedOver command count e =
+    record {
+      handed = handed.Accepted command count (e .performed .outcome) (e .acknowledged) (e .performed .replied);
+      writes = e .performed .writes;
+      drops = e .performed .drops;
+    }
+
+-- "'Nothing' changes nothing, the reply room included."
+unfoldable pub handingOver : Setup → Registers → Report → (payload : List ℕ) → Lent → HandingOver
+handingOver setup registers line.Nothing payload lent = overs (onlyHanded handed.Nothing) lent
+handingOver setup registers (line.BadCheck command) payload lent =
+    let answer = acknowledged setup command false (lent .room) in
+    overs (onlyHanded (handed.BadCheck command (answer .count))) (withRoom lent (answer .room))
+handingOver setup registers (line.Accepted command count) payload lent =
+    let done = accepting setup registers command (take count payload) lent in
+    overs (acceptedOver command count (done .effected)) (done .lent)
+
+-- how much data an accepted frame has
+abbrev pub lengthOf : Report → ℕ
+lengthOf line.Nothing = 0
+lengthOf (line.BadCheck command) = 0
+lengthOf (line.Accepted command count) = count
 
 -- "Every page write by a command .. drops the catch."
 abbrev pub catchAfter : Bool → Catch → Catch
-catchAfter paged catch = cond paged Free catch
+catchAfter drops catch = cond drops Free catch
 
--- "'Nothing' changes nothing, the reply room included."
-unfoldable pub handing : Asked → Report → Panel → List ℕ → List ℕ → Reporting
-handing a line.Nothing panel words room = reports (record { handed = handed.Nothing; payload = a .payload; panel = panel }) words room
-handing a (line.BadCheck command) panel words room =
-    let answer = acknowledged (panel .setup) command false room in
-    reports (record { handed = handed.BadCheck command (answer .count); payload = a .payload; panel = withReader panel (a .reader) }) words (answer .room)
-handing a (line.Accepted command count) panel words room =
-    let done = accepting (panel .setup) (panel .registers) command (take count (a .payload)) words room in
-    let performed = done .effected .performed in
+-- what asking for a report answers, and what is lent as it leaves it
+pub record Reporting : Type 0 where
+  pub reported : Reported
+  pub lent : Lent
+
+abbrev pub reports : Reported → Lent → Reporting
+reports reported lent = record { reported = reported; lent = lent }
+
+-- the panel behind a report: its reader has gone on, and an accepted frame has taken effect
+unfoldable pub handing : Asked → Report → Panel → Lent → Reporting
+handing a report panel lent =
+    let done = handingOver (panel .setup) (panel .registers) report (a .payload) lent in
     reports
     (record {
-      handed = handed.Accepted command count (performed .outcome) (done .effected .acknowledged) (performed .count);
+      handed = done .over .handed;
       payload = a .payload;
       panel = record {
         setup = panel .setup;
-        registers = performed .registers;
-        catch = catchAfter (performed .paged) (panel .catch);
+        registers = cond (done .over .writes) (registersLeft (panel .registers) (take (lengthOf report) (a .payload))) (panel .registers);
+        catch = catchAfter (done .over .drops) (panel .catch);
         reader = a .reader;
       };
     })
-    (done .words) (done .room)
+    (done .lent)
 
 -- "With 14 the report still waits."
-unfoldable pub reporting : Panel → List ℕ → List ℕ → Reporting
-reporting panel words room =
+abbrev pub refused : Panel → Reported
+refused panel = record { handed = handed.NotLent; payload = padded mostPayload []; panel = panel }
+
+unfoldable pub reporting : Panel → Lent → Reporting
+reporting panel lent =
     let a = asked (panel .reader) in
-    cond (lent (length words) (length room)) (handing a (a .report) panel words room)
-    (reports (record { handed = handed.NotLent; payload = padded 254 []; panel = panel }) words room)
+    cond (wellLent lent) (handing a (a .report) panel lent) (reports (refused panel) lent)

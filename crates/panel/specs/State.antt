@@ -8,6 +8,7 @@ use Rattle.line.specs.declared.Reader.{Reader}
 use Rattle.registers.specs.Table.{registerAt}
 use Rattle.touch.specs.declared.Setup.{Setup}
 use Rattle.touch.specs.Setup.{checkingOf, acknowledgingOf}
+use Rattle.commands.specs.declared.Fixed.{Fixed}
 use Rattle.contact.specs.declared.Pad.{Pad}
 use Rattle.panel.specs.declared.Panel.{Panel}
 
@@ -17,6 +18,10 @@ headerFor setup = record { h1 = setup .h1; h2 = setup .h2 }
 
 abbrev pub headerOf : Setup → List ℕ
 headerOf setup = headerBytes (headerFor setup)
+
+-- what setup fixes for every command
+abbrev pub fixedFor : Setup → Fixed
+fixedFor setup = record { header = headerFor setup; checking = checkingOf setup; pages = setup .pages }
 
 -- "With checking and acknowledging both on"
 abbrev pub answering : Setup → Bool

@@ -1,7 +1,7 @@
--- `panel::is_lent` meets its contract.
+-- `panel::asking::is_lent` meets its contract.
 use Rattle.panel.proofs.Reports.{lent-judged}
-use Rattle.panel.proofs.is_lent.Statement.{statement}
-use Rattle.panel.proofs.is_lent.Tie as tie
+use Rattle.panel.proofs.asking.is_lent.Statement.{statement}
+use Rattle.panel.proofs.asking.is_lent.Tie as tie
 
 pub is-lent-spec : {M : Type 1} → statement M
 is-lent-spec =

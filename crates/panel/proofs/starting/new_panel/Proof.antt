@@ -1,8 +1,8 @@
--- `panel::new_panel` meets its contract.
+-- `panel::starting::new_panel` meets its contract.
 use borrow.Author.Needs.{needs}
 use Rattle.panel.proofs.Inputs.{new-made}
-use Rattle.panel.proofs.new_panel.Statement.{statement}
-use Rattle.panel.proofs.new_panel.Tie as tie
+use Rattle.panel.proofs.starting.new_panel.Statement.{statement}
+use Rattle.panel.proofs.starting.new_panel.Tie as tie
 
 pub new-panel-spec : {M : Type 1} → statement M
 new-panel-spec =

@@ -1,8 +1,8 @@
--- `panel::judged_contact` meets its contract.
+-- `panel::touching::judged_contact` meets its contract.
 use borrow.Author.Needs.{needs}
 use Rattle.panel.proofs.Touches.{table-good, number-12, number-13}
-use Rattle.panel.proofs.judged_contact.Statement.{statement}
-use Rattle.panel.proofs.judged_contact.Tie as tie
+use Rattle.panel.proofs.touching.judged_contact.Statement.{statement}
+use Rattle.panel.proofs.touching.judged_contact.Tie as tie
 
 pub judged-contact-spec : {M : Type 1} → statement M
 judged-contact-spec =

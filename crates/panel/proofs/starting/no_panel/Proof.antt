@@ -1,8 +1,8 @@
--- `panel::no_panel` meets its contract.
+-- `panel::starting::no_panel` meets its contract.
 use borrow.Author.Needs.{needs}
 use Rattle.panel.proofs.Inputs.{none-made}
-use Rattle.panel.proofs.no_panel.Statement.{statement}
-use Rattle.panel.proofs.no_panel.Tie as tie
+use Rattle.panel.proofs.starting.no_panel.Statement.{statement}
+use Rattle.panel.proofs.starting.no_panel.Tie as tie
 
 pub no-panel-spec : {M : Type 1} → statement M
 no-panel-spec =

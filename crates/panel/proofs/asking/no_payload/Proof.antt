@@ -1,8 +1,8 @@
--- `panel::no_payload` meets its contract.
+-- `panel::asking::no_payload` meets its contract.
 use mathlib.Core.Path.{refl}
 use Rattle.line.specs.State.{padded}
-use Rattle.panel.proofs.no_payload.Statement.{statement}
-use Rattle.panel.proofs.no_payload.Tie as tie
+use Rattle.panel.proofs.asking.no_payload.Statement.{statement}
+use Rattle.panel.proofs.asking.no_payload.Tie as tie
 
 returns : tie.Need-returns
 unfolding padded

@@ -1,8 +1,8 @@
--- `panel::acknowledge` meets its contract.
+-- `panel::asking::acknowledge` meets its contract.
 use borrow.Author.Needs.{needs}
 use Rattle.panel.proofs.Reports.{answered, not-answered}
-use Rattle.panel.proofs.acknowledge.Statement.{statement}
-use Rattle.panel.proofs.acknowledge.Tie as tie
+use Rattle.panel.proofs.asking.acknowledge.Statement.{statement}
+use Rattle.panel.proofs.asking.acknowledge.Tie as tie
 
 pub acknowledge-spec : {M : Type 1} → statement M
 acknowledge-spec =

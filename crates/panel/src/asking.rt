@@ -1,0 +1,241 @@
+// Asking for a report: it is handed over and acknowledged, and an accepted frame takes effect.
+ghost use mathlib.Core.Path.{_≡_};
+ghost use mathlib.Core.List.{[]};
+ghost use Prim.Native.Nat.{min};
+ghost use lib.ListN.{length};
+ghost use Rattle.wire.specs.Room.{lays};
+ghost use Rattle.frame.specs.Frame.{mostPayload};
+ghost use Rattle.line.specs.State.{padded};
+ghost use Rattle.registers.specs.Table.{holding};
+ghost use Rattle.commands.specs.Lent.{lending};
+ghost use Rattle.panel.specs.State.{fixedFor};
+ghost use Rattle.panel.specs.Reporting.{enough, acknowledged, effects, accepting, lengthOf, catchAfter, onlyHanded, acceptedOver, overs, handingOver, refused, reports, reporting};
+use crate::starting;
+use crate::Effected;
+use crate::Handed;
+use crate::HandedOver;
+use crate::Panel;
+use crate::Reported;
+use commands::Fixed;
+use contact::Catch;
+use frame::LEAST_ROOM;
+use frame::MOST_PAYLOAD;
+use line::Report;
+use touch::Setup;
+use wire::WORD_COUNT;
+
+impl Panel {
+    // Asks for a report: hands it over, acknowledges it, and does what an accepted frame says.
+    pub fn report(self, words: &mut [u16], room: &mut [u8]) -> Reported
+        ensures { λ r. ⌜ reports r (lending (now (words .exit)) (now (room .exit))) ≡ reporting self (lending (now (words .entry)) (now (room .entry))) ⌝ }
+    {
+        if !is_lent(words.len(), room.len()) {
+            return not_lent(self);
+        }
+        let reader = self.reader;
+        let a = reader.ask();
+        let report = a.report;
+        let payload = a.payload;
+        let next = a.reader;
+        let setup = self.setup;
+        let done = hand_over(
+            setup,
+            &self.registers.bytes,
+            report,
+            &payload,
+            words,
+            room,
+        );
+        let handed = done.handed;
+        let before = self.catch;
+        let catch = catch_after(done.drops, before);
+        if done.writes {
+            let registers = self.registers;
+            let n = within(length_of(report));
+            let left = commands::registers_left(registers, &payload[..n]);
+            return Reported {
+                handed: handed,
+                payload: payload,
+                panel: Panel {
+                    setup: setup,
+                    registers: left,
+                    catch: catch,
+                    reader: next,
+                },
+            };
+        }
+        Reported {
+            handed: handed,
+            payload: payload,
+            panel: Panel {
+                catch: catch,
+                reader: next,
+                ..self
+            },
+        }
+    }
+}
+
+// Words and room are what they must be.
+fn is_lent(words: usize, room: usize) -> bool
+    ensures { λ r. ⌜ r ≡ enough words room ⌝ }
+{
+    (words == WORD_COUNT) & (LEAST_ROOM <= room)
+}
+
+fn no_payload() -> [u8; MOST_PAYLOAD]
+    ensures { λ r. ⌜ r ≡ padded mostPayload [] ⌝ }
+{
+    [0u8; MOST_PAYLOAD]
+}
+
+// Words or room are not what they must be: the report still waits.
+fn not_lent(panel: Panel) -> Reported
+    ensures { λ r. ⌜ r ≡ refused panel ⌝ }
+{
+    Reported {
+        handed: Handed::NotLent,
+        payload: no_payload(),
+        panel: panel,
+    }
+}
+
+// What setup fixes for every command.
+fn fixed_for(setup: Setup) -> Fixed
+    ensures { λ r. ⌜ r ≡ fixedFor setup ⌝ }
+{
+    Fixed {
+        header: starting::header_for(setup),
+        checking: touch::checking(setup),
+        pages: setup.pages,
+    }
+}
+
+// Lays an acknowledgement, where they are wanted; answers how long it is.
+fn acknowledge(setup: Setup, command: u8, good: bool, room: &mut [u8]) -> usize
+    ensures { λ r. ⌜ lays r (now (room .exit)) ≡ acknowledged setup command good (now (room .entry)) ⌝ }
+{
+    if touch::checking(setup) & touch::acknowledging(setup) {
+        frame::put_acknowledgement(
+            starting::header_for(setup),
+            command,
+            good,
+            room,
+        )
+    } else {
+        0
+    }
+}
+
+// Acknowledges an accepted frame and does what it says; the reply is laid into the part of the room behind the acknowledgement.
+fn accept(
+    setup: Setup,
+    registers: &[u8],
+    command: u8,
+    content: &[u8],
+    words: &mut [u16],
+    room: &mut [u8],
+) -> Effected
+    ensures { λ r. ⌜ effects r (lending (now (words .exit)) (now (room .exit))) ≡ accepting setup (holding (now (registers .entry))) command (now (content .entry)) (lending (now (words .entry)) (now (room .entry))) ⌝ }
+{
+    let k = acknowledge(setup, command, true, room);
+    let done = commands::perform(
+        fixed_for(setup),
+        registers,
+        command,
+        content,
+        words,
+        &mut room[k..],
+    );
+    Effected {
+        performed: done,
+        acknowledged: k,
+    }
+}
+
+// At most the whole of the data.
+fn within(count: usize) -> usize
+    ensures { λ r. ⌜ r ≡ min count mostPayload ⌝ }
+{
+    if count < MOST_PAYLOAD { count } else { MOST_PAYLOAD }
+}
+
+fn catch_after(drops: bool, catch: Catch) -> Catch
+    ensures { λ r. ⌜ r ≡ catchAfter drops catch ⌝ }
+{
+    if drops { Catch::Free } else { catch }
+}
+
+// How much data an accepted frame has.
+fn length_of(report: Report) -> usize
+    ensures { λ r. ⌜ r ≡ lengthOf report ⌝ }
+{
+    match report {
+        Report::Nothing => 0,
+        Report::BadCheck(_) => 0,
+        Report::Accepted { command: _, len } => len,
+    }
+}
+
+// Nothing is to be written into the registers.
+fn only(handed: Handed) -> HandedOver
+    ensures { λ r. ⌜ r ≡ onlyHanded handed ⌝ }
+{
+    HandedOver {
+        handed: handed,
+        writes: false,
+        drops: false,
+    }
+}
+
+// An accepted frame with what it has done.
+fn accepted(command: u8, len: usize, e: Effected) -> HandedOver
+    ensures { λ r. ⌜ r ≡ acceptedOver command len e ⌝ }
+{
+    let p = e.performed;
+    let o = p.outcome;
+    HandedOver {
+        handed: Handed::Accepted {
+            command: command,
+            count: len,
+            outcome: o,
+            acknowledged: e.acknowledged,
+            replied: p.replied,
+        },
+        writes: p.writes,
+        drops: p.drops,
+    }
+}
+
+// What a report does to what is lent when it is handed over, and what it asks for besides.
+fn hand_over(
+    setup: Setup,
+    registers: &[u8],
+    report: Report,
+    payload: &[u8],
+    words: &mut [u16],
+    room: &mut [u8],
+) -> HandedOver
+    requires { ⌜ length (now payload) ≡ mostPayload ⌝ }
+    ensures { λ r. ⌜ overs r (lending (now (words .exit)) (now (room .exit))) ≡ handingOver setup (holding (now (registers .entry))) report (now (payload .entry)) (lending (now (words .entry)) (now (room .entry))) ⌝ }
+{
+    match report {
+        Report::Nothing => only(Handed::Nothing),
+        Report::BadCheck(command) => {
+            let k = acknowledge(setup, command, false, room);
+            only(Handed::BadCheck(command, k))
+        }
+        Report::Accepted { command, len } => {
+            let n = within(len);
+            let e = accept(
+                setup,
+                registers,
+                command,
+                &payload[..n],
+                words,
+                room,
+            );
+            accepted(command, len, e)
+        }
+    }
+}
