@@ -1,7 +1,7 @@
 -- Laws of what the small functions answer.
 use mathlib.Core.Path.{_≡_, sym, ap, _∙_}
 use mathlib.Core.Bool.{Bool, not, _&&_}
-use mathlib.Core.List.{List, [], _++_}
+use mathlib.Core.List.{List}
 use Prim.Native.Nat.{ℕ, _+_, _-_, _≤_, _<_}
 use native.Mathlib.Omega.{arith}
 use borrow.Author.Tests.{lt-ltb, le-ltb}
@@ -12,7 +12,7 @@ use Rattle.frame.specs.Frame.{checkLength, contentOf}
 use Rattle.place.specs.declared.Look.{Look}
 use Rattle.place.specs.declared.Look.the-variants.{Bad, Good}
 use Rattle.line.specs.declared.Report.the-variants.{Accepted, BadCheck}
-use Rattle.line.specs.State.{padded, decidedAt}
+use Rattle.line.specs.State.{decidedAt}
 use Rattle.line.specs.Methods.{isAnswer, takes, span, told}
 use Rattle.line.proofs.Padding.{drop-take}
 

@@ -8,7 +8,7 @@ use native.Mathlib.Omega.{arith}
 use mir.Val.{Fits}
 use mir.Syntax.{w64}
 use lib.Dec.{eqb, ltb}
-use lib.ListN.{length, getD, take, drop, set, length-take, length-drop, length-set}
+use lib.ListN.{length, getD, take, drop, set, length-drop, length-set}
 use lib.Seq.{take-length, length-take-le, take-all, drop-drop, take-take}
 use Rattle.wire.specs.Room.{over}
 use Rattle.frame.specs.Frame.{headerBytes, checkLength, contentOf}
@@ -31,7 +31,7 @@ use Rattle.line.proofs.Padding.{drop-take, length-padded, laid-empty, s
 use Rattle.line.proofs.Fronts.{content-part}
 use Rattle.line.proofs.Settling.{stop-inside, settled-is}
 use Rattle.line.proofs.Feeding.{old-few, old-fits, old-front, bytes-given}
-use Rattle.line.proofs.Asking.{frame-held, held-fits, nothing-asked, report-asked}
+use Rattle.line.proofs.Asking.{nothing-asked, report-asked}
 
 -- bytes laid over the front of an array
 pub end-inside : (n : ℕ) (held : List ℕ) → n ≤ 258 → length held ≡ 258 → n ≤ length held
@@ -255,10 +255,3 @@ module _ (reader : Reader) (r : Bool) (is : r ≡ busy reader) (free : r ≡ fal
       → gave (fed .used) (opened (reader .line) held′ (fed .len) (fed .head)) ≡ givenBytes (opened (reader .line) held (reader .len) Wait) bytes
       → gave (fed .used) (opened (reader .line) held′ (fed .len) (fed .head)) ≡ givenBytes reader bytes
   all-given = bytes-given reader r is free long held packed
-
--- a byte of a block, behind those that are held
-pub byte-behind : (n need : ℕ) (held bytes : List ℕ) → n + 1 < need → need ≤ 258 → 0 < length bytes → length held ≡ 258 → held ≡ padded 258 (take n held)
-    → set held n (getD bytes 0 0) ≡ padded 258 (take n held ++ take 1 bytes)
-byte-behind n need held [] known least some long front = absurd (omega arith)
-byte-behind n need held (b ∷ bytes) known least some long front =
-    ap (λ (l : List ℕ). set l n b) front ∙ set-behind 258 n b (take n held) (length-take-le n held (omega arith)) (omega arith)

@@ -13,6 +13,7 @@ use Rattle.reading.specs.Place.{Rules, look}
 use Rattle.reading.specs.Moves.{isPass, passes, stillClosed, settled}
 use Rattle.place.specs.declared.Stop.{Stop}
 use Rattle.place.specs.Looks.{stopOf}
+use Rattle.place.proofs.Stops.{look-nothing, still-there, still-over}
 use Rattle.line.specs.declared.Line.{Line}
 use Rattle.line.specs.declared.Reader.{Reader}
 use Rattle.line.specs.declared.Rest.{Rest}
@@ -27,6 +28,19 @@ passes-le rules closed (x ∷ xs) = go (isPass (look rules closed (x ∷ xs))) (
     go : (b : Bool) → passes rules closed xs ≤ length xs → cond b (suc (passes rules closed xs)) 0 ≤ suc (length xs)
     go true h = omega arith
     go false h = omega arith
+
+-- what is left once all that is passed over has been is not passed over
+pub left-stands : (rules : Rules) (closed : Bool) (xs : List ℕ)
+    → isPass (look rules (stillClosed closed (drop (passes rules closed xs) xs)) (drop (passes rules closed xs) xs)) ≡ false
+unfolding passes isPass
+left-stands rules closed [] = rw (still-over closed, look-nothing rules)
+left-stands rules closed (x ∷ xs) = go (isPass (look rules closed (x ∷ xs))) refl (left-stands rules closed xs)
+  where
+    go : (b : Bool) → isPass (look rules closed (x ∷ xs)) ≡ b
+        → isPass (look rules (stillClosed closed (drop (passes rules closed xs) xs)) (drop (passes rules closed xs) xs)) ≡ false
+        → isPass (look rules (stillClosed closed (drop (cond b (suc (passes rules closed xs)) 0) (x ∷ xs))) (drop (cond b (suc (passes rules closed xs)) 0) (x ∷ xs))) ≡ false
+    go true is ih = ih
+    go false is ih = rw (still-there closed x xs) is
 
 pub prefix-long : (n : ℕ) (held : List ℕ) → n ≤ 258 → length held ≡ 258 → n ≡ length (take n held)
 prefix-long n held few long = sym (length-take-le n held (omega arith))
