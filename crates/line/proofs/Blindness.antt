@@ -10,7 +10,7 @@ use lib.ListN.{length, getD, take}
 use Rattle.frame.specs.Frame.{leastLength}
 use Rattle.reading.specs.Place.{Rules, pass, wait, cutShort, judged, afterHeader, behind, look}
 use Rattle.reading.specs.Moves.{isPass}
-use Rattle.line.specs.State.{decidedAt}
+use Rattle.line.specs.Inner.{decidedAt}
 use Rattle.line.proofs.Truths.{never}
 
 -- while fewer than w bytes are held, with these in front, the front waits

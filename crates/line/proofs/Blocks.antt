@@ -18,7 +18,8 @@ use Rattle.place.specs.declared.Look.the-variants.{Wait}
 use Rattle.line.specs.declared.Line.{Line}
 use Rattle.line.specs.declared.Reader.{Reader}
 use Rattle.line.specs.declared.Gave.{Gave}
-use Rattle.line.specs.State.{rulesFor, padded, opened}
+use Rattle.line.specs.Inner.{opened}
+use Rattle.line.specs.State.{rulesFor, padded}
 use Rattle.line.specs.Methods.{takes, busy, givenByte, plus, givenBytes}
 use Rattle.line.proofs.Padding.{take-padded, laid-behind, set-behind}
 use Rattle.line.proofs.Blindness.{Blind, blind-more, blind-here}

@@ -20,7 +20,8 @@ use Rattle.line.specs.declared.Reader.{Reader}
 use Rattle.line.specs.declared.Step.{Step}
 use Rattle.line.specs.declared.Fed.{Fed}
 use Rattle.line.specs.declared.Gave.{Gave}
-use Rattle.line.specs.State.{rulesFor, padded, opened, settledReader, leftOf, stepOf, decidedAt}
+use Rattle.line.specs.Inner.{stepOf, decidedAt, leftOf, opened}
+use Rattle.line.specs.State.{rulesFor, padded, settledReader}
 use Rattle.line.specs.Methods.{isAnswer, takes, busy, givenByte, gave, plus, givenBytes}
 use Rattle.line.proofs.Padding.{take-padded}
 use Rattle.line.proofs.Blindness.{Blind, blind-whole}

@@ -12,7 +12,7 @@ use Rattle.frame.specs.Frame.{checkLength, contentOf}
 use Rattle.place.specs.declared.Look.{Look}
 use Rattle.place.specs.declared.Look.the-variants.{Bad, Good}
 use Rattle.line.specs.declared.Report.the-variants.{Accepted, BadCheck}
-use Rattle.line.specs.State.{decidedAt}
+use Rattle.line.specs.Inner.{decidedAt}
 use Rattle.line.specs.Methods.{isAnswer, takes, span, told}
 use Rattle.line.proofs.Padding.{drop-take}
 

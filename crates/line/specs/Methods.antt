@@ -1,5 +1,5 @@
 -- What each method of the reader answers, on every reader.
-use Prim.Native.Nat.{ℕ, _+_, _-_}
+use Prim.Native.Nat.{ℕ, _+_}
 use mathlib.Core.Bool.{Bool, true, false, cond, not, _&&_, _||_}
 use mathlib.Core.List.{List, [], _∷_}
 use lib.Dec.{eqb, ltb}
@@ -8,9 +8,7 @@ use Rattle.frame.specs.Frame.{headerBytes, contentOf}
 use Rattle.reading.specs.Moves.{withByte, withMark}
 use Rattle.place.specs.declared.Look.{Look}
 use Rattle.place.specs.declared.Look.the-variants.{Pass, Wait, Bad, Good}
-use Rattle.line.specs.declared.Line.{Line}
 use Rattle.line.specs.declared.Reader.{Reader}
-use Rattle.line.specs.declared.Taken.{Taken}
 use Rattle.line.specs.declared.Answer.{Answer}
 use Rattle.line.specs.declared.Answer.the-variants.{Done, Waits}
 use Rattle.line.specs.declared.Given.{Given}
@@ -82,27 +80,6 @@ told checking Pass body = Nothing
 told checking Wait body = Nothing
 told checking (Bad command) body = BadCheck command
 told checking (Good l) body = Accepted (getD body 0 0) (length (drop 1 (contentOf checking body)))
-
--- the reader with these bytes left of a stretch: it is closed only while some are left
-abbrev pub readerWith : Line → Bool → ℕ → Look → List ℕ → Reader
-readerWith line closed n head held = record { line = line; held = held; len = n; closed = closed && ltb 0 n; head = head }
-
--- an answer with its two arrays
-abbrev pub askedWith : Line → Taken → List ℕ → List ℕ → Asked
-askedWith line t payload held =
-    record { report = t .report; payload = payload; reader = record { line = line; held = held; len = t .len; closed = t .closed; head = t .head } }
-
--- what an ask answers where the report at the front is handed over
-unfoldable pub taken : Reader → Asked
-taken reader =
-    let header = headerBytes (reader .line .header) in
-    let checking = reader .line .checking in
-    let body = take (bodyLength (reader .head)) (drop (length header + 1) (reader .held)) in
-    record {
-      report = told checking (reader .head) body;
-      payload = padded 254 (drop 1 (contentOf checking body));
-      reader = settledReader (reader .line) (reader .closed) (take (reader .len - span header (reader .head)) (drop (span header (reader .head)) (reader .held)));
-    }
 
 -- "'Nothing' changes nothing." A head whose frame is not all held belongs to no reader that is reached, and hands nothing over.
 unfoldable pub asked : Reader → Asked

@@ -14,7 +14,8 @@ ghost use lib.ListN.{length, take, drop};
 ghost use Rattle.frame.specs.Frame.{headerBytes, contentOf};
 ghost use Rattle.line.specs.State.{padded};
 ghost use Rattle.line.specs.declared.Report.the-variants.{Nothing};
-ghost use Rattle.line.specs.Methods.{bodyLength, span, told, askedWith, taken, asked};
+ghost use Rattle.line.specs.Inner.{taken, askedWith};
+ghost use Rattle.line.specs.Methods.{bodyLength, span, told, asked};
 
 // How much a is above b.
 fn above(a: usize, b: usize) -> usize

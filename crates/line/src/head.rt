@@ -4,7 +4,7 @@ use place::Look;
 ghost use mathlib.Core.Path.{_≡_};
 ghost use Prim.Native.Nat.{_≤_};
 ghost use Rattle.frame.specs.Frame.{headerBytes};
-ghost use Rattle.line.specs.State.{decidedAt};
+ghost use Rattle.line.specs.Inner.{decidedAt};
 ghost use Rattle.line.specs.Methods.{isAnswer, takes, bodyLength, span};
 
 // Whether a report stands there.

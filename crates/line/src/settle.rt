@@ -9,9 +9,9 @@ ghost use mathlib.Core.Path.{_≡_};
 ghost use mathlib.Core.List.{[]};
 ghost use Prim.Native.Nat.{_-_, _≤_};
 ghost use lib.ListN.{length, take, drop};
-ghost use Rattle.line.specs.State.{rulesFor, padded, settledReader, leftOf, restOf};
+ghost use Rattle.line.specs.Inner.{readerWith, restOf, leftOf};
+ghost use Rattle.line.specs.State.{rulesFor, padded, settledReader};
 ghost use Rattle.place.specs.Looks.{stopOf};
-ghost use Rattle.line.specs.Methods.{readerWith};
 
 // Goes past all that is passed over of the n bytes held in an open stretch, and brings what is left to the front.
 pub fn settle_in(line: Line, held: &mut [u8], n: usize) -> Rest

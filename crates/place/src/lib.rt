@@ -3,11 +3,12 @@
 use frame::Header;
 ghost use mathlib.Core.Path.{_≡_};
 ghost use mathlib.Core.List.{_∷_, []};
-ghost use Prim.Native.Nat.{_-_, _≤_};
+ghost use Prim.Native.Nat.{_-_};
 ghost use lib.ListN.{length};
 ghost use Rattle.frame.specs.Frame.{rightCheck};
 ghost use Rattle.reading.specs.Place.{cutShort, judged, afterHeader, behind, look};
-ghost use Rattle.place.specs.Looks.{rulesOf, shown, passesOver, stopOf};
+ghost use Rattle.place.specs.Inner.{passesOver};
+ghost use Rattle.place.specs.Looks.{rulesOf, shown, stopOf};
 
 // What stands at a place.
 pub enum Look {

@@ -6,7 +6,8 @@ use mathlib.Core.Path.{_≡_}
 use borrow.Author.Needs.{needs}
 use lib.ListN.{length, take, drop}
 use Rattle.place.specs.declared.Look.the-variants.{Wait}
-use Rattle.line.specs.State.{rulesFor, padded, opened}
+use Rattle.line.specs.Inner.{opened}
+use Rattle.line.specs.State.{rulesFor, padded}
 use Rattle.line.specs.Methods.{plus, givenBytes}
 use Rattle.line.proofs.Blindness.{Blind, blind-nothing}
 use Rattle.line.proofs.Blocks.{fed-block, block-less, block-inside, block-blind, block-front}
