@@ -4,7 +4,7 @@ ghost use mathlib.Core.List.{[], _∷_, _++_};
 ghost use Prim.Native.Nat.{_+_, _≤_};
 ghost use lib.ListN.{length, take};
 ghost use Rattle.wire.specs.Room.{over, lays};
-ghost use Rattle.frame.specs.Frame.{headerBytes, checkLength, checkBytes, enclosed, mostData};
+ghost use Rattle.frame.specs.Frame.{headerBytes, checkLength, checkBytes, enclosed, mostPayload, mostData};
 ghost use Rattle.frame.specs.Acknowledgement.{verdict};
 ghost use Rattle.frame.specs.Writer.{numberOf, writerNumber, answers, writing, frameLaid, acknowledgementLaid, closedLaid};
 
@@ -56,7 +56,7 @@ pub fn check_length(checking: bool) -> usize
 // How much data a frame can carry.
 pub fn most_data(checking: bool) -> usize
     ensures { λ r. ⌜ r ≡ mostData checking ⌝ }
-    ensures { λ r. ⌜ r ≤ 254 ⌝ }
+    ensures { λ r. ⌜ r ≤ mostPayload ⌝ }
 {
     if checking { 252 } else { MOST_PAYLOAD }
 }

@@ -9,7 +9,7 @@ use lib.Dec.{ltb}
 use lib.ListN.{length, take, drop, length-append, length-drop}
 use lib.Seq.{drop-at, take-append-seam, take-nil}
 use Rattle.wire.specs.Bytes.{Bytes}
-use Rattle.frame.specs.Frame.{headerBytes, checkLength, contentOf}
+use Rattle.frame.specs.Frame.{headerBytes, checkLength, contentOf, longestFrame, mostPayload}
 use Rattle.reading.specs.Place.{Rules, Seen, pass, wait, bad, accepted, look, reportOf, goneBy, isWait}
 use Rattle.reading.specs.Moves.{Kept, fresh, isPass, isReport, passes, settled, waiting, withByte, withMark, handed, afterReport}
 use Rattle.reading.proofs.Stable.{true-is-not-false}
@@ -35,7 +35,7 @@ use Rattle.line.proofs.Settling.{left-stands}
 
 -- a reader that keeps something keeps just that
 pub kept-is : (line : Line) (kept : Kept) → keptOf (readerOf line kept) ≡ kept
-kept-is line kept = ap (λ (xs : List ℕ). record { closed = kept .closed; bytes = xs }) (take-padded 258 (length (kept .bytes)) (kept .bytes) refl)
+kept-is line kept = ap (λ (xs : List ℕ). record { closed = kept .closed; bytes = xs }) (take-padded longestFrame (length (kept .bytes)) (kept .bytes) refl)
 
 shown-report : (seen : Seen) → isAnswer (shown seen) ≡ isReport seen
 unfolding isReport
@@ -77,26 +77,26 @@ pub waiting-is : (line : Line) (kept : Kept) → Reached line kept → busy (rea
 waiting-is line kept reached = go (waiting (rulesFor line) kept) refl
   where
     go : (b : Bool) → waiting (rulesFor line) kept ≡ b → busy (readerOf line kept) ≡ b
-    go true is = not-free (ltb (length (kept .bytes)) 258) (isAnswer (readerOf line kept .head)) (head-waiting line kept ∙ is)
+    go true is = not-free (ltb (length (kept .bytes)) longestFrame) (isAnswer (readerOf line kept .head)) (head-waiting line kept ∙ is)
     go false is =
-        let room : length (kept .bytes) < 258 = omega (arith, held-waiting line kept reached is) in
-        rw (head-waiting line kept ∙ is, lt-ltb (length (kept .bytes)) 258 room)
+        let room : length (kept .bytes) < longestFrame = omega (arith, held-waiting line kept reached is) in
+        rw (head-waiting line kept ∙ is, lt-ltb (length (kept .bytes)) longestFrame room)
 
 -- a byte and a mark
 pub byte-carried : (line : Line) (kept : Kept) (b : ℕ) → Reached line kept → givenByte (readerOf line kept) b
     ≡ cond (waiting (rulesFor line) kept) (record { answer = Waits; reader = readerOf line kept })
     (record { answer = Done; reader = readerOf line (withByte (rulesFor line) kept b) })
 unfolding givenByte
-byte-carried line kept b reached = rw (waiting-is line kept reached, take-padded 258 (length (kept .bytes)) (kept .bytes) refl)
+byte-carried line kept b reached = rw (waiting-is line kept reached, take-padded longestFrame (length (kept .bytes)) (kept .bytes) refl)
 
 pub mark-carried : (line : Line) (kept : Kept) → Reached line kept → givenMark (readerOf line kept)
     ≡ cond (waiting (rulesFor line) kept) (record { answer = Waits; reader = readerOf line kept })
     (record { answer = Done; reader = readerOf line (withMark (rulesFor line) kept) })
 unfolding givenMark
-mark-carried line kept reached = rw (waiting-is line kept reached, take-padded 258 (length (kept .bytes)) (kept .bytes) refl)
+mark-carried line kept reached = rw (waiting-is line kept reached, take-padded longestFrame (length (kept .bytes)) (kept .bytes) refl)
 
 -- what stands reached stays reached
-reached-settled : (line : Line) (closed : Bool) (xs : List ℕ) → Bytes xs → length xs ≤ 258 → Reached line (settled (rulesFor line) closed xs)
+reached-settled : (line : Line) (closed : Bool) (xs : List ℕ) → Bytes xs → length xs ≤ longestFrame → Reached line (settled (rulesFor line) closed xs)
 unfolding settled
 reached-settled line closed xs are few =
     record {
@@ -113,7 +113,7 @@ pub reached-byte : (line : Line) (kept : Kept) (b : ℕ) → Reached line kept �
     → Reached line (withByte (rulesFor line) kept b)
 unfolding withByte
 reached-byte line kept b reached none byte =
-    let few : length (kept .bytes ++ (b ∷ [])) ≤ 258 = simp length-append (omega (arith, held-waiting line kept reached none)) in
+    let few : length (kept .bytes ++ (b ∷ [])) ≤ longestFrame = simp length-append (omega (arith, held-waiting line kept reached none)) in
     reached-settled line false (kept .bytes ++ (b ∷ [])) (bytes-append (kept .bytes) (b ∷ []) (reached .are-bytes) (bytes-cons b [] byte bytes-nil)) few
 
 pub reached-mark : (line : Line) (kept : Kept) → Reached line kept → Reached line (withMark (rulesFor line) kept)
@@ -132,8 +132,8 @@ reached-report line kept reached = go (isReport seen)
 
     go : (b : Bool) → Reached line (cond b (settled (rulesFor line) (kept .closed) rest) kept)
     go true =
-        let most : length (kept .bytes) ≤ 258 = reached .few in
-        let few : length rest ≤ 258 = simp length-drop (omega arith) in
+        let most : length (kept .bytes) ≤ longestFrame = reached .few in
+        let few : length rest ≤ longestFrame = simp length-drop (omega arith) in
         reached-settled line (kept .closed) rest (bytes-drop (suc (goneBy (rulesFor line) seen)) (kept .bytes) (reached .are-bytes)) few
     go false = reached
 
@@ -157,7 +157,7 @@ accepted-there rules closed xs body is =
 -- an ask
 abbrev headed : Line → Kept → Seen → Reader
 headed line kept seen =
-    record { line = line; held = padded 258 (kept .bytes); len = length (kept .bytes); closed = kept .closed; head = shown seen }
+    record { line = line; held = padded longestFrame (kept .bytes); len = length (kept .bytes); closed = kept .closed; head = shown seen }
 
 abbrev answered : Line → Kept → Seen → Asked
 answered line kept seen =
@@ -168,22 +168,22 @@ answered line kept seen =
     }
 
 none-handed : (line : Line) (kept : Kept) (seen : Seen) → look (rulesFor line) (kept .closed) (kept .bytes) ≡ seen
-    → _≡_ {A = Asked} (record { report = Nothing; payload = padded 254 []; reader = headed line kept seen })
-    (record { report = Nothing; payload = padded 254 []; reader = readerOf line kept })
-none-handed line kept seen is = ap (λ (s : Seen). record { report = Nothing; payload = padded 254 []; reader = headed line kept s }) (sym is)
+    → _≡_ {A = Asked} (record { report = Nothing; payload = padded mostPayload []; reader = headed line kept seen })
+    (record { report = Nothing; payload = padded mostPayload []; reader = readerOf line kept })
+none-handed line kept seen is = ap (λ (s : Seen). record { report = Nothing; payload = padded mostPayload []; reader = headed line kept s }) (sym is)
 
 no-content : (checking : Bool) → contentOf checking [] ≡ []
 unfolding contentOf
 no-content checking = take-nil (length {A = ℕ} [] - checkLength checking)
 
-module _ (line : Line) (kept : Kept) (few : length (kept .bytes) ≤ 258) where
-  front : take (length (kept .bytes)) (padded 258 (kept .bytes)) ≡ kept .bytes
-  front = take-padded 258 (length (kept .bytes)) (kept .bytes) refl
+module _ (line : Line) (kept : Kept) (few : length (kept .bytes) ≤ longestFrame) where
+  front : take (length (kept .bytes)) (padded longestFrame (kept .bytes)) ≡ kept .bytes
+  front = take-padded longestFrame (length (kept .bytes)) (kept .bytes) refl
 
   bad-handed : (body : List ℕ) → 1 ≤ length (kept .bytes) → asked (headed line kept (bad body)) ≡ answered line kept (bad body)
   unfolding asked reportOf reportAs payloadAs isReport goneBy
   bad-handed body some =
-      rw (le-ltb (length (kept .bytes)) 1 some, le-ltb 258 (length (kept .bytes)) few, front, no-content (line .checking))
+      rw (le-ltb (length (kept .bytes)) 1 some, le-ltb longestFrame (length (kept .bytes)) few, front, no-content (line .checking))
 
   accepted-handed : (body : List ℕ) → Body (headerBytes (line .header)) (kept .bytes) body
       → asked (headed line kept (accepted body)) ≡ answered line kept (accepted body)
@@ -194,7 +194,7 @@ module _ (line : Line) (kept : Kept) (few : length (kept .bytes) ≤ 258) where
       let fits : k ≤ length (kept .bytes) = there .whole in
       let some : k ≡ 0 → ⊥ = λ e. omega arith in
       let next : suc (h + length body) ≡ k = omega arith in
-      rw (ne-eqb k 0 some, le-ltb (length (kept .bytes)) k fits, le-ltb 258 (length (kept .bytes)) few, front, there .body-is, next)
+      rw (ne-eqb k 0 some, le-ltb (length (kept .bytes)) k fits, le-ltb longestFrame (length (kept .bytes)) few, front, there .body-is, next)
 
   asked-as : (seen : Seen) → look (rulesFor line) (kept .closed) (kept .bytes) ≡ seen → asked (headed line kept seen) ≡ answered line kept seen
   unfolding asked look reportOf reportAs payloadAs isReport

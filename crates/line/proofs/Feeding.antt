@@ -11,7 +11,7 @@ use lib.Dec.{ltb}
 use lib.ListN.{length, getD, take, drop, length-take, length-drop}
 use lib.Seq.{drop-cons, length-take-le}
 use Rattle.wire.proofs.Parts.{part-whole}
-use Rattle.frame.specs.Frame.{headerBytes}
+use Rattle.frame.specs.Frame.{headerBytes, longestFrame}
 use Rattle.reading.specs.Moves.{stillClosed, settled, withByte}
 use Rattle.place.specs.declared.Look.{Look}
 use Rattle.place.specs.declared.Look.the-variants.{Wait}
@@ -36,8 +36,8 @@ module _ (i m : ℕ) (t : Bool) (goes : (ltb i m && t) ≡ true) where
   pub taking : t ≡ true
   taking = and-right (ltb i m) t goes
 
-  pub room-left : (n : ℕ) (head : Look) → t ≡ takes n head → n < 258
-  room-left n head is = ltb-true n 258 (and-left (ltb n 258) (not (isAnswer head)) (sym is ∙ taking))
+  pub room-left : (n : ℕ) (head : Look) → t ≡ takes n head → n < longestFrame
+  room-left n head is = ltb-true n longestFrame (and-left (ltb n longestFrame) (not (isAnswer head)) (sym is ∙ taking))
 
 -- one byte
 fold-step : (reader : Reader) (i : ℕ) (bytes : List ℕ) → i < length bytes → busy reader ≡ false
@@ -58,7 +58,7 @@ given-is reader b free = rw free
 
 -- what is left of an open stretch is open
 open-still : (line : Line) (xs : List ℕ)
-    → settledReader line false xs ≡ opened line (padded 258 (leftOf line xs)) (length (leftOf line xs)) (settledReader line false xs .head)
+    → settledReader line false xs ≡ opened line (padded longestFrame (leftOf line xs)) (length (leftOf line xs)) (settledReader line false xs .head)
 unfolding settled stillClosed
 open-still line xs = refl
 
@@ -78,21 +78,21 @@ module _ (line : Line) (bytes : List ℕ) (i n : ℕ) (held : List ℕ) (head : 
 
   -- a byte behind those that are held
   pub fed-byte : (step : Step) (held′ : List ℕ) → step ≡ stepOf line (take n held ++ (getD bytes i 0 ∷ []))
-      → held′ ≡ padded 258 (leftOf line (take n held ++ (getD bytes i 0 ∷ [])))
+      → held′ ≡ padded longestFrame (leftOf line (take n held ++ (getD bytes i 0 ∷ [])))
       → start ≡ plus (i + 1) (givenBytes (opened line held′ (step .len) (step .head)) (drop (i + 1) bytes))
   fed-byte step held′ is-step is-held =
       turn (opened line held′ (step .len) (step .head)) (rw (is-step, is-held) (open-still line (take n held ++ (getD bytes i 0 ∷ []))))
 
 -- a byte that was taken
-module _ (line : Line) (step : Step) (xs held′ : List ℕ) (is-step : step ≡ stepOf line xs) (is-held : held′ ≡ padded 258 (leftOf line xs)) where
+module _ (line : Line) (step : Step) (xs held′ : List ℕ) (is-step : step ≡ stepOf line xs) (is-held : held′ ≡ padded longestFrame (leftOf line xs)) where
   left-long : length (leftOf line xs) ≡ step .len
   left-long = sym (ap (λ (s : Step). s .len) is-step)
 
   front-left : take (step .len) held′ ≡ leftOf line xs
-  front-left = rw is-held (take-padded 258 (step .len) (leftOf line xs) left-long)
+  front-left = rw is-held (take-padded longestFrame (step .len) (leftOf line xs) left-long)
 
-  pub step-front : held′ ≡ padded 258 (take (step .len) held′)
-  step-front = is-held ∙ ap (padded 258) (sym front-left)
+  pub step-front : held′ ≡ padded longestFrame (take (step .len) held′)
+  step-front = is-held ∙ ap (padded longestFrame) (sym front-left)
 
   pub step-blind : Blind (rulesFor line) (take (step .len) held′) (step .need)
   unfolding settled stillClosed
@@ -146,28 +146,28 @@ module _ (reader : Reader) (r : Bool) (is : r ≡ busy reader) (free : r ≡ fal
   is-taking : takes (reader .len) (reader .head) ≡ true
   is-taking = not-false (takes (reader .len) (reader .head)) (sym is ∙ free)
 
-  old-room : reader .len < 258
-  old-room = ltb-true (reader .len) 258 (and-left (ltb (reader .len) 258) (not (isAnswer (reader .head))) is-taking)
+  old-room : reader .len < longestFrame
+  old-room = ltb-true (reader .len) longestFrame (and-left (ltb (reader .len) longestFrame) (not (isAnswer (reader .head))) is-taking)
 
-  pub old-few : reader .len ≤ 258
+  pub old-few : reader .len ≤ longestFrame
   old-few = omega (arith, old-room)
 
-  pub old-fits : length (take (reader .len) (reader .held)) ≤ 258
+  pub old-fits : length (take (reader .len) (reader .held)) ≤ longestFrame
   old-fits = simp length-take (omega (arith, old-room))
 
-  module _ (long : length (reader .held) ≡ 258) where
+  module _ (long : length (reader .held) ≡ longestFrame) where
     pub old-inside : reader .len ≤ length (reader .held)
     old-inside = omega (arith, old-room)
 
     pub old-counted : reader .len ≡ length (take (reader .len) (reader .held))
     old-counted = sym (length-take-le (reader .len) (reader .held) old-inside)
 
-    module _ (held : List ℕ) (packed : held ≡ padded 258 (take (reader .len) (reader .held))) where
+    module _ (held : List ℕ) (packed : held ≡ padded longestFrame (take (reader .len) (reader .held))) where
       same-front : take (reader .len) held ≡ take (reader .len) (reader .held)
-      same-front = rw packed (take-padded 258 (reader .len) (take (reader .len) (reader .held)) (sym old-counted))
+      same-front = rw packed (take-padded longestFrame (reader .len) (take (reader .len) (reader .held)) (sym old-counted))
 
-      pub old-front : held ≡ padded 258 (take (reader .len) held)
-      old-front = packed ∙ ap (padded 258) (sym same-front)
+      pub old-front : held ≡ padded longestFrame (take (reader .len) held)
+      old-front = packed ∙ ap (padded longestFrame) (sym same-front)
 
       -- it gives what the loop gives that starts with its bytes
       enter : (bytes : List ℕ) → (length bytes ≡ 0 → ⊥)
@@ -175,7 +175,7 @@ module _ (reader : Reader) (r : Bool) (is : r ≡ busy reader) (free : r ≡ fal
       unfolding givenBytes
       enter [] some = absurd (some refl)
       enter (b ∷ bytes) some =
-          let open-free : busy (opened (reader .line) held (reader .len) Wait) ≡ false = rw (lt-ltb (reader .len) 258 old-room) in
+          let open-free : busy (opened (reader .line) held (reader .len) Wait) ≡ false = rw (lt-ltb (reader .len) longestFrame old-room) in
           let same : givenByte reader b .reader ≡ givenByte (opened (reader .line) held (reader .len) Wait) b .reader =
           given-is reader b (sym is ∙ free)
           ∙ ap (λ (l : List ℕ). settledReader (reader .line) false (l ++ (b ∷ []))) (sym same-front)
@@ -200,5 +200,5 @@ pub head-free : (line : Line) (held : List ℕ) (n : ℕ) (head : Look) (b : ℕ
     → givenBytes (opened line held n head) (b ∷ bytes) ≡ givenBytes (opened line held n Wait) (b ∷ bytes)
 unfolding givenBytes givenByte
 head-free line held n head b bytes free =
-    let room : ltb n 258 ≡ true = and-left (ltb n 258) (not (isAnswer head)) free in
+    let room : ltb n longestFrame ≡ true = and-left (ltb n longestFrame) (not (isAnswer head)) free in
     rw (free, room)

@@ -11,7 +11,7 @@ use lib.Dec.{eqb, ltb}
 use lib.ListN.{length, getD, take, drop, length-drop, drop-of-length-le}
 use lib.Seq.{drop-cons, drop-drop}
 use Rattle.wire.proofs.Parts.{part-whole}
-use Rattle.frame.specs.Frame.{headerBytes}
+use Rattle.frame.specs.Frame.{headerBytes, longestFrame}
 use Rattle.reading.specs.Place.{behind, look}
 use Rattle.reading.specs.Moves.{isPass, passes, stillClosed, settled}
 use Rattle.place.specs.declared.Look.{Look}
@@ -30,10 +30,10 @@ settled-none : (line : Line) (b : ℕ) → eqb b (line .header .h1) ≡ false �
 unfolding settled passes isPass look behind headerBytes stillClosed
 settled-none line b other = rw other
 
-passed-byte : (line : Line) (n : ℕ) (held : List ℕ) (b : ℕ) → n ≡ 0 → eqb b (line .header .h1) ≡ false → held ≡ padded 258 (take n held)
+passed-byte : (line : Line) (n : ℕ) (held : List ℕ) (b : ℕ) → n ≡ 0 → eqb b (line .header .h1) ≡ false → held ≡ padded longestFrame (take n held)
     → settledReader line false (take n held ++ (b ∷ [])) ≡ opened line held n Wait
 passed-byte line n held b none other front =
-    let empty : held ≡ padded 258 [] = front ∙ ap (λ (k : ℕ). padded 258 (take k held)) none in
+    let empty : held ≡ padded longestFrame [] = front ∙ ap (λ (k : ℕ). padded longestFrame (take k held)) none in
     rw (none, empty, settled-none line b other, look-nothing (rulesFor line))
 
 pub noise-le : (h1 : ℕ) (xs : List ℕ) → noiseLength h1 xs ≤ length xs
@@ -45,14 +45,14 @@ noise-le h1 (x ∷ xs) = go (eqb x h1) (noise-le h1 xs)
     go true h = omega arith
     go false h = omega arith
 
-noise-fold : (line : Line) (xs : List ℕ) → givenBytes (opened line (padded 258 []) 0 Wait) xs
-    ≡ plus (noiseLength (line .header .h1) xs) (givenBytes (opened line (padded 258 []) 0 Wait) (drop (noiseLength (line .header .h1) xs) xs))
+noise-fold : (line : Line) (xs : List ℕ) → givenBytes (opened line (padded longestFrame []) 0 Wait) xs
+    ≡ plus (noiseLength (line .header .h1) xs) (givenBytes (opened line (padded longestFrame []) 0 Wait) (drop (noiseLength (line .header .h1) xs) xs))
 unfolding givenBytes noiseLength
 noise-fold line [] = refl
 noise-fold line (x ∷ xs) = go (eqb x (line .header .h1)) refl (noise-fold line xs)
   where
     empty : Reader
-    empty = opened line (padded 258 []) 0 Wait
+    empty = opened line (padded longestFrame []) 0 Wait
 
     go : (b : Bool) → eqb x (line .header .h1) ≡ b
         → givenBytes empty xs ≡ plus (noiseLength (line .header .h1) xs) (givenBytes empty (drop (noiseLength (line .header .h1) xs) xs))
@@ -60,7 +60,7 @@ noise-fold line (x ∷ xs) = go (eqb x (line .header .h1)) refl (noise-fold line
         (givenBytes empty (drop (cond b 0 (suc (noiseLength (line .header .h1) xs))) (x ∷ xs)))
     go true is ih = ap (λ (k : ℕ). gave k (givenBytes empty (x ∷ xs) .reader)) (sym (zero-add (givenBytes empty (x ∷ xs) .used)))
     go false is ih =
-        let next : givenByte empty x .reader ≡ empty = given-is empty x refl ∙ passed-byte line 0 (padded 258 []) x refl is refl in
+        let next : givenByte empty x .reader ≡ empty = given-is empty x refl ∙ passed-byte line 0 (padded longestFrame []) x refl is refl in
         let k : ℕ = noiseLength (line .header .h1) xs in
         ap (λ (r : Reader). plus 1 (givenBytes r xs)) next ∙ ap (plus 1) ih ∙ plus-plus 1 k (givenBytes empty (drop k xs))
         ∙ ap (λ (n : ℕ). plus n (givenBytes empty (drop k xs))) (one-add k)
@@ -89,20 +89,20 @@ module _ (h1 : ℕ) (bytes : List ℕ) (i n k : ℕ) (t : Bool) (goes : (ltb i (
 module _ (line : Line) (bytes : List ℕ) (i n k : ℕ) (held : List ℕ) (head : Look) (t : Bool) (start : Gave)
     (goes : (ltb i (length bytes) && t) ≡ true) (noise : (eqb n 0 && not (eqb (getD bytes i 0) (line .header .h1))) ≡ true)
     (is-k : k ≡ noiseLength (line .header .h1) (take (length bytes - i) (drop i bytes))) where
-  pub fed-noise : t ≡ takes n head → held ≡ padded 258 (take n held) → start ≡ plus i (givenBytes (opened line held n head) (drop i bytes))
+  pub fed-noise : t ≡ takes n head → held ≡ padded longestFrame (take n held) → start ≡ plus i (givenBytes (opened line held n head) (drop i bytes))
       → start ≡ plus (i + k) (givenBytes (opened line held n Wait) (drop (i + k) bytes))
   fed-noise is-t front so-far =
       let none : n ≡ 0 = eqb-true n 0 (and-left (eqb n 0) (not (eqb (getD bytes i 0) (line .header .h1))) noise) in
-      let empty : held ≡ padded 258 [] = front ∙ ap (λ (m : ℕ). padded 258 (take m held)) none in
+      let empty : held ≡ padded longestFrame [] = front ∙ ap (λ (m : ℕ). padded longestFrame (take m held)) none in
       let free : takes n head ≡ true = sym is-t ∙ taking i (length bytes) t goes in
       let more : i < length bytes = more-left i (length bytes) t goes in
       let any-head : givenBytes (opened line held n head) (drop i bytes) ≡ givenBytes (opened line held n Wait) (drop i bytes) =
       rw (drop-cons bytes i 0 more) (head-free line held n head (getD bytes i 0) (drop (suc i) bytes) free) in
-      let same : opened line held n Wait ≡ opened line (padded 258 []) 0 Wait = rw (empty, none) in
+      let same : opened line held n Wait ≡ opened line (padded longestFrame []) 0 Wait = rw (empty, none) in
       let fold = noise-fold line (drop i bytes) in
       so-far
       ∙ ap (plus i) (any-head ∙ ap (λ (r : Reader). givenBytes r (drop i bytes)) same ∙ (rw (← noise-is (line .header .h1) bytes i n k t goes noise is-k, drop-drop k i bytes) at fold))
-      ∙ plus-plus i k (givenBytes (opened line (padded 258 []) 0 Wait) (drop (i + k) bytes))
+      ∙ plus-plus i k (givenBytes (opened line (padded longestFrame []) 0 Wait) (drop (i + k) bytes))
       ∙ ap (λ (r : Reader). plus (i + k) (givenBytes r (drop (i + k) bytes))) (sym same)
 
 -- the loop over them

@@ -4,7 +4,7 @@ use mathlib.Core.Bool.{Bool, false, cond, _&&_}
 use mathlib.Core.List.{List, [], _∷_}
 use lib.Dec.{eqb, ltb}
 use lib.ListN.{length, getD, take, drop}
-use Rattle.frame.specs.Frame.{headerBytes, contentOf}
+use Rattle.frame.specs.Frame.{headerBytes, contentOf, mostPayload}
 use Rattle.reading.specs.Moves.{settled}
 use Rattle.place.specs.declared.Look.{Look}
 use Rattle.line.specs.declared.Line.{Line}
@@ -71,6 +71,6 @@ taken reader =
     let body = take (bodyLength (reader .head)) (drop (length header + 1) (reader .held)) in
     record {
       report = told checking (reader .head) body;
-      payload = padded 254 (drop 1 (contentOf checking body));
+      payload = padded mostPayload (drop 1 (contentOf checking body));
       reader = settledReader (reader .line) (reader .closed) (take (reader .len - span header (reader .head)) (drop (span header (reader .head)) (reader .held)));
     }

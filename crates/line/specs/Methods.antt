@@ -4,7 +4,7 @@ use mathlib.Core.Bool.{Bool, true, false, cond, not, _&&_, _||_}
 use mathlib.Core.List.{List, [], _∷_}
 use lib.Dec.{eqb, ltb}
 use lib.ListN.{length, getD, take, drop}
-use Rattle.frame.specs.Frame.{headerBytes, contentOf}
+use Rattle.frame.specs.Frame.{headerBytes, contentOf, longestFrame, mostPayload}
 use Rattle.reading.specs.Moves.{withByte, withMark}
 use Rattle.place.specs.declared.Look.{Look}
 use Rattle.place.specs.declared.Look.the-variants.{Pass, Wait, Bad, Good}
@@ -31,7 +31,7 @@ isAnswer (Good l) = true
 
 -- an input is taken unless a report waits; a full array takes none either (no reader that is reached is full and has no report)
 abbrev pub takes : ℕ → Look → Bool
-takes n head = ltb n 258 && not (isAnswer head)
+takes n head = ltb n longestFrame && not (isAnswer head)
 
 -- "1: an input comes while a report waits"
 abbrev pub busy : Reader → Bool
@@ -89,10 +89,10 @@ asked reader =
     let xs = keptOf reader .bytes in
     let k = span header (reader .head) in
     let body = take (bodyLength (reader .head)) (drop (length header + 1) xs) in
-    cond (eqb k 0 || ltb (reader .len) k || ltb 258 (reader .len))
-    (record { report = Nothing; payload = padded 254 []; reader = reader })
+    cond (eqb k 0 || ltb (reader .len) k || ltb longestFrame (reader .len))
+    (record { report = Nothing; payload = padded mostPayload []; reader = reader })
     (record {
       report = told checking (reader .head) body;
-      payload = padded 254 (drop 1 (contentOf checking body));
+      payload = padded mostPayload (drop 1 (contentOf checking body));
       reader = settledReader (reader .line) (reader .closed) (drop k xs);
     })

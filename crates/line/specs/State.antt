@@ -3,6 +3,7 @@ use Prim.Native.Nat.{ℕ, _+_, _-_}
 use mathlib.Core.Bool.{Bool}
 use mathlib.Core.List.{List, _++_}
 use lib.ListN.{length, take, replicate}
+use Rattle.frame.specs.Frame.{longestFrame}
 use Rattle.reading.specs.Place.{Rules, look}
 use Rattle.reading.specs.Moves.{Kept, settled}
 use Rattle.place.specs.Looks.{rulesOf, shown}
@@ -21,7 +22,7 @@ abbrev pub readerOf : Line → Kept → Reader
 readerOf line kept =
     record {
       line = line;
-      held = padded 258 (kept .bytes);
+      held = padded longestFrame (kept .bytes);
       len = length (kept .bytes);
       closed = kept .closed;
       head = shown (look (rulesFor line) (kept .closed) (kept .bytes));

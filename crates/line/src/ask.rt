@@ -6,12 +6,13 @@ use crate::Taken;
 use crate::arrays;
 use crate::head;
 use crate::settle;
+use frame::LONGEST_FRAME;
 use place::Look;
 ghost use mathlib.Core.Path.{_≡_};
 ghost use mathlib.Core.List.{[]};
 ghost use Prim.Native.Nat.{_+_, _-_, _≤_};
 ghost use lib.ListN.{length, take, drop};
-ghost use Rattle.frame.specs.Frame.{headerBytes, contentOf};
+ghost use Rattle.frame.specs.Frame.{headerBytes, contentOf, longestFrame, mostPayload};
 ghost use Rattle.line.specs.State.{padded};
 ghost use Rattle.line.specs.declared.Report.the-variants.{Nothing};
 ghost use Rattle.line.specs.Inner.{taken, askedWith};
@@ -43,8 +44,8 @@ fn report_on(checking: bool, look: Look, body: &[u8]) -> Report
 
 // Lays up to three bytes of data, as reads have them, one by one; `end` is how many of the L bytes are command and data.
 fn put_short(body: &[u8], end: usize, out: &mut [u8])
-    requires { ⌜ (end ≤ 4) × (end ≤ length (now body)) × (now out ≡ padded 254 []) ⌝ }
-    ensures { λ _. ⌜ now (out .exit) ≡ padded 254 (take (end - 1) (drop 1 (now (body .entry)))) ⌝ }
+    requires { ⌜ (end ≤ 4) × (end ≤ length (now body)) × (now out ≡ padded mostPayload []) ⌝ }
+    ensures { λ _. ⌜ now (out .exit) ≡ padded mostPayload (take (end - 1) (drop 1 (now (body .entry)))) ⌝ }
 {
     if end < 2 {
         return;
@@ -62,8 +63,8 @@ fn put_short(body: &[u8], end: usize, out: &mut [u8])
 
 // Lays the data of the frame at the front.
 fn put_payload(reader: Reader, out: &mut [u8])
-    requires { ⌜ now out ≡ padded 254 [] ⌝ }
-    ensures { λ _. ⌜ now (out .exit) ≡ padded 254 (drop 1 (contentOf (reader .line .checking) (take (bodyLength (reader .head)) (drop (length (headerBytes (reader .line .header)) + 1) (reader .held))))) ⌝ }
+    requires { ⌜ now out ≡ padded mostPayload [] ⌝ }
+    ensures { λ _. ⌜ now (out .exit) ≡ padded mostPayload (drop 1 (contentOf (reader .line .checking) (take (bodyLength (reader .head)) (drop (length (headerBytes (reader .line .header)) + 1) (reader .held))))) ⌝ }
 {
     let line = reader.line;
     let head = reader.head;
@@ -80,11 +81,11 @@ fn put_payload(reader: Reader, out: &mut [u8])
 
 // Nothing is handed over, and all stays.
 fn keep(reader: Reader, left: &mut [u8]) -> Taken
-    requires { ⌜ now left ≡ padded 258 [] ⌝ }
+    requires { ⌜ now left ≡ padded longestFrame [] ⌝ }
     ensures { λ r. ⌜ (r ≡ record { report = Nothing; len = reader .len; closed = reader .closed; head = reader .head }) × (now (left .exit) ≡ reader .held) ⌝ }
 {
     let head = reader.head;
-    arrays::put_held(reader, 0, 258, left);
+    arrays::put_held(reader, 0, LONGEST_FRAME, left);
     Taken {
         report: Report::Nothing,
         len: reader.len,
@@ -95,7 +96,7 @@ fn keep(reader: Reader, left: &mut [u8]) -> Taken
 
 // Hands over the report at the front, whose k bytes are all held.
 fn take_report(reader: Reader, k: usize, payload: &mut [u8], left: &mut [u8]) -> Taken
-    requires { ⌜ (k ≡ span (headerBytes (reader .line .header)) (reader .head)) × (k ≤ reader .len) × (reader .len ≤ 258) × (now payload ≡ padded 254 []) × (now left ≡ padded 258 []) ⌝ }
+    requires { ⌜ (k ≡ span (headerBytes (reader .line .header)) (reader .head)) × (k ≤ reader .len) × (reader .len ≤ longestFrame) × (now payload ≡ padded mostPayload []) × (now left ≡ padded longestFrame []) ⌝ }
     ensures { λ r. ⌜ askedWith (reader .line) r (now (payload .exit)) (now (left .exit)) ≡ taken reader ⌝ }
 {
     let line = reader.line;
@@ -121,14 +122,14 @@ fn take_report(reader: Reader, k: usize, payload: &mut [u8], left: &mut [u8]) ->
 
 // The next report, or nothing: its data and what is left, laid into empty arrays.
 fn hand_over(reader: Reader, payload: &mut [u8], left: &mut [u8]) -> Taken
-    requires { ⌜ (now payload ≡ padded 254 []) × (now left ≡ padded 258 []) ⌝ }
+    requires { ⌜ (now payload ≡ padded mostPayload []) × (now left ≡ padded longestFrame []) ⌝ }
     ensures { λ r. ⌜ askedWith (reader .line) r (now (payload .exit)) (now (left .exit)) ≡ asked reader ⌝ }
 {
     let line = reader.line;
     let head = reader.head;
     let n = reader.len;
     let k = head::span_of(line.header, head);
-    if (k == 0) | (n < k) | (258 < n) {
+    if (k == 0) | (n < k) | (LONGEST_FRAME < n) {
         return keep(reader, left);
     }
     take_report(reader, k, payload, left)

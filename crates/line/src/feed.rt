@@ -9,6 +9,7 @@ ghost use mathlib.Core.Path.{_≡_};
 ghost use mathlib.Core.List.{[], _∷_, _++_};
 ghost use Prim.Native.Nat.{_+_, _≤_, _<_};
 ghost use lib.ListN.{length, take};
+ghost use Rattle.frame.specs.Frame.{longestFrame};
 ghost use Rattle.line.specs.Inner.{noiseLength, stepOf, leftOf, opened};
 ghost use Rattle.line.specs.State.{padded};
 ghost use Rattle.place.specs.declared.Look.the-variants.{Wait};
@@ -24,8 +25,8 @@ fn smaller(a: usize, b: usize) -> usize
 
 // Takes a byte behind the n that are held.
 fn take_byte(line: Line, held: &mut [u8], n: usize, b: u8) -> Step
-    requires { ⌜ (n < 258) × (length (now held) ≡ 258) × (now held ≡ padded 258 (take n (now held))) ⌝ }
-    ensures { λ r. ⌜ (r ≡ stepOf line (take n (now (held .entry)) ++ (b ∷ []))) × (now (held .exit) ≡ padded 258 (leftOf line (take n (now (held .entry)) ++ (b ∷ [])))) × (r .len ≤ 258) × (r .need ≤ 258) ⌝ }
+    requires { ⌜ (n < longestFrame) × (length (now held) ≡ longestFrame) × (now held ≡ padded longestFrame (take n (now held))) ⌝ }
+    ensures { λ r. ⌜ (r ≡ stepOf line (take n (now (held .entry)) ++ (b ∷ []))) × (now (held .exit) ≡ padded longestFrame (leftOf line (take n (now (held .entry)) ++ (b ∷ [])))) × (r .len ≤ longestFrame) × (r .need ≤ longestFrame) ⌝ }
 {
     held[n] = b;
     let rest = settle::settle_in(line, held, n + 1);
@@ -41,8 +42,8 @@ fn take_byte(line: Line, held: &mut [u8], n: usize, b: u8) -> Step
 
 // Takes a block of bytes that decides nothing behind the n that are held; answers how many.
 fn take_block(held: &mut [u8], n: usize, need: usize, bytes: &[u8]) -> usize
-    requires { ⌜ (n + 1 < need) × (need ≤ 258) × (0 < length (now bytes)) × (length (now held) ≡ 258) × (now held ≡ padded 258 (take n (now held))) ⌝ }
-    ensures { λ r. ⌜ (0 < r) × (n + r < need) × (r ≤ length (now (bytes .entry))) × (now (held .exit) ≡ padded 258 (take n (now (held .entry)) ++ take r (now (bytes .entry)))) ⌝ }
+    requires { ⌜ (n + 1 < need) × (need ≤ longestFrame) × (0 < length (now bytes)) × (length (now held) ≡ longestFrame) × (now held ≡ padded longestFrame (take n (now held))) ⌝ }
+    ensures { λ r. ⌜ (0 < r) × (n + r < need) × (r ≤ length (now (bytes .entry))) × (now (held .exit) ≡ padded longestFrame (take n (now (held .entry)) ++ take r (now (bytes .entry)))) ⌝ }
 {
     let k = smaller(need - 1 - n, bytes.len());
     // Below some 16 bytes a call that copies a block costs more than it saves.
@@ -70,7 +71,7 @@ fn noise_length(h1: u8, bytes: &[u8]) -> usize
 
 // Gives bytes to a reader that takes them, in place: a byte that nothing waits for is skipped, a block that decides nothing is copied.
 pub fn feed(line: Line, held: &mut [u8], count: usize, bytes: &[u8]) -> Fed
-    requires { ⌜ (count ≤ 258) × (length (now held) ≡ 258) × (now held ≡ padded 258 (take count (now held))) ⌝ }
+    requires { ⌜ (count ≤ longestFrame) × (length (now held) ≡ longestFrame) × (now held ≡ padded longestFrame (take count (now held))) ⌝ }
     ensures { λ r. ⌜ gave (r .used) (opened line (now (held .exit)) (r .len) (r .head)) ≡ givenBytes (opened line (now (held .entry)) count Wait) (now (bytes .entry)) ⌝ }
 {
     let mut n = count;

@@ -1,9 +1,10 @@
 // What stands at the first byte held: whether it is a report, how long its frame is, how much goes with its report.
 use frame::Header;
+use frame::LONGEST_FRAME;
 use place::Look;
 ghost use mathlib.Core.Path.{_≡_};
 ghost use Prim.Native.Nat.{_≤_};
-ghost use Rattle.frame.specs.Frame.{headerBytes};
+ghost use Rattle.frame.specs.Frame.{headerBytes, longestFrame};
 ghost use Rattle.line.specs.Inner.{decidedAt};
 ghost use Rattle.line.specs.Methods.{isAnswer, takes, bodyLength, span};
 
@@ -23,7 +24,7 @@ fn is_report(look: Look) -> bool
 pub fn can_take(n: usize, head: Look) -> bool
     ensures { λ r. ⌜ r ≡ takes n head ⌝ }
 {
-    (n < 258) & !is_report(head)
+    (n < LONGEST_FRAME) & !is_report(head)
 }
 
 // The L of an accepted frame.
@@ -40,7 +41,7 @@ pub fn body_length(look: Look) -> usize
 
 // How many bytes go with the report: one with a bad check, the whole frame with an accepted one, none where there is no report.
 pub fn span_of(header: Header, look: Look) -> usize
-    ensures { λ r. ⌜ (r ≡ span (headerBytes header) look) × (r ≤ 258) ⌝ }
+    ensures { λ r. ⌜ (r ≡ span (headerBytes header) look) × (r ≤ longestFrame) ⌝ }
 {
     let h = header.length();
     match look {
@@ -53,7 +54,7 @@ pub fn span_of(header: Header, look: Look) -> usize
 
 // How long the bytes must be before the frame that the first begins is whole; 0 where the length byte has not come.
 pub fn whole_at(header: Header, s: &[u8]) -> usize
-    ensures { λ r. ⌜ (r ≡ decidedAt (headerBytes header) (now (s .entry))) × (r ≤ 258) ⌝ }
+    ensures { λ r. ⌜ (r ≡ decidedAt (headerBytes header) (now (s .entry))) × (r ≤ longestFrame) ⌝ }
 {
     let h = header.length();
     if h < s.len() {

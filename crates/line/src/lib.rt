@@ -15,6 +15,8 @@ mod head;
 mod arrays;
 
 use frame::Header;
+use frame::LONGEST_FRAME;
+use frame::MOST_PAYLOAD;
 use place::Look;
 
 // What is fixed at setup.
@@ -26,7 +28,7 @@ pub struct Line {
 // The bytes held stand at the front of the array; `closed` says whether a mark has closed their stretch, `head` what stands at the first.
 pub struct Reader {
     line: Line,
-    held: [u8; 258],
+    held: [u8; LONGEST_FRAME],
     len: usize,
     closed: bool,
     head: Look,
@@ -59,7 +61,7 @@ pub enum Report {
 
 pub struct Asked {
     pub report: Report,
-    pub payload: [u8; 254],
+    pub payload: [u8; MOST_PAYLOAD],
     pub reader: Reader,
 }
 

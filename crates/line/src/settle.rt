@@ -9,14 +9,15 @@ ghost use mathlib.Core.Path.{_≡_};
 ghost use mathlib.Core.List.{[]};
 ghost use Prim.Native.Nat.{_-_, _≤_};
 ghost use lib.ListN.{length, take, drop};
+ghost use Rattle.frame.specs.Frame.{longestFrame};
 ghost use Rattle.line.specs.Inner.{readerWith, restOf, leftOf};
 ghost use Rattle.line.specs.State.{rulesFor, padded, settledReader};
 ghost use Rattle.place.specs.Looks.{stopOf};
 
 // Goes past all that is passed over of the n bytes held in an open stretch, and brings what is left to the front.
 pub fn settle_in(line: Line, held: &mut [u8], n: usize) -> Rest
-    requires { ⌜ (n ≤ 258) × (length (now held) ≡ 258) × (now held ≡ padded 258 (take n (now held))) ⌝ }
-    ensures { λ r. ⌜ (r ≡ restOf line (take n (now (held .entry)))) × (now (held .exit) ≡ padded 258 (leftOf line (take n (now (held .entry))))) ⌝ }
+    requires { ⌜ (n ≤ longestFrame) × (length (now held) ≡ longestFrame) × (now held ≡ padded longestFrame (take n (now held))) ⌝ }
+    ensures { λ r. ⌜ (r ≡ restOf line (take n (now (held .entry)))) × (now (held .exit) ≡ padded longestFrame (leftOf line (take n (now (held .entry))))) ⌝ }
 {
     let stop = place::first_stop(line.header, line.checking, false, &held[..n]);
     let at = stop.at;
@@ -34,7 +35,7 @@ pub fn settle_in(line: Line, held: &mut [u8], n: usize) -> Rest
 
 // The reader that holds what is left of these bytes.
 pub fn settle(line: Line, closed: bool, s: &[u8]) -> Reader
-    requires { ⌜ length (now s) ≤ 258 ⌝ }
+    requires { ⌜ length (now s) ≤ longestFrame ⌝ }
     ensures { λ r. ⌜ r ≡ settledReader line closed (now (s .entry)) ⌝ }
 {
     let stop = place::first_stop(line.header, line.checking, closed, s);
@@ -53,7 +54,7 @@ pub fn settle(line: Line, closed: bool, s: &[u8]) -> Reader
 
 // What stands behind the first k bytes held.
 fn stop_behind(reader: Reader, k: usize) -> Stop
-    requires { ⌜ (k ≤ reader .len) × (reader .len ≤ 258) ⌝ }
+    requires { ⌜ (k ≤ reader .len) × (reader .len ≤ longestFrame) ⌝ }
     ensures { λ r. ⌜ r ≡ stopOf (rulesFor (reader .line)) (reader .closed) (take (reader .len - k) (drop k (reader .held))) ⌝ }
 {
     let line = reader.line;
@@ -64,7 +65,7 @@ fn stop_behind(reader: Reader, k: usize) -> Stop
 
 // Lays what is left behind the first k bytes held.
 pub fn settle_left(reader: Reader, k: usize, left: &mut [u8]) -> Rest
-    requires { ⌜ (k ≤ reader .len) × (reader .len ≤ 258) × (now left ≡ padded 258 []) ⌝ }
+    requires { ⌜ (k ≤ reader .len) × (reader .len ≤ longestFrame) × (now left ≡ padded longestFrame []) ⌝ }
     ensures { λ r. ⌜ readerWith (reader .line) (reader .closed) (r .len) (r .head) (now (left .exit)) ≡ settledReader (reader .line) (reader .closed) (take (reader .len - k) (drop k (reader .held))) ⌝ }
 {
     let n = reader.len;

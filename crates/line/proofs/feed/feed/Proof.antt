@@ -5,6 +5,7 @@ use native.Mathlib.Omega.{arith}
 use mathlib.Core.Path.{_≡_}
 use borrow.Author.Needs.{needs}
 use lib.ListN.{length, take, drop}
+use Rattle.frame.specs.Frame.{longestFrame}
 use Rattle.place.specs.declared.Look.the-variants.{Wait}
 use Rattle.line.specs.Inner.{opened}
 use Rattle.line.specs.State.{rulesFor, padded}
@@ -18,7 +19,7 @@ use Rattle.line.proofs.feed.feed.Tie as tie
 
 abbrev Inv-loop : tie.InvT-loop
 Inv-loop line held₀ count bytes n₀ head₀ need₀ i₀ held n head need i =
-    (i ≤ length bytes) × (n ≤ 258) × (need ≤ 258) × (length held ≡ 258) × (held ≡ padded 258 (take n held)) ×
+    (i ≤ length bytes) × (n ≤ longestFrame) × (need ≤ longestFrame) × (length held ≡ longestFrame) × (held ≡ padded longestFrame (take n held)) ×
     Blind (rulesFor line) (take n held) need ×
     (givenBytes (opened line held₀ n₀ Wait) bytes ≡ plus i (givenBytes (opened line held n head) (drop i bytes)))
 
