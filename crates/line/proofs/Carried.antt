@@ -12,6 +12,7 @@ use Rattle.wire.specs.Bytes.{Bytes}
 use Rattle.frame.specs.Frame.{headerBytes, checkLength, contentOf, longestFrame, mostPayload}
 use Rattle.reading.specs.Place.{Rules, Seen, pass, wait, bad, accepted, look, reportOf, goneBy, isWait}
 use Rattle.reading.specs.Moves.{Kept, fresh, isPass, isReport, passes, settled, waiting, withByte, withMark, handed, afterReport}
+use Rattle.reading.specs.Demand3.{oneLessThanLongest}
 use Rattle.reading.proofs.Stable.{true-is-not-false}
 use Rattle.reading.proofs.Waiting.{closed-goes-on}
 use Rattle.reading.proofs.Accepting.{accepted-begun}
@@ -59,10 +60,15 @@ at-rest line kept reached = record { is-open = λ quiet. rest quiet .0; first-wa
     rest : isReport seen ≡ false → (kept .closed ≡ false) × (isWait (look (rulesFor line) false (kept .bytes)) ≡ true)
     rest quiet = open-wait (rulesFor line) (kept .closed) (kept .bytes) (neither seen (reached .stands) quiet)
 
--- "at most 257 bytes are ever held while waiting"
+-- while no report waits, less than the longest frame is held
+pub held-below-longest : (line : Line) (kept : Kept) → Reached line kept → waiting (rulesFor line) kept ≡ false
+    → length (kept .bytes) ≤ oneLessThanLongest (headerBytes (line .header))
+held-below-longest line kept reached none = quiet-bound (rulesFor line) kept (at-rest line kept reached) (reached .are-bytes) none
+
+-- "at most 258": so at most 257, with two header bytes
 pub held-waiting : (line : Line) (kept : Kept) → Reached line kept → waiting (rulesFor line) kept ≡ false → length (kept .bytes) ≤ 257
 unfolding headerBytes
-held-waiting line kept reached none = quiet-bound (rulesFor line) kept (at-rest line kept reached) (reached .are-bytes) none
+held-waiting line kept reached none = held-below-longest line kept reached none
 
 -- whether a report waits
 head-waiting : (line : Line) (kept : Kept) → isAnswer (readerOf line kept .head) ≡ waiting (rulesFor line) kept

@@ -12,7 +12,7 @@ use Rattle.frame.specs.Frame.{checkLength, leastLength, contentOf, rightCheck}
 use Rattle.reading.specs.Place.{Report, badCheck, acceptedFrame, cutShort, judged, afterHeader, behind, look, reportOf, goneBy, isWait}
 use Rattle.reading.specs.Stretch.{placedAt, readFrom, reading, reportsFrom, reports, heldFrom, heldOf}
 use Rattle.reading.specs.Line.{byte, mark, lineFrom, lineReports}
-use Rattle.reading.specs.Demand3.{Good, GoodFrames, none, next, joined, Cut, acceptedOf, reportOfFrame, checked}
+use Rattle.reading.specs.Demand3.{Good, GoodFrames, none, next, joined, Cut, oneLessThanLongest, acceptedOf, reportOfFrame, checked}
 use Rattle.reading.proofs.ByteLists.{allBytes, tested-bytes}
 use Rattle.reading.proofs.Course.{reports-stays}
 use Rattle.reading.proofs.Damage.{isAccepted, noneAccepted, tested-begins-none, open-accepts}
@@ -59,8 +59,9 @@ pub two-inside : reports (checked 0x5A 0xA5) false (0x5A ∷ 0xA5 ∷ 0x10 ∷ (
 unfolding reports reportsFrom look behind afterHeader judged cutShort isWait reportOf goneBy leastLength checkLength contentOf rightCheck checkValue checkFrom byteStep bitSteps bitStep polynomial
 two-inside = refl
 
--- 257 is the least figure for header FF FF: behind a single FF, with 256 bytes that begin FF FF, nothing is reported yet
-pub no-fewer : (come : List ℕ) → length come ≤ 254 → reports (checked 0xFF 0xFF) false (0xFF ∷ 0xFF ∷ 0xFF ∷ come) ≡ []
+-- the figure, 257, is the least for header FF FF: behind a single FF fewer bytes than that have come, FF FF first, and nothing is reported yet
+pub no-fewer : (come : List ℕ) → length (0xFF ∷ 0xFF ∷ come) < oneLessThanLongest (0xFF ∷ 0xFF ∷ [])
+    → reports (checked 0xFF 0xFF) false (0xFF ∷ 0xFF ∷ 0xFF ∷ come) ≡ []
 unfolding look behind afterHeader leastLength checkLength cutShort isWait
 no-fewer come few =
     let short : length come < 0xFF = omega arith in

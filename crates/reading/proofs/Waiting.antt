@@ -2,7 +2,7 @@
 use mathlib.Core.Path.{_≡_, refl, sym, _∙_}
 use mathlib.Core.Bool.{Bool, true, false, cond}
 use mathlib.Core.List.{List, [], _∷_}
-use Prim.Native.Nat.{ℕ, suc, _+_, _≤_, _<_}
+use Prim.Native.Nat.{ℕ, suc, _≤_, _<_}
 use native.Mathlib.Omega.{arith}
 use borrow.Author.Tests.{ltb-true}
 use lib.Dec.{eqb, ltb}
@@ -10,6 +10,7 @@ use lib.ListN.{length, take}
 use Rattle.wire.specs.Bytes.{Bytes}
 use Rattle.frame.specs.Frame.{leastLength, rightCheck}
 use Rattle.reading.specs.Place.{Rules, pass, wait, bad, accepted, cutShort, judged, afterHeader, behind, look, isWait}
+use Rattle.reading.specs.Demand3.{oneLessThanLongest}
 use Rattle.reading.proofs.Stable.{true-is-not-false}
 
 -- where there is no byte
@@ -67,28 +68,28 @@ afterHeader-short checking (l ∷ xs) are waits = go (ltb l (leastLength checkin
         omega arith
     go false false is waits = true-is-not-false (sym waits ∙ judged-decided checking (take l xs))
 
-behind-short : (checking : Bool) (header xs : List ℕ) → Bytes xs → isWait (behind checking false header xs) ≡ true → length xs ≤ length header + 255
+behind-short : (checking : Bool) (header xs : List ℕ) → Bytes xs → isWait (behind checking false header xs) ≡ true → length xs ≤ oneLessThanLongest header
 unfolding behind isWait cutShort
 behind-short checking [] xs are waits = let h = afterHeader-short checking xs are waits in omega arith
 behind-short checking (h ∷ header) [] are waits = omega arith
 behind-short checking (h ∷ header) (x ∷ xs) are waits = go (eqb x h) (behind-short checking header xs (λ i. are (suc i))) waits
   where
-    go : (b : Bool) → (isWait (behind checking false header xs) ≡ true → length xs ≤ length header + 255)
-        → isWait (cond b (behind checking false header xs) pass) ≡ true → suc (length xs) ≤ suc (length header) + 255
-    go true rest waits = let h : length xs ≤ length header + 255 = rest waits in omega arith
+    go : (b : Bool) → (isWait (behind checking false header xs) ≡ true → length xs ≤ oneLessThanLongest header)
+        → isWait (cond b (behind checking false header xs) pass) ≡ true → suc (length xs) ≤ oneLessThanLongest (h ∷ header)
+    go true rest waits = let h : length xs ≤ oneLessThanLongest header = rest waits in omega arith
     go false rest waits = true-is-not-false (sym waits)
 
 -- "a frame has 3 + L bytes, at most 258": what waits is shorter than the longest frame
-pub waits-short : (rules : Rules) (xs : List ℕ) → Bytes xs → isWait (look rules false xs) ≡ true → length xs ≤ length (rules .header) + 255
+pub waits-short : (rules : Rules) (xs : List ℕ) → Bytes xs → isWait (look rules false xs) ≡ true → length xs ≤ oneLessThanLongest (rules .header)
 unfolding look
 waits-short rules xs are waits = behind-short (rules .checking) (rules .header) xs are waits
 
 -- so a place with as many bytes behind it as the longest frame has is decided, whether the stretch is closed or open
-pub long-goes-on : (rules : Rules) (closed : Bool) (xs : List ℕ) → Bytes xs → length (rules .header) + 255 < length xs
+pub long-goes-on : (rules : Rules) (closed : Bool) (xs : List ℕ) → Bytes xs → oneLessThanLongest (rules .header) < length xs
     → isWait (look rules closed xs) ≡ false
 long-goes-on rules true xs are long = closed-goes-on rules xs
 long-goes-on rules false xs are long = go (isWait (look rules false xs)) refl
   where
     go : (b : Bool) → isWait (look rules false xs) ≡ b → b ≡ false
-    go true waits = let short : length xs ≤ length (rules .header) + 255 = waits-short rules xs are waits in absurd (omega arith)
+    go true waits = let short : length xs ≤ oneLessThanLongest (rules .header) = waits-short rules xs are waits in absurd (omega arith)
     go false waits = refl
