@@ -20,8 +20,9 @@ use Rattle.line.specs.Methods.{bodyLength, span, told, asked}
 use Rattle.line.proofs.Padding.{drop-take}
 use Rattle.line.proofs.Truths.{or-left, or-right}
 
-abbrev answers : Report → List ℕ → Reader → Asked
-answers report payload reader = record { report = report; payload = payload; reader = reader }
+-- an answer to an ask
+abbrev pub askGives : Report → List ℕ → Reader → Asked
+askGives report payload reader = record { report = report; payload = payload; reader = reader }
 
 -- a head that is obeyed: its frame is all held
 module _ (k n : ℕ) (obeyed : (eqb k 0 || ltb n k || ltb longestFrame n) ≡ false) where
@@ -51,7 +52,7 @@ body-held header (Good l) n held fits =
 
 module _ (reader : Reader) (k : ℕ) (is-k : k ≡ span (headerBytes (reader .line .header)) (reader .head)) where
   pub nothing-asked : (payload : List ℕ) → (eqb k 0 || ltb (reader .len) k || ltb longestFrame (reader .len)) ≡ true → payload ≡ padded mostPayload []
-      → _≡_ {A = Asked} (record { report = Nothing; payload = payload; reader = reader }) (asked reader)
+      → askGives Nothing payload reader ≡ asked reader
   unfolding asked
   nothing-asked payload none empty = rw (← is-k, none, empty)
 
@@ -61,7 +62,7 @@ module _ (reader : Reader) (k : ℕ) (is-k : k ≡ span (headerBytes (reader .li
       → report ≡ told (reader .line .checking) (reader .head) (take (h + 1 + l - (h + 1)) (drop (h + 1) (reader .held)))
       → payload ≡ padded mostPayload (drop 1 (contentOf (reader .line .checking) (take (h + 1 + l - (h + 1)) (drop (h + 1) (reader .held)))))
       → next ≡ settledReader (reader .line) (reader .closed) (take (reader .len - k) (drop k (reader .held)))
-      → _≡_ {A = Asked} (record { report = report; payload = payload; reader = next }) (asked reader)
+      → askGives report payload next ≡ asked reader
   unfolding asked
   report-asked h l report payload next obeyed is-h is-l is-report is-payload is-next =
       let header = headerBytes (reader .line .header) in
@@ -83,8 +84,8 @@ none-there header checking (Bad command) body n none = absurd (let z : _≡_ {A 
 none-there header checking (Good l) body n none = absurd (let z : _≡_ {A = ℕ} 0 1 = cc in omega arith)
 
 keeps-if : (none : Bool) (reader next : Reader) (report : Report) (payload empty : List ℕ) → (report ≡ Nothing → none ≡ true)
-    → cond none (answers Nothing empty reader) (answers report payload next) .report ≡ Nothing
-    → cond none (answers Nothing empty reader) (answers report payload next) .reader ≡ reader
+    → cond none (askGives Nothing empty reader) (askGives report payload next) .report ≡ Nothing
+    → cond none (askGives Nothing empty reader) (askGives report payload next) .reader ≡ reader
 keeps-if true reader next report payload empty only is = refl
 keeps-if false reader next report payload empty only is =
     let e : false ≡ true = only is in

@@ -8,7 +8,7 @@ use borrow.Author.Tests.{ltb-true, lt-ltb}
 use lib.Dec.{eqb, ltb}
 use lib.ListN.{length, getD, take}
 use Rattle.frame.specs.Frame.{leastLength}
-use Rattle.reading.specs.Place.{Rules, pass, wait, cutShort, judged, afterHeader, behind, look}
+use Rattle.reading.specs.Place.{Rules, pass, wait, cutShort, decidedByCheck, afterHeader, behind, look}
 use Rattle.reading.specs.Moves.{isPass}
 use Rattle.line.specs.Inner.{decidedAt}
 use Rattle.line.proofs.Truths.{never}
@@ -35,8 +35,8 @@ blind-length : (checking : Bool) (l : ℕ) (xs ys : List ℕ) → isPass (afterH
 unfolding afterHeader cutShort isPass
 blind-length checking l xs ys stands short = go (ltb l (leastLength checking)) stands
   where
-    go : (b : Bool) → isPass (cond b pass (cond (ltb (length xs) l) wait (judged checking (take l xs)))) ≡ false
-        → cond b pass (cond (ltb (length (xs ++ ys)) l) wait (judged checking (take l (xs ++ ys)))) ≡ wait
+    go : (b : Bool) → isPass (cond b pass (cond (ltb (length xs) l) wait (decidedByCheck checking (take l xs)))) ≡ false
+        → cond b pass (cond (ltb (length (xs ++ ys)) l) wait (decidedByCheck checking (take l (xs ++ ys)))) ≡ wait
     go true is = never (cc)
     go false is = rw (lt-ltb (length (xs ++ ys)) l short)
 

@@ -29,10 +29,11 @@ use Rattle.line.specs.declared.Answer.the-variants.{Done, Waits}
 use Rattle.line.specs.declared.Asked.{Asked}
 use Rattle.line.specs.declared.Report.the-variants.{Nothing}
 use Rattle.line.specs.State.{rulesFor, padded, readerOf, keptOf}
-use Rattle.line.specs.Methods.{isAnswer, busy, givenByte, givenMark, asked}
+use Rattle.line.specs.Methods.{isAnswer, busy, gives, givenByte, givenMark, asked}
 use Rattle.line.specs.Reached.{Reached, reportAs, payloadAs}
 use Rattle.line.proofs.Padding.{take-padded}
 use Rattle.line.proofs.Settling.{left-stands}
+use Rattle.line.proofs.Asking.{askGives}
 
 -- a reader that keeps something keeps just that
 pub kept-is : (line : Line) (kept : Kept) → keptOf (readerOf line kept) ≡ kept
@@ -90,14 +91,12 @@ waiting-is line kept reached = go (waiting (rulesFor line) kept) refl
 
 -- a byte and a mark
 pub byte-carried : (line : Line) (kept : Kept) (b : ℕ) → Reached line kept → givenByte (readerOf line kept) b
-    ≡ cond (waiting (rulesFor line) kept) (record { answer = Waits; reader = readerOf line kept })
-    (record { answer = Done; reader = readerOf line (withByte (rulesFor line) kept b) })
+    ≡ cond (waiting (rulesFor line) kept) (gives Waits (readerOf line kept)) (gives Done (readerOf line (withByte (rulesFor line) kept b)))
 unfolding givenByte
 byte-carried line kept b reached = rw (waiting-is line kept reached, take-padded longestFrame (length (kept .bytes)) (kept .bytes) refl)
 
 pub mark-carried : (line : Line) (kept : Kept) → Reached line kept → givenMark (readerOf line kept)
-    ≡ cond (waiting (rulesFor line) kept) (record { answer = Waits; reader = readerOf line kept })
-    (record { answer = Done; reader = readerOf line (withMark (rulesFor line) kept) })
+    ≡ cond (waiting (rulesFor line) kept) (gives Waits (readerOf line kept)) (gives Done (readerOf line (withMark (rulesFor line) kept)))
 unfolding givenMark
 mark-carried line kept reached = rw (waiting-is line kept reached, take-padded longestFrame (length (kept .bytes)) (kept .bytes) refl)
 
@@ -174,9 +173,8 @@ answered line kept seen =
     }
 
 none-handed : (line : Line) (kept : Kept) (seen : Seen) → look (rulesFor line) (kept .closed) (kept .bytes) ≡ seen
-    → _≡_ {A = Asked} (record { report = Nothing; payload = padded mostPayload []; reader = headed line kept seen })
-    (record { report = Nothing; payload = padded mostPayload []; reader = readerOf line kept })
-none-handed line kept seen is = ap (λ (s : Seen). record { report = Nothing; payload = padded mostPayload []; reader = headed line kept s }) (sym is)
+    → askGives Nothing (padded mostPayload []) (headed line kept seen) ≡ askGives Nothing (padded mostPayload []) (readerOf line kept)
+none-handed line kept seen is = ap (λ (s : Seen). askGives Nothing (padded mostPayload []) (headed line kept s)) (sym is)
 
 no-content : (checking : Bool) → contentOf checking [] ≡ []
 unfolding contentOf

@@ -16,8 +16,8 @@ use Rattle.line.specs.Inner.{decidedAt}
 use Rattle.line.specs.Methods.{isAnswer, takes, span, told}
 use Rattle.line.proofs.Padding.{drop-take}
 
-pub taken-if : (n : ℕ) (head : Look) (r : Bool) → r ≡ isAnswer head → (ltb n longestFrame && not r) ≡ takes n head
-taken-if n head r is = rw is
+pub takes-if : (n : ℕ) (head : Look) (r : Bool) → r ≡ isAnswer head → (ltb n longestFrame && not r) ≡ takes n head
+takes-if n head r is = rw is
 
 pub span-good : (header : List ℕ) (look : Look) (h l : ℕ) → h ≡ length header → look ≡ Good l → h + 1 + l ≡ span header look
 span-good header look h l is-h is = rw (is-h, is)

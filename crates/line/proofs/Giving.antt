@@ -19,9 +19,8 @@ use Rattle.place.proofs.Stops.{look-nothing}
 use Rattle.line.specs.declared.Line.{Line}
 use Rattle.line.specs.declared.Reader.{Reader}
 use Rattle.line.specs.declared.Answer.the-variants.{Done, Waits}
-use Rattle.line.specs.declared.Given.{Given}
 use Rattle.line.specs.State.{rulesFor, padded, readerOf, settledReader}
-use Rattle.line.specs.Methods.{isAnswer, takes, busy, givenByte, givenMark}
+use Rattle.line.specs.Methods.{isAnswer, takes, busy, gives, givenByte, givenMark}
 use Rattle.line.proofs.Truths.{and-left}
 
 -- an input that is taken finds room
@@ -64,24 +63,24 @@ module _ (reader : Reader) (r : Bool) (is : r ≡ takes (reader .len) (reader .h
 
   pub byte-taken : (b : ℕ) (next : Reader) → r ≡ true → length (reader .held) ≡ longestFrame
       → next ≡ settledReader (reader .line) false (take (reader .len + 1) (set (reader .held) (reader .len) b))
-      → _≡_ {A = Given} (record { answer = Done; reader = next }) (givenByte reader b)
+      → gives Done next ≡ givenByte reader b
   unfolding givenByte withByte
   byte-taken b next free long is-next =
       let room : reader .len < longestFrame = below-full (reader .len) (reader .head) r is free in
       let inside : reader .len < length (reader .held) = omega arith in
       let more : take (reader .len + 1) (set (reader .held) (reader .len) b) ≡ take (reader .len) (reader .held) ++ (b ∷ []) =
       rw (add-one (reader .len)) (take-suc-set (reader .held) (reader .len) b inside) in
-      rw (is-busy, free) (ap (λ (x : Reader). record { answer = Done; reader = x }) (is-next ∙ ap (settledReader (reader .line) false) more))
+      rw (is-busy, free) (ap (gives Done) (is-next ∙ ap (settledReader (reader .line) false) more))
 
-  pub byte-refused : (b : ℕ) → r ≡ false → _≡_ {A = Given} (record { answer = Waits; reader = reader }) (givenByte reader b)
+  pub byte-refused : (b : ℕ) → r ≡ false → gives Waits reader ≡ givenByte reader b
   unfolding givenByte
   byte-refused b full = rw (is-busy, full)
 
   pub mark-taken : (next : Reader) → r ≡ true → next ≡ settledReader (reader .line) true (take (reader .len) (reader .held))
-      → _≡_ {A = Given} (record { answer = Done; reader = next }) (givenMark reader)
+      → gives Done next ≡ givenMark reader
   unfolding givenMark withMark
-  mark-taken next free is-next = rw (is-busy, free) (ap (λ (x : Reader). record { answer = Done; reader = x }) is-next)
+  mark-taken next free is-next = rw (is-busy, free) (ap (gives Done) is-next)
 
-  pub mark-refused : r ≡ false → _≡_ {A = Given} (record { answer = Waits; reader = reader }) (givenMark reader)
+  pub mark-refused : r ≡ false → gives Waits reader ≡ givenMark reader
   unfolding givenMark
   mark-refused full = rw (is-busy, full)

@@ -22,17 +22,17 @@ use Rattle.line.specs.declared.Line.{Line}
 use Rattle.line.specs.declared.Reader.{Reader}
 use Rattle.line.specs.declared.Report.{Report}
 use Rattle.line.specs.declared.Report.the-variants.{Nothing}
-use Rattle.line.specs.declared.Taken.{Taken}
+use Rattle.line.specs.declared.Handover.{Handover}
 use Rattle.line.specs.declared.Asked.{Asked}
 use Rattle.line.specs.declared.Fed.{Fed}
-use Rattle.line.specs.Inner.{taken, askedWith, readerWith, opened}
+use Rattle.line.specs.Inner.{answerWithReport, askedWith, readerWith, opened}
 use Rattle.line.specs.State.{rulesFor, padded, settledReader}
 use Rattle.line.specs.Methods.{bodyLength, span, told, busy, gave, givenBytes, asked}
 use Rattle.line.proofs.Padding.{drop-take, length-padded, laid-empty, set-behind}
 use Rattle.line.proofs.Fronts.{content-part}
 use Rattle.line.proofs.Settling.{stop-inside, settled-is}
 use Rattle.line.proofs.Feeding.{old-few, old-fits, old-front, bytes-given}
-use Rattle.line.proofs.Asking.{nothing-asked, report-asked}
+use Rattle.line.proofs.Asking.{askGives, nothing-asked, report-asked}
 
 -- bytes laid over the front of an array
 pub end-inside : (n : ℕ) (held : List ℕ) → n ≤ longestFrame → length held ≡ longestFrame → n ≤ length held
@@ -57,9 +57,9 @@ empty-room size n out empty fits =
     let long : length out ≡ size = rw empty (length-padded size [] (omega arith)) in
     omega arith
 
-pub kept-all : (held left left′ : List ℕ) → length held ≡ longestFrame → left ≡ padded longestFrame [] → left′ ≡ over (take (longestFrame - 0) (drop 0 held)) left → left′ ≡ held
+pub all-stays : (held left left′ : List ℕ) → length held ≡ longestFrame → left ≡ padded longestFrame [] → left′ ≡ over (take (longestFrame - 0) (drop 0 held)) left → left′ ≡ held
 unfolding padded
-kept-all held left left′ long empty is =
+all-stays held left left′ long empty is =
     let all : take (longestFrame - 0) (drop 0 held) ≡ held = take-all (longestFrame - 0) held (omega arith) in
     over-empty longestFrame (take (longestFrame - 0) (drop 0 held)) left left′ empty is ∙ ap (padded longestFrame) all ∙ full
   where
@@ -198,19 +198,16 @@ module _ (line : Line) (closed : Bool) (n k : ℕ) (held : List ℕ) (stop : Sto
       rw (rest-long, z) at (settled-is line closed (take (n - k) (drop k held)) stop is left′ front)
 
 -- the report, its data and what is left
-abbrev answer : Report → List ℕ → Reader → Asked
-answer report payload reader = record { report = report; payload = payload; reader = reader }
-
-pub taken-is : (reader : Reader) (h l k len : ℕ) (look : Look) (report : Report) (payload left : List ℕ)
+pub report-handed : (reader : Reader) (h l k len : ℕ) (look : Look) (report : Report) (payload left : List ℕ)
     → k ≡ span (headerBytes (reader .line .header)) (reader .head) → h ≡ length (headerBytes (reader .line .header)) → l ≡ bodyLength (reader .head)
     → report ≡ told (reader .line .checking) (reader .head) (take (h + 1 + l - (h + 1)) (drop (h + 1) (reader .held)))
     → payload
     ≡ padded mostPayload (drop 1 (contentOf (reader .line .checking) (take (bodyLength (reader .head)) (drop (length (headerBytes (reader .line .header)) + 1) (reader .held)))))
     → readerWith (reader .line) (reader .closed) len look left
     ≡ settledReader (reader .line) (reader .closed) (take (reader .len - k) (drop k (reader .held)))
-    → askedWith (reader .line) (record { report = report; len = len; closed = reader .closed && ltb 0 len; head = look }) payload left ≡ taken reader
-unfolding taken
-taken-is reader h l k len look report payload left is-k is-h is-l is-report is-payload is-left =
+    → askedWith (reader .line) (record { report = report; len = len; closed = reader .closed && ltb 0 len; head = look }) payload left ≡ answerWithReport reader
+unfolding answerWithReport
+report-handed reader h l k len look report payload left is-k is-h is-l is-report is-payload is-left =
     let z : h + 1 + l - (h + 1) ≡ l = omega arith in
     let body : List ℕ = take (bodyLength (reader .head)) (drop (length (headerBytes (reader .line .header)) + 1) (reader .held)) in
     let is-told : report ≡ told (reader .line .checking) (reader .head) body = is-report ∙ rw (z, is-h, is-l) in
@@ -218,21 +215,21 @@ taken-is reader h l k len look report payload left is-k is-h is-l is-report is-p
     ≡ settledReader (reader .line) (reader .closed)
     (take (reader .len - span (headerBytes (reader .line .header)) (reader .head)) (drop (span (headerBytes (reader .line .header)) (reader .head)) (reader .held))) =
     rw (← is-k) is-left in
-    rw (is-told, is-payload) (ap (answer (told (reader .line .checking) (reader .head) body) (padded mostPayload (drop 1 (contentOf (reader .line .checking) body)))) rest)
+    rw (is-told, is-payload) (ap (askGives (told (reader .line .checking) (reader .head) body) (padded mostPayload (drop 1 (contentOf (reader .line .checking) body)))) rest)
 
 module _ (reader : Reader) (k : ℕ) (is-k : k ≡ span (headerBytes (reader .line .header)) (reader .head)) where
-  pub kept-asked : (t : Taken) (payload left : List ℕ) → (eqb k 0 || ltb (reader .len) k || ltb longestFrame (reader .len)) ≡ true → payload ≡ padded mostPayload []
+  pub nothing-handed-asked : (t : Handover) (payload left : List ℕ) → (eqb k 0 || ltb (reader .len) k || ltb longestFrame (reader .len)) ≡ true → payload ≡ padded mostPayload []
       → t ≡ record { report = Nothing; len = reader .len; closed = reader .closed; head = reader .head } → left ≡ reader .held
       → askedWith (reader .line) t payload left ≡ asked reader
-  kept-asked t payload left none empty is-t is-left = rw (is-t, is-left) (nothing-asked reader k is-k payload none empty)
+  nothing-handed-asked t payload left none empty is-t is-left = rw (is-t, is-left) (nothing-asked reader k is-k payload none empty)
 
-  pub taken-asked : (a : Asked) → (eqb k 0 || ltb (reader .len) k || ltb longestFrame (reader .len)) ≡ false → a ≡ taken reader → a ≡ asked reader
-  unfolding taken asked
-  taken-asked a obeyed is =
+  pub report-handed-asked : (a : Asked) → (eqb k 0 || ltb (reader .len) k || ltb longestFrame (reader .len)) ≡ false → a ≡ answerWithReport reader → a ≡ asked reader
+  unfolding answerWithReport asked
+  report-handed-asked a obeyed is =
       let h : ℕ = length (headerBytes (reader .line .header)) in
       let l : ℕ = bodyLength (reader .head) in
       let z : h + 1 + l - (h + 1) ≡ l = omega arith in
-      is ∙ report-asked reader k is-k h l (taken reader .report) (taken reader .payload) (taken reader .reader) obeyed refl refl (rw z) (rw z) (rw is-k)
+      is ∙ report-asked reader k is-k h l (answerWithReport reader .report) (answerWithReport reader .payload) (answerWithReport reader .reader) obeyed refl refl (rw z) (rw z) (rw is-k)
 
 -- the bytes of a reader that takes inputs, at the front of an empty array
 pub front-packed : (n : ℕ) (old empty held : List ℕ) → empty ≡ padded longestFrame [] → held ≡ over (take (n - 0) (drop 0 old)) empty → held ≡ padded longestFrame (take n old)

@@ -26,15 +26,15 @@ use Rattle.line.specs.Methods.{takes, givenByte, gave, plus, givenBytes}
 use Rattle.line.proofs.Truths.{and-left, and-right}
 use Rattle.line.proofs.Feeding.{more-left, taking, plus-plus, given-is, head-free}
 
-settled-none : (line : Line) (b : ℕ) → eqb b (line .header .h1) ≡ false → settled (rulesFor line) false (b ∷ []) ≡ record { closed = false; bytes = [] }
+settled-passed : (line : Line) (b : ℕ) → eqb b (line .header .h1) ≡ false → settled (rulesFor line) false (b ∷ []) ≡ record { closed = false; bytes = [] }
 unfolding settled passes isPass look behind headerBytes stillClosed
-settled-none line b other = rw other
+settled-passed line b other = rw other
 
 passed-byte : (line : Line) (n : ℕ) (held : List ℕ) (b : ℕ) → n ≡ 0 → eqb b (line .header .h1) ≡ false → held ≡ padded longestFrame (take n held)
     → settledReader line false (take n held ++ (b ∷ [])) ≡ opened line held n Wait
 passed-byte line n held b none other front =
     let empty : held ≡ padded longestFrame [] = front ∙ ap (λ (k : ℕ). padded longestFrame (take k held)) none in
-    rw (none, empty, settled-none line b other, look-nothing (rulesFor line))
+    rw (none, empty, settled-passed line b other, look-nothing (rulesFor line))
 
 pub noise-le : (h1 : ℕ) (xs : List ℕ) → noiseLength h1 xs ≤ length xs
 unfolding noiseLength

@@ -11,7 +11,7 @@ use Rattle.line.specs.declared.Line.{Line}
 use Rattle.line.specs.declared.Reader.{Reader}
 use Rattle.line.specs.declared.Rest.{Rest}
 use Rattle.line.specs.declared.Step.{Step}
-use Rattle.line.specs.declared.Taken.{Taken}
+use Rattle.line.specs.declared.Handover.{Handover}
 use Rattle.line.specs.declared.Asked.{Asked}
 use Rattle.line.specs.State.{rulesFor, padded, settledReader}
 use Rattle.line.specs.Methods.{bodyLength, span, told}
@@ -59,13 +59,13 @@ noiseLength h1 (x ∷ xs) = cond (eqb x h1) 0 (suc (noiseLength h1 xs))
 -- `ask`
 
 -- an answer with its two arrays
-abbrev pub askedWith : Line → Taken → List ℕ → List ℕ → Asked
+abbrev pub askedWith : Line → Handover → List ℕ → List ℕ → Asked
 askedWith line t payload held =
     record { report = t .report; payload = payload; reader = record { line = line; held = held; len = t .len; closed = t .closed; head = t .head } }
 
 -- what an ask answers where the report at the front is handed over
-unfoldable pub taken : Reader → Asked
-taken reader =
+unfoldable pub answerWithReport : Reader → Asked
+answerWithReport reader =
     let header = headerBytes (reader .line .header) in
     let checking = reader .line .checking in
     let body = take (bodyLength (reader .head)) (drop (length header + 1) (reader .held)) in

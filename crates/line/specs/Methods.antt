@@ -19,9 +19,9 @@ use Rattle.line.specs.declared.Asked.{Asked}
 use Rattle.line.specs.State.{rulesFor, padded, readerOf, keptOf, settledReader}
 
 -- 01's number of each answer
-unfoldable pub numberOf : Answer → ℕ
-numberOf Done = 0
-numberOf Waits = 1
+unfoldable pub numberOfAnswer : Answer → ℕ
+numberOfAnswer Done = 0
+numberOfAnswer Waits = 1
 
 abbrev pub isAnswer : Look → Bool
 isAnswer Pass = false
@@ -37,16 +37,18 @@ takes n head = ltb n longestFrame && not (isAnswer head)
 abbrev pub busy : Reader → Bool
 busy reader = not (takes (reader .len) (reader .head))
 
+-- what an input is answered, and the reader as it is then
+abbrev pub gives : Answer → Reader → Given
+gives answer reader = record { answer = answer; reader = reader }
+
 -- "Bytes or marks are given one at a time"; "otherwise a refusal changes nothing"
 unfoldable pub givenByte : Reader → ℕ → Given
 givenByte reader b =
-    cond (busy reader) (record { answer = Waits; reader = reader })
-    (record { answer = Done; reader = readerOf (reader .line) (withByte (rulesFor (reader .line)) (keptOf reader) b) })
+    cond (busy reader) (gives Waits reader) (gives Done (readerOf (reader .line) (withByte (rulesFor (reader .line)) (keptOf reader) b)))
 
 unfoldable pub givenMark : Reader → Given
 givenMark reader =
-    cond (busy reader) (record { answer = Waits; reader = reader })
-    (record { answer = Done; reader = readerOf (reader .line) (withMark (rulesFor (reader .line)) (keptOf reader)) })
+    cond (busy reader) (gives Waits reader) (gives Done (readerOf (reader .line) (withMark (rulesFor (reader .line)) (keptOf reader))))
 
 -- bytes given one after the other until one is refused
 abbrev pub gave : ℕ → Reader → Gave

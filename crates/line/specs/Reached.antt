@@ -23,10 +23,10 @@ pub record Reached (line : Line) (kept : Kept) : Type 0 where
 
 unfoldable pub reportAs : List Place.Report → Report
 reportAs [] = Nothing
-reportAs (badCheck command ∷ reports) = BadCheck command
-reportAs (acceptedFrame command content ∷ reports) = Accepted command (length content)
+reportAs (badCheck command ∷ later) = BadCheck command
+reportAs (acceptedFrame command content ∷ later) = Accepted command (length content)
 
 unfoldable pub payloadAs : List Place.Report → List ℕ
 payloadAs [] = padded mostPayload []
-payloadAs (badCheck command ∷ reports) = padded mostPayload []
-payloadAs (acceptedFrame command content ∷ reports) = padded mostPayload content
+payloadAs (badCheck command ∷ later) = padded mostPayload []
+payloadAs (acceptedFrame command content ∷ later) = padded mostPayload content

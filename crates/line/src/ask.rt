@@ -1,8 +1,8 @@
 // Asking: the next report is handed over with its data, and what is behind it settles.
 use crate::Asked;
+use crate::Handover;
 use crate::Reader;
 use crate::Report;
-use crate::Taken;
 use crate::arrays;
 use crate::head;
 use crate::settle;
@@ -15,7 +15,7 @@ ghost use lib.ListN.{length, take, drop};
 ghost use Rattle.frame.specs.Frame.{headerBytes, contentOf, longestFrame, mostPayload};
 ghost use Rattle.line.specs.State.{padded};
 ghost use Rattle.line.specs.declared.Report.the-variants.{Nothing};
-ghost use Rattle.line.specs.Inner.{taken, askedWith};
+ghost use Rattle.line.specs.Inner.{answerWithReport, askedWith};
 ghost use Rattle.line.specs.Methods.{bodyLength, span, told, asked};
 
 // How much a is above b.
@@ -80,13 +80,13 @@ fn put_payload(reader: Reader, out: &mut [u8])
 }
 
 // Nothing is handed over, and all stays.
-fn keep(reader: Reader, left: &mut [u8]) -> Taken
+fn hand_nothing(reader: Reader, left: &mut [u8]) -> Handover
     requires { ⌜ now left ≡ padded longestFrame [] ⌝ }
     ensures { λ r. ⌜ (r ≡ record { report = Nothing; len = reader .len; closed = reader .closed; head = reader .head }) × (now (left .exit) ≡ reader .held) ⌝ }
 {
     let head = reader.head;
     arrays::put_held(reader, 0, LONGEST_FRAME, left);
-    Taken {
+    Handover {
         report: Report::Nothing,
         len: reader.len,
         closed: reader.closed,
@@ -95,9 +95,9 @@ fn keep(reader: Reader, left: &mut [u8]) -> Taken
 }
 
 // Hands over the report at the front, whose k bytes are all held.
-fn take_report(reader: Reader, k: usize, payload: &mut [u8], left: &mut [u8]) -> Taken
+fn hand_report(reader: Reader, k: usize, payload: &mut [u8], left: &mut [u8]) -> Handover
     requires { ⌜ (k ≡ span (headerBytes (reader .line .header)) (reader .head)) × (k ≤ reader .len) × (reader .len ≤ longestFrame) × (now payload ≡ padded mostPayload []) × (now left ≡ padded longestFrame []) ⌝ }
-    ensures { λ r. ⌜ askedWith (reader .line) r (now (payload .exit)) (now (left .exit)) ≡ taken reader ⌝ }
+    ensures { λ r. ⌜ askedWith (reader .line) r (now (payload .exit)) (now (left .exit)) ≡ answerWithReport reader ⌝ }
 {
     let line = reader.line;
     let head = reader.head;
@@ -112,7 +112,7 @@ fn take_report(reader: Reader, k: usize, payload: &mut [u8], left: &mut [u8]) ->
     let rest = settle::settle_left(reader, k, left);
     let len = rest.len;
     let look = rest.head;
-    Taken {
+    Handover {
         report: report,
         len: len,
         closed: reader.closed & (0 < len),
@@ -121,7 +121,7 @@ fn take_report(reader: Reader, k: usize, payload: &mut [u8], left: &mut [u8]) ->
 }
 
 // The next report, or nothing: its data and what is left, laid into empty arrays.
-fn hand_over(reader: Reader, payload: &mut [u8], left: &mut [u8]) -> Taken
+fn hand_over(reader: Reader, payload: &mut [u8], left: &mut [u8]) -> Handover
     requires { ⌜ (now payload ≡ padded mostPayload []) × (now left ≡ padded longestFrame []) ⌝ }
     ensures { λ r. ⌜ askedWith (reader .line) r (now (payload .exit)) (now (left .exit)) ≡ asked reader ⌝ }
 {
@@ -130,9 +130,9 @@ fn hand_over(reader: Reader, payload: &mut [u8], left: &mut [u8]) -> Taken
     let n = reader.len;
     let k = head::span_of(line.header, head);
     if (k == 0) | (n < k) | (LONGEST_FRAME < n) {
-        return keep(reader, left);
+        return hand_nothing(reader, left);
     }
-    take_report(reader, k, payload, left)
+    hand_report(reader, k, payload, left)
 }
 
 impl Reader {

@@ -79,7 +79,7 @@ struct Step {
 }
 
 // What an ask answers and leaves, but for its arrays.
-struct Taken {
+struct Handover {
     report: Report,
     len: usize,
     closed: bool,

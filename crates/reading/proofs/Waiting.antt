@@ -9,7 +9,7 @@ use lib.Dec.{eqb, ltb}
 use lib.ListN.{length, take}
 use Rattle.wire.specs.Bytes.{Bytes}
 use Rattle.frame.specs.Frame.{leastLength, rightCheck}
-use Rattle.reading.specs.Place.{Rules, pass, wait, bad, accepted, cutShort, judged, afterHeader, behind, look, isWait}
+use Rattle.reading.specs.Place.{Rules, pass, wait, bad, accepted, cutShort, decidedByCheck, afterHeader, behind, look, isWait}
 use Rattle.reading.specs.Demand3.{oneLessThanLongest}
 use Rattle.reading.proofs.Stable.{true-is-not-false}
 
@@ -22,9 +22,9 @@ look-nil rules closed = nothing (rules .header)
     nothing [] = unfold behind afterHeader in refl
     nothing (h ∷ header) = unfold behind in refl
 
-judged-decided : (checking : Bool) (body : List ℕ) → isWait (judged checking body) ≡ false
-unfolding judged isWait
-judged-decided checking body = either (rightCheck checking body)
+check-decides : (checking : Bool) (body : List ℕ) → isWait (decidedByCheck checking body) ≡ false
+unfolding decidedByCheck isWait
+check-decides checking body = either (rightCheck checking body)
   where
     either : (b : Bool) → isWait (cond b (accepted body) (bad body)) ≡ false
     either true = refl
@@ -35,10 +35,10 @@ unfolding afterHeader isWait cutShort
 afterHeader-closed checking [] = refl
 afterHeader-closed checking (l ∷ xs) = go (ltb l (leastLength checking)) (ltb (length xs) l)
   where
-    go : (a b : Bool) → isWait (cond a pass (cond b pass (judged checking (take l xs)))) ≡ false
+    go : (a b : Bool) → isWait (cond a pass (cond b pass (decidedByCheck checking (take l xs)))) ≡ false
     go true b = refl
     go false true = refl
-    go false false = judged-decided checking (take l xs)
+    go false false = check-decides checking (take l xs)
 
 behind-closed : (checking : Bool) (header xs : List ℕ) → isWait (behind checking true header xs) ≡ false
 unfolding behind isWait cutShort
@@ -60,13 +60,13 @@ unfolding afterHeader isWait cutShort
 afterHeader-short checking [] are waits = omega arith
 afterHeader-short checking (l ∷ xs) are waits = go (ltb l (leastLength checking)) (ltb (length xs) l) refl waits
   where
-    go : (a b : Bool) → ltb (length xs) l ≡ b → isWait (cond a pass (cond b wait (judged checking (take l xs)))) ≡ true → suc (length xs) ≤ 255
+    go : (a b : Bool) → ltb (length xs) l ≡ b → isWait (cond a pass (cond b wait (decidedByCheck checking (take l xs)))) ≡ true → suc (length xs) ≤ 255
     go true b is waits = true-is-not-false (sym waits)
     go false true is waits =
         let few : length xs < l = ltb-true (length xs) l is in
         let byte : l < 256 = are 0 in
         omega arith
-    go false false is waits = true-is-not-false (sym waits ∙ judged-decided checking (take l xs))
+    go false false is waits = true-is-not-false (sym waits ∙ check-decides checking (take l xs))
 
 behind-short : (checking : Bool) (header xs : List ℕ) → Bytes xs → isWait (behind checking false header xs) ≡ true → length xs ≤ oneLessThanLongest header
 unfolding behind isWait cutShort

@@ -42,8 +42,8 @@ oneLessThanLongest header = length header + 255
 -- "the frames accepted"
 unfoldable pub acceptedOf : List Report → List Report
 acceptedOf [] = []
-acceptedOf (badCheck command ∷ reports) = acceptedOf reports
-acceptedOf (acceptedFrame command content ∷ reports) = acceptedFrame command content ∷ acceptedOf reports
+acceptedOf (badCheck command ∷ later) = acceptedOf later
+acceptedOf (acceptedFrame command content ∷ later) = acceptedFrame command content ∷ acceptedOf later
 
 -- a frame's command and data, as they stand in its bytes
 unfoldable pub reportOfFrame : Rules → List ℕ → Report

@@ -1,5 +1,5 @@
 -- `line::ask::hand_over` meets its contract.
-use Rattle.line.proofs.Handing.{kept-asked, taken-asked}
+use Rattle.line.proofs.Handing.{nothing-handed-asked, report-handed-asked}
 use Rattle.line.proofs.Asking.{frame-held, held-fits}
 use borrow.Author.Needs.{needs}
 use Rattle.line.proofs.ask.hand_over.Statement.{statement}
@@ -12,8 +12,8 @@ hand-over-spec =
     (λ c κs. search needs)
     (λ c κs. search needs)
     (λ c. search needs)
-    (λ c. search kept-asked)
+    (λ c. search nothing-handed-asked)
     (λ c κs. (search needs, search frame-held, search held-fits, search needs, search needs))
     (λ c. search needs)
     (λ c. search needs)
-    (λ c. search taken-asked))
+    (λ c. search report-handed-asked))

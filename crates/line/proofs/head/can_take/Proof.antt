@@ -1,5 +1,5 @@
 -- `line::head::can_take` meets its contract.
-use Rattle.line.proofs.Fronts.{taken-if}
+use Rattle.line.proofs.Fronts.{takes-if}
 use borrow.Author.Needs.{needs}
 use Rattle.line.proofs.head.can_take.Statement.{statement}
 use Rattle.line.proofs.head.can_take.Tie as tie
@@ -9,4 +9,4 @@ can-take-spec =
     tie.close
     (tie.spec
     (λ c κs. search needs)
-    (λ c. search taken-if))
+    (λ c. search takes-if))

@@ -1,12 +1,12 @@
--- `line::ask::take_report` meets its contract.
-use Rattle.line.proofs.Handing.{taken-is}
+-- `line::ask::hand_report` meets its contract.
+use Rattle.line.proofs.Handing.{report-handed}
 use Rattle.line.proofs.Asking.{body-inside}
 use borrow.Author.Needs.{needs}
-use Rattle.line.proofs.ask.take_report.Statement.{statement}
-use Rattle.line.proofs.ask.take_report.Tie as tie
+use Rattle.line.proofs.ask.hand_report.Statement.{statement}
+use Rattle.line.proofs.ask.hand_report.Tie as tie
 
-pub take-report-spec : {M : Type 1} → statement M
-take-report-spec =
+pub hand-report-spec : {M : Type 1} → statement M
+hand-report-spec =
     tie.close
     (tie.spec
     (λ c κs. search needs)
@@ -21,4 +21,4 @@ take-report-spec =
     (λ c κs. search needs)
     (λ c. search needs)
     (λ c. search needs)
-    (λ c. search taken-is))
+    (λ c. search report-handed))
