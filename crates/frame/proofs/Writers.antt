@@ -17,7 +17,7 @@ use Rattle.frame.specs.declared.Header.{Header}
 use Rattle.frame.specs.declared.Written.the-variants.{Frame, DataTooLong, RoomTooSmall}
 use Rattle.frame.specs.Frame.{headerBytes, checkLength, checkBytes, lengthByte, enclosed, framed, frameOf, mostData}
 use Rattle.frame.specs.Acknowledgement.{acknowledgementLength, verdict, acknowledgement}
-use Rattle.frame.specs.Writer.{leastRoom, numberOf, writerNumber, answers, writing, frameLaid, acknowledgementLaid, closedLaid}
+use Rattle.frame.specs.Writer.{leastRoom, numberOfWritten, writerNumber, answers, writing, frameLaid, acknowledgementLaid, closedLaid}
 use Rattle.frame.proofs.Laying.{length-prefix, length-enclosed, enclosed-laid}
 
 pub length-frameOf : (checking : Bool) (header : List ℕ) (command : ℕ) (payload : List ℕ)
@@ -172,28 +172,28 @@ module _ (checking : Bool) (header : List ℕ) (n m : ℕ) (room : List ℕ) (is
         (enclosed-laid checking header (n + c) h standing room l r is-header is-l laid-r)
 
 module _ (checking : Bool) (payload room : List ℕ) where
-  pub number-14 : length room < 265 → numberOf RoomTooSmall ≡ writerNumber checking payload room
-  unfolding numberOf writerNumber
-  number-14 small = rw (lt-ltb (length room) 265 small)
+  pub number-14 : length room < leastRoom → numberOfWritten RoomTooSmall ≡ writerNumber checking payload room
+  unfolding numberOfWritten writerNumber
+  number-14 small = rw (lt-ltb (length room) leastRoom small)
 
-  module _ (m : ℕ) (is-most : m ≡ mostData checking) (roomy : 265 ≤ length room) where
-    pub number-3 : m < length payload → numberOf DataTooLong ≡ writerNumber checking payload room
-    unfolding numberOf writerNumber
-    number-3 long = rw (le-ltb (length room) 265 roomy, lt-ltb (mostData checking) (length payload) (rw is-most at long))
+  module _ (m : ℕ) (is-most : m ≡ mostData checking) (roomy : leastRoom ≤ length room) where
+    pub number-3 : m < length payload → numberOfWritten DataTooLong ≡ writerNumber checking payload room
+    unfolding numberOfWritten writerNumber
+    number-3 long = rw (le-ltb (length room) leastRoom roomy, lt-ltb (mostData checking) (length payload) (rw is-most at long))
 
-    pub number-0 : (n : ℕ) → length payload ≤ m → numberOf (Frame n) ≡ writerNumber checking payload room
-    unfolding numberOf writerNumber
-    number-0 n within = rw (le-ltb (length room) 265 roomy, le-ltb (mostData checking) (length payload) (rw is-most at within))
+    pub number-0 : (n : ℕ) → length payload ≤ m → numberOfWritten (Frame n) ≡ writerNumber checking payload room
+    unfolding numberOfWritten writerNumber
+    number-0 n within = rw (le-ltb (length room) leastRoom roomy, le-ltb (mostData checking) (length payload) (rw is-most at within))
 
 module _ (checking : Bool) (header : List ℕ) (command : ℕ) (payload room : List ℕ) where
-  pub writer-no-room : length room < 265 → answers RoomTooSmall room ≡ writing checking header command payload room
+  pub writer-no-room : length room < leastRoom → answers RoomTooSmall room ≡ writing checking header command payload room
   unfolding writing
-  writer-no-room small = rw (lt-ltb (length room) 265 small)
+  writer-no-room small = rw (lt-ltb (length room) leastRoom small)
 
-  module _ (m : ℕ) (is-most : m ≡ mostData checking) (roomy : 265 ≤ length room) where
+  module _ (m : ℕ) (is-most : m ≡ mostData checking) (roomy : leastRoom ≤ length room) where
     pub writer-too-long : m < length payload → answers DataTooLong room ≡ writing checking header command payload room
     unfolding writing
-    writer-too-long long = rw (le-ltb (length room) 265 roomy, lt-ltb (mostData checking) (length payload) (rw is-most at long))
+    writer-too-long long = rw (le-ltb (length room) leastRoom roomy, lt-ltb (mostData checking) (length payload) (rw is-most at long))
 
     -- 265 bytes hold every frame
     pub writer-done : (r : ℕ) (room′ : List ℕ) → length header ≤ 2 → length payload ≤ m
@@ -206,4 +206,4 @@ module _ (checking : Bool) (header : List ℕ) (command : ℕ) (payload room : L
         omega (arith, length-frameOf checking header command payload, length-most checking) in
         let is : lays r room′ ≡ lays (length (frameOf checking header command payload)) (over (frameOf checking header command payload) room) =
         is-laid ∙ frame-laid checking header command payload room within′ size in
-        rw (le-ltb (length room) 265 roomy, le-ltb (mostData checking) (length payload) within′) (ap (λ (l : Laid). answers (Frame (l .count)) (l .room)) is)
+        rw (le-ltb (length room) leastRoom roomy, le-ltb (mostData checking) (length payload) within′) (ap (λ (l : Laid). answers (Frame (l .count)) (l .room)) is)

@@ -47,6 +47,10 @@ leastLength checking = 1 + checkLength checking
 abbrev pub longestFrame : ℕ
 longestFrame = 258
 
+-- the same behind a header of any length: L is one byte
+abbrev pub longestWith : List ℕ → ℕ
+longestWith header = length header + 256
+
 -- "Data is at most 252 bytes with checking and 254 without": the most that any frame carries, and what a frame carries under a choice
 abbrev pub mostPayload : ℕ
 mostPayload = 254

@@ -16,10 +16,10 @@ abbrev pub leastRoom : ℕ
 leastRoom = 265
 
 -- 01's number of each answer
-unfoldable pub numberOf : Written → ℕ
-numberOf (Frame n) = 0
-numberOf DataTooLong = 3
-numberOf RoomTooSmall = 14
+unfoldable pub numberOfWritten : Written → ℕ
+numberOfWritten (Frame n) = 0
+numberOfWritten DataTooLong = 3
+numberOfWritten RoomTooSmall = 14
 
 -- "The first number in order whose condition holds is given": 14 for "writer's room below 265", 3 for "data over the limit", 0 for "done"
 unfoldable pub writerNumber : Bool → List ℕ → List ℕ → ℕ

@@ -4,9 +4,9 @@ ghost use mathlib.Core.List.{[], _∷_, _++_};
 ghost use Prim.Native.Nat.{_+_, _≤_};
 ghost use lib.ListN.{length, take};
 ghost use Rattle.wire.specs.Room.{over, lays};
-ghost use Rattle.frame.specs.Frame.{headerBytes, checkLength, checkBytes, enclosed, mostData};
+ghost use Rattle.frame.specs.Frame.{headerBytes, checkLength, checkBytes, enclosed, mostPayload, mostData};
 ghost use Rattle.frame.specs.Acknowledgement.{verdict};
-ghost use Rattle.frame.specs.Writer.{numberOf, writerNumber, answers, writing, frameLaid, acknowledgementLaid, closedLaid};
+ghost use Rattle.frame.specs.Writer.{numberOfWritten, writerNumber, answers, writing, frameLaid, acknowledgementLaid, closedLaid};
 
 // The header set up for the line.
 pub struct Header {
@@ -56,7 +56,7 @@ pub fn check_length(checking: bool) -> usize
 // How much data a frame can carry.
 pub fn most_data(checking: bool) -> usize
     ensures { λ r. ⌜ r ≡ mostData checking ⌝ }
-    ensures { λ r. ⌜ r ≤ 254 ⌝ }
+    ensures { λ r. ⌜ r ≤ mostPayload ⌝ }
 {
     if checking { 252 } else { MOST_PAYLOAD }
 }
@@ -194,7 +194,7 @@ pub fn write_frame(
     room: &mut [u8],
 ) -> Written
     ensures { λ r. ⌜ answers r (now (room .exit)) ≡ writing checking (headerBytes header) command (now (payload .entry)) (now (room .entry)) ⌝ }
-    ensures { λ r. ⌜ numberOf r ≡ writerNumber checking (now (payload .entry)) (now (room .entry)) ⌝ }
+    ensures { λ r. ⌜ numberOfWritten r ≡ writerNumber checking (now (payload .entry)) (now (room .entry)) ⌝ }
 {
     if room.len() < LEAST_ROOM {
         return Written::RoomTooSmall;

@@ -2,16 +2,15 @@
 use mathlib.Core.Path.{_≡_, refl}
 use mathlib.Core.Bool.{Bool, true, false, cond}
 use mathlib.Core.List.{List, [], _∷_, _++_, append-assoc}
-use Prim.Native.Nat.{ℕ, suc, _+_, _<_}
+use Prim.Native.Nat.{ℕ, _+_, _<_}
 use native.Mathlib.Omega.{arith}
 use borrow.Author.Tests.{ltb-true, lt-ltb}
 use lib.Dec.{eqb, ltb}
-use lib.ListN.{length, getD, take, drop}
+use lib.ListN.{length, getD, take}
 use Rattle.frame.specs.Frame.{leastLength}
-use Rattle.reading.specs.Place.{Rules, pass, wait, cutShort, judged, afterHeader, behind, look}
-use Rattle.reading.specs.Moves.{isPass, passes}
-use Rattle.place.proofs.Stops.{look-nothing}
-use Rattle.line.specs.State.{decidedAt}
+use Rattle.reading.specs.Place.{Rules, pass, wait, cutShort, decidedByCheck, afterHeader, behind, look}
+use Rattle.reading.specs.Moves.{isPass}
+use Rattle.line.specs.Inner.{decidedAt}
 use Rattle.line.proofs.Truths.{never}
 
 -- while fewer than w bytes are held, with these in front, the front waits
@@ -36,8 +35,8 @@ blind-length : (checking : Bool) (l : ℕ) (xs ys : List ℕ) → isPass (afterH
 unfolding afterHeader cutShort isPass
 blind-length checking l xs ys stands short = go (ltb l (leastLength checking)) stands
   where
-    go : (b : Bool) → isPass (cond b pass (cond (ltb (length xs) l) wait (judged checking (take l xs)))) ≡ false
-        → cond b pass (cond (ltb (length (xs ++ ys)) l) wait (judged checking (take l (xs ++ ys)))) ≡ wait
+    go : (b : Bool) → isPass (cond b pass (cond (ltb (length xs) l) wait (decidedByCheck checking (take l xs)))) ≡ false
+        → cond b pass (cond (ltb (length (xs ++ ys)) l) wait (decidedByCheck checking (take l (xs ++ ys)))) ≡ wait
     go true is = never (cc)
     go false is = rw (lt-ltb (length (xs ++ ys)) l short)
 
@@ -65,14 +64,3 @@ blind-whole rules xs stands ys below = go (ltb (length (rules .header)) (length 
         → behind (rules .checking) false (rules .header) (xs ++ ys) ≡ wait
     go true is below = blind-behind (rules .checking) (rules .header) xs ys stands (ltb-true (length (rules .header)) (length xs) is) below
     go false is below = absurd (omega arith)
-
--- what is left once all that is passed over has been is not passed over
-pub left-stands : (rules : Rules) (xs : List ℕ) → isPass (look rules false (drop (passes rules false xs) xs)) ≡ false
-unfolding passes isPass
-left-stands rules [] = rw (look-nothing rules)
-left-stands rules (x ∷ xs) = go (isPass (look rules false (x ∷ xs))) refl (left-stands rules xs)
-  where
-    go : (b : Bool) → isPass (look rules false (x ∷ xs)) ≡ b → isPass (look rules false (drop (passes rules false xs) xs)) ≡ false
-        → isPass (look rules false (drop (cond b (suc (passes rules false xs)) 0) (x ∷ xs))) ≡ false
-    go true is ih = ih
-    go false is ih = is

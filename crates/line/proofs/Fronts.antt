@@ -1,28 +1,28 @@
 -- Laws of what the small functions answer.
 use mathlib.Core.Path.{_≡_, sym, ap, _∙_}
 use mathlib.Core.Bool.{Bool, not, _&&_}
-use mathlib.Core.List.{List, [], _++_}
+use mathlib.Core.List.{List}
 use Prim.Native.Nat.{ℕ, _+_, _-_, _≤_, _<_}
 use native.Mathlib.Omega.{arith}
 use borrow.Author.Tests.{lt-ltb, le-ltb}
 use lib.Dec.{ltb}
 use lib.ListN.{length, getD, take, drop, length-drop}
 use lib.Seq.{length-take-le}
-use Rattle.frame.specs.Frame.{checkLength, contentOf}
+use Rattle.frame.specs.Frame.{checkLength, contentOf, longestFrame}
 use Rattle.place.specs.declared.Look.{Look}
 use Rattle.place.specs.declared.Look.the-variants.{Bad, Good}
 use Rattle.line.specs.declared.Report.the-variants.{Accepted, BadCheck}
-use Rattle.line.specs.State.{padded, decidedAt}
+use Rattle.line.specs.Inner.{decidedAt}
 use Rattle.line.specs.Methods.{isAnswer, takes, span, told}
 use Rattle.line.proofs.Padding.{drop-take}
 
-pub taken-if : (n : ℕ) (head : Look) (r : Bool) → r ≡ isAnswer head → (ltb n 258 && not r) ≡ takes n head
-taken-if n head r is = rw is
+pub takes-if : (n : ℕ) (head : Look) (r : Bool) → r ≡ isAnswer head → (ltb n longestFrame && not r) ≡ takes n head
+takes-if n head r is = rw is
 
 pub span-good : (header : List ℕ) (look : Look) (h l : ℕ) → h ≡ length header → look ≡ Good l → h + 1 + l ≡ span header look
 span-good header look h l is-h is = rw (is-h, is)
 
-pub span-fits : (h l : ℕ) → h ≤ 2 → l < 256 → h + 1 + l ≤ 258
+pub span-fits : (h l : ℕ) → h ≤ 2 → l < 256 → h + 1 + l ≤ longestFrame
 span-fits h l short byte = omega arith
 
 pub whole-known : (header xs : List ℕ) (h : ℕ) → h ≡ length header → h < length xs → h + 1 + getD xs h 0 ≡ decidedAt header xs

@@ -8,10 +8,10 @@ use native.Mathlib.Omega.{arith}
 use mir.Val.{Fits}
 use mir.Syntax.{w64}
 use lib.Dec.{eqb, ltb}
-use lib.ListN.{length, getD, take, drop, set, length-take, length-drop, length-set}
+use lib.ListN.{length, getD, take, drop, set, length-drop, length-set}
 use lib.Seq.{take-length, length-take-le, take-all, drop-drop, take-take}
 use Rattle.wire.specs.Room.{over}
-use Rattle.frame.specs.Frame.{headerBytes, checkLength, contentOf}
+use Rattle.frame.specs.Frame.{headerBytes, checkLength, contentOf, longestFrame, mostPayload}
 use Rattle.reading.specs.Moves.{passes, stillClosed, settled}
 use Rattle.place.specs.declared.Look.{Look}
 use Rattle.place.specs.declared.Look.the-variants.{Wait}
@@ -22,19 +22,20 @@ use Rattle.line.specs.declared.Line.{Line}
 use Rattle.line.specs.declared.Reader.{Reader}
 use Rattle.line.specs.declared.Report.{Report}
 use Rattle.line.specs.declared.Report.the-variants.{Nothing}
-use Rattle.line.specs.declared.Taken.{Taken}
+use Rattle.line.specs.declared.Handover.{Handover}
 use Rattle.line.specs.declared.Asked.{Asked}
 use Rattle.line.specs.declared.Fed.{Fed}
-use Rattle.line.specs.State.{rulesFor, padded, opened, settledReader}
-use Rattle.line.specs.Methods.{bodyLength, span, told, busy, gave, givenBytes, readerWith, askedWith, taken, asked}
+use Rattle.line.specs.Inner.{answerWithReport, askedWith, readerWith, opened}
+use Rattle.line.specs.State.{rulesFor, padded, settledReader}
+use Rattle.line.specs.Methods.{bodyLength, span, told, busy, gave, givenBytes, asked}
 use Rattle.line.proofs.Padding.{drop-take, length-padded, laid-empty, set-behind}
 use Rattle.line.proofs.Fronts.{content-part}
 use Rattle.line.proofs.Settling.{stop-inside, settled-is}
 use Rattle.line.proofs.Feeding.{old-few, old-fits, old-front, bytes-given}
-use Rattle.line.proofs.Asking.{frame-held, held-fits, nothing-asked, report-asked}
+use Rattle.line.proofs.Asking.{askGives, nothing-asked, report-asked}
 
 -- bytes laid over the front of an array
-pub end-inside : (n : ℕ) (held : List ℕ) → n ≤ 258 → length held ≡ 258 → n ≤ length held
+pub end-inside : (n : ℕ) (held : List ℕ) → n ≤ longestFrame → length held ≡ longestFrame → n ≤ length held
 end-inside n held few long = omega arith
 
 pub copied-over : (xs out out′ : List ℕ) → out′ ≡ take (length xs) xs ++ drop (length xs) out → out′ ≡ over xs out
@@ -56,44 +57,44 @@ empty-room size n out empty fits =
     let long : length out ≡ size = rw empty (length-padded size [] (omega arith)) in
     omega arith
 
-pub kept-all : (held left left′ : List ℕ) → length held ≡ 258 → left ≡ padded 258 [] → left′ ≡ over (take (258 - 0) (drop 0 held)) left → left′ ≡ held
+pub all-stays : (held left left′ : List ℕ) → length held ≡ longestFrame → left ≡ padded longestFrame [] → left′ ≡ over (take (longestFrame - 0) (drop 0 held)) left → left′ ≡ held
 unfolding padded
-kept-all held left left′ long empty is =
-    let all : take (258 - 0) (drop 0 held) ≡ held = take-all (258 - 0) held (omega arith) in
-    over-empty 258 (take (258 - 0) (drop 0 held)) left left′ empty is ∙ ap (padded 258) all ∙ full
+all-stays held left left′ long empty is =
+    let all : take (longestFrame - 0) (drop 0 held) ≡ held = take-all (longestFrame - 0) held (omega arith) in
+    over-empty longestFrame (take (longestFrame - 0) (drop 0 held)) left left′ empty is ∙ ap (padded longestFrame) all ∙ full
   where
-    full : padded 258 held ≡ held
+    full : padded longestFrame held ≡ held
     full =
-        let z : 258 - length held ≡ 0 = omega arith in
+        let z : longestFrame - length held ≡ 0 = omega arith in
         rw (z, append-nil held)
 
 -- data of up to three bytes, one by one
-module _ (out : List ℕ) (empty : out ≡ padded 254 []) where
+module _ (out : List ℕ) (empty : out ≡ padded mostPayload []) where
   pub first-place : 0 < length out
-  first-place = omega (arith, empty-room 254 254 out empty (omega arith))
+  first-place = omega (arith, empty-room mostPayload mostPayload out empty (omega arith))
 
   pub second-place : (b : ℕ) → 1 < length (set out 0 b)
-  second-place b = omega (arith, length-set out 0 b, empty-room 254 254 out empty (omega arith))
+  second-place b = omega (arith, length-set out 0 b, empty-room mostPayload mostPayload out empty (omega arith))
 
   pub third-place : (b c : ℕ) → 2 < length (set (set out 0 b) 1 c)
-  third-place b c = omega (arith, length-set (set out 0 b) 1 c, length-set out 0 b, empty-room 254 254 out empty (omega arith))
+  third-place b c = omega (arith, length-set (set out 0 b) 1 c, length-set out 0 b, empty-room mostPayload mostPayload out empty (omega arith))
 
-  one : (b : ℕ) → set out 0 b ≡ padded 254 (b ∷ [])
-  one b = rw empty (set-behind 254 0 b [] refl (omega arith))
+  one : (b : ℕ) → set out 0 b ≡ padded mostPayload (b ∷ [])
+  one b = rw empty (set-behind mostPayload 0 b [] refl (omega arith))
 
-  two : (b c : ℕ) → set (set out 0 b) 1 c ≡ padded 254 (b ∷ c ∷ [])
-  two b c = rw (one b) (set-behind 254 1 c (b ∷ []) refl (omega arith))
+  two : (b c : ℕ) → set (set out 0 b) 1 c ≡ padded mostPayload (b ∷ c ∷ [])
+  two b c = rw (one b) (set-behind mostPayload 1 c (b ∷ []) refl (omega arith))
 
-  three : (b c d : ℕ) → set (set (set out 0 b) 1 c) 2 d ≡ padded 254 (b ∷ c ∷ d ∷ [])
-  three b c d = rw (two b c) (set-behind 254 2 d (b ∷ c ∷ []) refl (omega arith))
+  three : (b c d : ℕ) → set (set (set out 0 b) 1 c) 2 d ≡ padded mostPayload (b ∷ c ∷ d ∷ [])
+  three b c d = rw (two b c) (set-behind mostPayload 2 d (b ∷ c ∷ []) refl (omega arith))
 
-  pub short-none : (body : List ℕ) (end : ℕ) → end < 2 → out ≡ padded 254 (take (end - 1) (drop 1 body))
+  pub short-none : (body : List ℕ) (end : ℕ) → end < 2 → out ≡ padded mostPayload (take (end - 1) (drop 1 body))
   short-none body end few =
       let z : end - 1 ≡ 0 = omega arith in
       rw z empty
 
   pub short-one : (body : List ℕ) (end : ℕ) → 2 ≤ end → end < 3 → end ≤ length body
-      → set out 0 (getD body 1 0) ≡ padded 254 (take (end - 1) (drop 1 body))
+      → set out 0 (getD body 1 0) ≡ padded mostPayload (take (end - 1) (drop 1 body))
   short-one [] end least most inside = absurd (omega arith)
   short-one (x ∷ []) end least most inside = absurd (omega arith)
   short-one (x ∷ b ∷ body) end least most inside =
@@ -101,7 +102,7 @@ module _ (out : List ℕ) (empty : out ≡ padded 254 []) where
       rw z (one b)
 
   pub short-two : (body : List ℕ) (end : ℕ) → 3 ≤ end → end < 4 → end ≤ length body
-      → set (set out 0 (getD body 1 0)) 1 (getD body 2 0) ≡ padded 254 (take (end - 1) (drop 1 body))
+      → set (set out 0 (getD body 1 0)) 1 (getD body 2 0) ≡ padded mostPayload (take (end - 1) (drop 1 body))
   short-two [] end least most inside = absurd (omega arith)
   short-two (x ∷ []) end least most inside = absurd (omega arith)
   short-two (x ∷ b ∷ []) end least most inside = absurd (omega arith)
@@ -110,7 +111,7 @@ module _ (out : List ℕ) (empty : out ≡ padded 254 []) where
       rw z (two b c)
 
   pub short-three : (body : List ℕ) (end : ℕ) → 4 ≤ end → end ≤ 4 → end ≤ length body
-      → set (set (set out 0 (getD body 1 0)) 1 (getD body 2 0)) 2 (getD body 3 0) ≡ padded 254 (take (end - 1) (drop 1 body))
+      → set (set (set out 0 (getD body 1 0)) 1 (getD body 2 0)) 2 (getD body 3 0) ≡ padded mostPayload (take (end - 1) (drop 1 body))
   short-three [] end least most inside = absurd (omega arith)
   short-three (x ∷ []) end least most inside = absurd (omega arith)
   short-three (x ∷ b ∷ []) end least most inside = absurd (omega arith)
@@ -120,7 +121,7 @@ module _ (out : List ℕ) (empty : out ≡ padded 254 []) where
       rw z (three b c d)
 
 -- the data of the frame at the front
-module _ (checking : Bool) (header : List ℕ) (head : Look) (held : List ℕ) (h l c end : ℕ) (long : length held ≡ 258) (is-h : h ≡ length header)
+module _ (checking : Bool) (header : List ℕ) (head : Look) (held : List ℕ) (h l c end : ℕ) (long : length held ≡ longestFrame) (is-h : h ≡ length header)
     (short : h ≤ 2) (is-l : l ≡ bodyLength head) (byte : l ≤ 255) (is-c : c ≡ checkLength checking) (is-end : end ≡ l - c) where
   abbrev body : List ℕ
   body = take l (drop (h + 1) held)
@@ -131,26 +132,26 @@ module _ (checking : Bool) (header : List ℕ) (head : Look) (held : List ℕ) (
   content : drop 1 (contentOf checking (take (bodyLength head) (drop (length header + 1) held))) ≡ take (end - 1) (drop 1 body)
   content = rw (← is-l, ← is-h) (content-part checking body c end is-c (rw body-long is-end))
 
-  pub payload-short : (out′ : List ℕ) → out′ ≡ padded 254 (take (end - 1) (drop 1 (take (h + 1 + l - (h + 1)) (drop (h + 1) held))))
-      → out′ ≡ padded 254 (drop 1 (contentOf checking (take (bodyLength head) (drop (length header + 1) held))))
+  pub payload-short : (out′ : List ℕ) → out′ ≡ padded mostPayload (take (end - 1) (drop 1 (take (h + 1 + l - (h + 1)) (drop (h + 1) held))))
+      → out′ ≡ padded mostPayload (drop 1 (contentOf checking (take (bodyLength head) (drop (length header + 1) held))))
   payload-short out′ is =
       let z : h + 1 + l - (h + 1) ≡ l = omega arith in
       rw content (rw z at is)
 
-  pub payload-long : (out out′ : List ℕ) → 5 ≤ end → out ≡ padded 254 [] → out′ ≡ over (take (h + 1 + end - (h + 1 + 1)) (drop (h + 1 + 1) held)) out
-      → out′ ≡ padded 254 (drop 1 (contentOf checking (take (bodyLength head) (drop (length header + 1) held))))
+  pub payload-long : (out out′ : List ℕ) → 5 ≤ end → out ≡ padded mostPayload [] → out′ ≡ over (take (h + 1 + end - (h + 1 + 1)) (drop (h + 1 + 1) held)) out
+      → out′ ≡ padded mostPayload (drop 1 (contentOf checking (take (bodyLength head) (drop (length header + 1) held))))
   payload-long out out′ much empty is =
       let z : h + 1 + end - (h + 1 + 1) ≡ end - 1 = omega arith in
       let part : take (end - 1) (drop (h + 1 + 1) held) ≡ take (end - 1) (drop 1 body) =
       sym (rw (drop-take 1 l (drop (h + 1) held), drop-drop 1 (h + 1) held) (take-take (end - 1) (l - 1) (drop (h + 1 + 1) held) (omega arith))) in
-      rw content (over-empty 254 (take (h + 1 + end - (h + 1 + 1)) (drop (h + 1 + 1) held)) out out′ empty is ∙ rw z (ap (padded 254) part))
+      rw content (over-empty mostPayload (take (h + 1 + end - (h + 1 + 1)) (drop (h + 1 + 1) held)) out out′ empty is ∙ rw z (ap (padded mostPayload) part))
 
 module _ (h l c end : ℕ) (short : h ≤ 2) (byte : l ≤ 255) (is-end : end ≡ l - c) (much : 5 ≤ end) where
-  pub payload-within : h + 1 + end ≤ 258
+  pub payload-within : h + 1 + end ≤ longestFrame
   payload-within = omega arith
 
-  pub payload-room : (out : List ℕ) → out ≡ padded 254 [] → h + 1 + end - (h + 1 + 1) ≤ length out
-  payload-room out empty = empty-room 254 (h + 1 + end - (h + 1 + 1)) out empty (omega arith)
+  pub payload-room : (out : List ℕ) → out ≡ padded mostPayload [] → h + 1 + end - (h + 1 + 1) ≤ length out
+  payload-room out empty = empty-room mostPayload (h + 1 + end - (h + 1 + 1)) out empty (omega arith)
 
 -- what is left behind the first k bytes held
 settled-none : (line : Line) (closed : Bool) → settled (rulesFor line) closed [] ≡ record { closed = false; bytes = [] }
@@ -158,7 +159,7 @@ unfolding settled passes stillClosed
 settled-none line false = refl
 settled-none line true = refl
 
-pub left-none : (line : Line) (closed : Bool) (n k : ℕ) (held left : List ℕ) → k ≡ n → left ≡ padded 258 []
+pub left-none : (line : Line) (closed : Bool) (n k : ℕ) (held left : List ℕ) → k ≡ n → left ≡ padded longestFrame []
     → readerWith line closed 0 Wait left ≡ settledReader line closed (take (n - k) (drop k held))
 left-none line true n k held left same empty =
     let z : n - k ≡ 0 = omega arith in
@@ -167,7 +168,7 @@ left-none line false n k held left same empty =
     let z : n - k ≡ 0 = omega arith in
     rw (z, empty, settled-none line false, look-nothing (rulesFor line))
 
-module _ (line : Line) (closed : Bool) (n k : ℕ) (held : List ℕ) (stop : Stop) (few : n ≤ 258) (long : length held ≡ 258) (inside : k ≤ n)
+module _ (line : Line) (closed : Bool) (n k : ℕ) (held : List ℕ) (stop : Stop) (few : n ≤ longestFrame) (long : length held ≡ longestFrame) (inside : k ≤ n)
     (is : stop ≡ stopOf (rulesFor line) closed (take (n - k) (drop k held))) where
   rest-long : length (take (n - k) (drop k held)) ≡ n - k
   rest-long = length-take-le (n - k) (drop k held) (simp length-drop (omega arith))
@@ -181,10 +182,10 @@ module _ (line : Line) (closed : Bool) (n k : ℕ) (held : List ℕ) (stop : Sto
   pub left-fits : Fits w64 (k + stop .at)
   left-fits = omega (arith, left-at)
 
-  pub left-room : (left : List ℕ) → left ≡ padded 258 [] → n - (k + stop .at) ≤ length left
-  left-room left empty = empty-room 258 (n - (k + stop .at)) left empty (omega arith)
+  pub left-room : (left : List ℕ) → left ≡ padded longestFrame [] → n - (k + stop .at) ≤ length left
+  left-room left empty = empty-room longestFrame (n - (k + stop .at)) left empty (omega arith)
 
-  pub left-is : (left left′ : List ℕ) → left ≡ padded 258 [] → left′ ≡ over (take (n - (k + stop .at)) (drop (k + stop .at) held)) left
+  pub left-is : (left left′ : List ℕ) → left ≡ padded longestFrame [] → left′ ≡ over (take (n - (k + stop .at)) (drop (k + stop .at) held)) left
       → readerWith line closed (n - (k + stop .at)) (stop .look) left′ ≡ settledReader line closed (take (n - k) (drop k held))
   left-is left left′ empty laid =
       let z : n - k - stop .at ≡ n - (k + stop .at) = omega arith in
@@ -192,24 +193,21 @@ module _ (line : Line) (closed : Bool) (n k : ℕ) (held : List ℕ) (stop : Sto
       ≡ take (n - (k + stop .at)) (drop (k + stop .at) held) =
       rw (rest-long, drop-take (stop .at) (n - k) (drop k held), drop-drop (stop .at) k held, z)
       (take-take (n - (k + stop .at)) (n - (k + stop .at)) (drop (k + stop .at) held) (omega arith)) in
-      let front : left′ ≡ padded 258 (take (length (take (n - k) (drop k held)) - stop .at) (drop (stop .at) (take (n - k) (drop k held)))) =
-      over-empty 258 (take (n - (k + stop .at)) (drop (k + stop .at) held)) left left′ empty laid ∙ ap (padded 258) (sym same) in
+      let front : left′ ≡ padded longestFrame (take (length (take (n - k) (drop k held)) - stop .at) (drop (stop .at) (take (n - k) (drop k held)))) =
+      over-empty longestFrame (take (n - (k + stop .at)) (drop (k + stop .at) held)) left left′ empty laid ∙ ap (padded longestFrame) (sym same) in
       rw (rest-long, z) at (settled-is line closed (take (n - k) (drop k held)) stop is left′ front)
 
 -- the report, its data and what is left
-abbrev answer : Report → List ℕ → Reader → Asked
-answer report payload reader = record { report = report; payload = payload; reader = reader }
-
-pub taken-is : (reader : Reader) (h l k len : ℕ) (look : Look) (report : Report) (payload left : List ℕ)
+pub report-handed : (reader : Reader) (h l k len : ℕ) (look : Look) (report : Report) (payload left : List ℕ)
     → k ≡ span (headerBytes (reader .line .header)) (reader .head) → h ≡ length (headerBytes (reader .line .header)) → l ≡ bodyLength (reader .head)
     → report ≡ told (reader .line .checking) (reader .head) (take (h + 1 + l - (h + 1)) (drop (h + 1) (reader .held)))
     → payload
-    ≡ padded 254 (drop 1 (contentOf (reader .line .checking) (take (bodyLength (reader .head)) (drop (length (headerBytes (reader .line .header)) + 1) (reader .held)))))
+    ≡ padded mostPayload (drop 1 (contentOf (reader .line .checking) (take (bodyLength (reader .head)) (drop (length (headerBytes (reader .line .header)) + 1) (reader .held)))))
     → readerWith (reader .line) (reader .closed) len look left
     ≡ settledReader (reader .line) (reader .closed) (take (reader .len - k) (drop k (reader .held)))
-    → askedWith (reader .line) (record { report = report; len = len; closed = reader .closed && ltb 0 len; head = look }) payload left ≡ taken reader
-unfolding taken
-taken-is reader h l k len look report payload left is-k is-h is-l is-report is-payload is-left =
+    → askedWith (reader .line) (record { report = report; len = len; closed = reader .closed && ltb 0 len; head = look }) payload left ≡ answerWithReport reader
+unfolding answerWithReport
+report-handed reader h l k len look report payload left is-k is-h is-l is-report is-payload is-left =
     let z : h + 1 + l - (h + 1) ≡ l = omega arith in
     let body : List ℕ = take (bodyLength (reader .head)) (drop (length (headerBytes (reader .line .header)) + 1) (reader .held)) in
     let is-told : report ≡ told (reader .line .checking) (reader .head) body = is-report ∙ rw (z, is-h, is-l) in
@@ -217,48 +215,41 @@ taken-is reader h l k len look report payload left is-k is-h is-l is-report is-p
     ≡ settledReader (reader .line) (reader .closed)
     (take (reader .len - span (headerBytes (reader .line .header)) (reader .head)) (drop (span (headerBytes (reader .line .header)) (reader .head)) (reader .held))) =
     rw (← is-k) is-left in
-    rw (is-told, is-payload) (ap (answer (told (reader .line .checking) (reader .head) body) (padded 254 (drop 1 (contentOf (reader .line .checking) body)))) rest)
+    rw (is-told, is-payload) (ap (askGives (told (reader .line .checking) (reader .head) body) (padded mostPayload (drop 1 (contentOf (reader .line .checking) body)))) rest)
 
 module _ (reader : Reader) (k : ℕ) (is-k : k ≡ span (headerBytes (reader .line .header)) (reader .head)) where
-  pub kept-asked : (t : Taken) (payload left : List ℕ) → (eqb k 0 || ltb (reader .len) k || ltb 258 (reader .len)) ≡ true → payload ≡ padded 254 []
+  pub nothing-handed-asked : (t : Handover) (payload left : List ℕ) → (eqb k 0 || ltb (reader .len) k || ltb longestFrame (reader .len)) ≡ true → payload ≡ padded mostPayload []
       → t ≡ record { report = Nothing; len = reader .len; closed = reader .closed; head = reader .head } → left ≡ reader .held
       → askedWith (reader .line) t payload left ≡ asked reader
-  kept-asked t payload left none empty is-t is-left = rw (is-t, is-left) (nothing-asked reader k is-k payload none empty)
+  nothing-handed-asked t payload left none empty is-t is-left = rw (is-t, is-left) (nothing-asked reader k is-k payload none empty)
 
-  pub taken-asked : (a : Asked) → (eqb k 0 || ltb (reader .len) k || ltb 258 (reader .len)) ≡ false → a ≡ taken reader → a ≡ asked reader
-  unfolding taken asked
-  taken-asked a obeyed is =
+  pub report-handed-asked : (a : Asked) → (eqb k 0 || ltb (reader .len) k || ltb longestFrame (reader .len)) ≡ false → a ≡ answerWithReport reader → a ≡ asked reader
+  unfolding answerWithReport asked
+  report-handed-asked a obeyed is =
       let h : ℕ = length (headerBytes (reader .line .header)) in
       let l : ℕ = bodyLength (reader .head) in
       let z : h + 1 + l - (h + 1) ≡ l = omega arith in
-      is ∙ report-asked reader k is-k h l (taken reader .report) (taken reader .payload) (taken reader .reader) obeyed refl refl (rw z) (rw z) (rw is-k)
+      is ∙ report-asked reader k is-k h l (answerWithReport reader .report) (answerWithReport reader .payload) (answerWithReport reader .reader) obeyed refl refl (rw z) (rw z) (rw is-k)
 
 -- the bytes of a reader that takes inputs, at the front of an empty array
-pub front-packed : (n : ℕ) (old empty held : List ℕ) → empty ≡ padded 258 [] → held ≡ over (take (n - 0) (drop 0 old)) empty → held ≡ padded 258 (take n old)
-front-packed n old empty held none is = over-empty 258 (take (n - 0) (drop 0 old)) empty held none is ∙ ap (λ (k : ℕ). padded 258 (take k old)) (sub-zero n)
+pub front-packed : (n : ℕ) (old empty held : List ℕ) → empty ≡ padded longestFrame [] → held ≡ over (take (n - 0) (drop 0 old)) empty → held ≡ padded longestFrame (take n old)
+front-packed n old empty held none is = over-empty longestFrame (take (n - 0) (drop 0 old)) empty held none is ∙ ap (λ (k : ℕ). padded longestFrame (take k old)) (sub-zero n)
 
-pub front-room : (reader : Reader) (r : Bool) (empty : List ℕ) → r ≡ busy reader → r ≡ false → empty ≡ padded 258 [] → reader .len - 0 ≤ length empty
-front-room reader r empty is free none = empty-room 258 (reader .len - 0) empty none (omega (arith, old-few reader r is free))
+pub front-room : (reader : Reader) (r : Bool) (empty : List ℕ) → r ≡ busy reader → r ≡ false → empty ≡ padded longestFrame [] → reader .len - 0 ≤ length empty
+front-room reader r empty is free none = empty-room longestFrame (reader .len - 0) empty none (omega (arith, old-few reader r is free))
 
-module _ (reader : Reader) (r : Bool) (is : r ≡ busy reader) (free : r ≡ false) (empty held : List ℕ) (none : empty ≡ padded 258 [])
-    (laid : held ≡ over (take (reader .len - 0) (drop 0 (reader .held))) empty) (long : length (reader .held) ≡ 258) where
-  packed : held ≡ padded 258 (take (reader .len) (reader .held))
+module _ (reader : Reader) (r : Bool) (is : r ≡ busy reader) (free : r ≡ false) (empty held : List ℕ) (none : empty ≡ padded longestFrame [])
+    (laid : held ≡ over (take (reader .len - 0) (drop 0 (reader .held))) empty) (long : length (reader .held) ≡ longestFrame) where
+  packed : held ≡ padded longestFrame (take (reader .len) (reader .held))
   packed = front-packed (reader .len) (reader .held) empty held none laid
 
-  pub front-long : length held ≡ 258
-  front-long = rw packed (length-padded 258 (take (reader .len) (reader .held)) (old-fits reader r is free))
+  pub front-long : length held ≡ longestFrame
+  front-long = rw packed (length-padded longestFrame (take (reader .len) (reader .held)) (old-fits reader r is free))
 
-  pub front-held : held ≡ padded 258 (take (reader .len) held)
+  pub front-held : held ≡ padded longestFrame (take (reader .len) held)
   front-held = old-front reader r is free long held packed
 
   pub all-given : (bytes held′ : List ℕ) (fed : Fed) → (length bytes ≡ 0 → ⊥)
       → gave (fed .used) (opened (reader .line) held′ (fed .len) (fed .head)) ≡ givenBytes (opened (reader .line) held (reader .len) Wait) bytes
       → gave (fed .used) (opened (reader .line) held′ (fed .len) (fed .head)) ≡ givenBytes reader bytes
   all-given = bytes-given reader r is free long held packed
-
--- a byte of a block, behind those that are held
-pub byte-behind : (n need : ℕ) (held bytes : List ℕ) → n + 1 < need → need ≤ 258 → 0 < length bytes → length held ≡ 258 → held ≡ padded 258 (take n held)
-    → set held n (getD bytes 0 0) ≡ padded 258 (take n held ++ take 1 bytes)
-byte-behind n need held [] known least some long front = absurd (omega arith)
-byte-behind n need held (b ∷ bytes) known least some long front =
-    ap (λ (l : List ℕ). set l n b) front ∙ set-behind 258 n b (take n held) (length-take-le n held (omega arith)) (omega arith)

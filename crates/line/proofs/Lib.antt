@@ -7,6 +7,8 @@ pub mod Asking
 pub mod Stepping
 pub mod Blindness
 pub mod Feeding
+pub mod Blocks
+pub mod Noise
 pub mod Carried
 pub mod Determined
 pub mod Handing

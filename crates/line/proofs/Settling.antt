@@ -9,14 +9,17 @@ use lib.Dec.{ltb}
 use lib.ListN.{length, take, drop, length-drop, drop-of-length-le}
 use lib.Seq.{length-take-le, take-length}
 use Rattle.wire.proofs.Parts.{part-whole}
+use Rattle.frame.specs.Frame.{longestFrame}
 use Rattle.reading.specs.Place.{Rules, look}
 use Rattle.reading.specs.Moves.{isPass, passes, stillClosed, settled}
 use Rattle.place.specs.declared.Stop.{Stop}
 use Rattle.place.specs.Looks.{stopOf}
+use Rattle.place.proofs.Stops.{look-nothing, still-there, still-over}
 use Rattle.line.specs.declared.Line.{Line}
 use Rattle.line.specs.declared.Reader.{Reader}
 use Rattle.line.specs.declared.Rest.{Rest}
-use Rattle.line.specs.State.{rulesFor, padded, settledReader, leftOf, restOf}
+use Rattle.line.specs.Inner.{restOf, leftOf}
+use Rattle.line.specs.State.{rulesFor, padded, settledReader}
 use Rattle.line.proofs.Padding.{drop-take, length-padded}
 
 pub passes-le : (rules : Rules) (closed : Bool) (xs : List ℕ) → passes rules closed xs ≤ length xs
@@ -28,7 +31,20 @@ passes-le rules closed (x ∷ xs) = go (isPass (look rules closed (x ∷ xs))) (
     go true h = omega arith
     go false h = omega arith
 
-pub prefix-long : (n : ℕ) (held : List ℕ) → n ≤ 258 → length held ≡ 258 → n ≡ length (take n held)
+-- what is left once all that is passed over has been is not passed over
+pub left-stands : (rules : Rules) (closed : Bool) (xs : List ℕ)
+    → isPass (look rules (stillClosed closed (drop (passes rules closed xs) xs)) (drop (passes rules closed xs) xs)) ≡ false
+unfolding passes isPass
+left-stands rules closed [] = rw (still-over closed, look-nothing rules)
+left-stands rules closed (x ∷ xs) = go (isPass (look rules closed (x ∷ xs))) refl (left-stands rules closed xs)
+  where
+    go : (b : Bool) → isPass (look rules closed (x ∷ xs)) ≡ b
+        → isPass (look rules (stillClosed closed (drop (passes rules closed xs) xs)) (drop (passes rules closed xs) xs)) ≡ false
+        → isPass (look rules (stillClosed closed (drop (cond b (suc (passes rules closed xs)) 0) (x ∷ xs))) (drop (cond b (suc (passes rules closed xs)) 0) (x ∷ xs))) ≡ false
+    go true is ih = ih
+    go false is ih = rw (still-there closed x xs) is
+
+pub prefix-long : (n : ℕ) (held : List ℕ) → n ≤ longestFrame → length held ≡ longestFrame → n ≡ length (take n held)
 prefix-long n held few long = sym (length-take-le n held (omega arith))
 
 abbrev stays : Line → Bool → List ℕ → List ℕ
@@ -69,17 +85,17 @@ module _ (line : Line) (closed : Bool) (xs : List ℕ) (stop : Stop) (is : stop 
   closed-is : (closed && ltb 0 (length xs - stop .at)) ≡ settled (rulesFor line) closed xs .closed
   closed-is = rw (← left-long) (settled-closed line closed xs)
 
-  pub settled-is : (left : List ℕ) → left ≡ padded 258 (take (length xs - stop .at) (drop (stop .at) xs))
+  pub settled-is : (left : List ℕ) → left ≡ padded longestFrame (take (length xs - stop .at) (drop (stop .at) xs))
       → _≡_ {A = Reader}
       (record { line = line; held = left; len = length xs - stop .at; closed = closed && ltb 0 (length xs - stop .at); head = stop .look })
       (settledReader line closed xs)
   settled-is left is-left =
-      let front : left ≡ padded 258 (stays line closed xs) = is-left ∙ ap (padded 258) (part-whole xs (stop .at) ∙ sym left-is) in
+      let front : left ≡ padded longestFrame (stays line closed xs) = is-left ∙ ap (padded longestFrame) (part-whole xs (stop .at) ∙ sym left-is) in
       rw (closed-is, front, ← left-long, stop-look)
 
 -- the same in an open stretch, with the bytes at the front of an array
 module _ (line : Line) (n : ℕ) (held : List ℕ) (stop : Stop) (is : stop ≡ stopOf (rulesFor line) false (take n held))
-    (few : n ≤ 258) (long : length held ≡ 258) where
+    (few : n ≤ longestFrame) (long : length held ≡ longestFrame) where
   abbrev bytes : List ℕ
   bytes = take n held
 
@@ -100,16 +116,16 @@ module _ (line : Line) (n : ℕ) (held : List ℕ) (stop : Stop) (is : stop ≡ 
   pub rest-moved : _≡_ {A = Rest} (record { len = n - stop .at; head = stop .look }) (restOf line bytes)
   rest-moved = rest-is (n - stop .at) refl
 
-  pub held-stays : stop .at ≡ 0 → held ≡ padded 258 bytes → held ≡ padded 258 (leftOf line bytes)
-  held-stays none front = front ∙ ap (padded 258) (sym (left-is line false bytes stop is ∙ ap (λ (k : ℕ). drop k bytes) none))
+  pub held-stays : stop .at ≡ 0 → held ≡ padded longestFrame bytes → held ≡ padded longestFrame (leftOf line bytes)
+  held-stays none front = front ∙ ap (padded longestFrame) (sym (left-is line false bytes stop is ∙ ap (λ (k : ℕ). drop k bytes) none))
 
-  pub held-moved : (left held′ : List ℕ) → left ≡ padded 258 (take (n - stop .at) (drop (stop .at) held))
-      → held′ ≡ take (length left) left ++ drop (length left) held → held′ ≡ padded 258 (leftOf line bytes)
+  pub held-moved : (left held′ : List ℕ) → left ≡ padded longestFrame (take (n - stop .at) (drop (stop .at) held))
+      → held′ ≡ take (length left) left ++ drop (length left) held → held′ ≡ padded longestFrame (leftOf line bytes)
   held-moved left held′ is-left is-held =
-      let front : left ≡ padded 258 (leftOf line bytes) =
-      is-left ∙ ap (padded 258) (sym (left-is line false bytes stop is ∙ drop-take (stop .at) n held)) in
-      let few-left : length (leftOf line bytes) ≤ 258 = omega (arith, left-long line false bytes stop is, bytes-long) in
-      let full : length left ≡ 258 = rw front (length-padded 258 (leftOf line bytes) few-left) in
+      let front : left ≡ padded longestFrame (leftOf line bytes) =
+      is-left ∙ ap (padded longestFrame) (sym (left-is line false bytes stop is ∙ drop-take (stop .at) n held)) in
+      let few-left : length (leftOf line bytes) ≤ longestFrame = omega (arith, left-long line false bytes stop is, bytes-long) in
+      let full : length left ≡ longestFrame = rw front (length-padded longestFrame (leftOf line bytes) few-left) in
       let past : length held ≤ length left = omega arith in
       let none : drop (length left) held ≡ [] = drop-of-length-le held past in
       is-held ∙ rw (none, take-length left, append-nil) front

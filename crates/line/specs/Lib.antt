@@ -1,3 +1,4 @@
 pub mod State
 pub mod Methods
 pub mod Reached
+pub mod Inner

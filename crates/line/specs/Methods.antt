@@ -1,16 +1,14 @@
 -- What each method of the reader answers, on every reader.
-use Prim.Native.Nat.{ℕ, _+_, _-_}
+use Prim.Native.Nat.{ℕ, _+_}
 use mathlib.Core.Bool.{Bool, true, false, cond, not, _&&_, _||_}
 use mathlib.Core.List.{List, [], _∷_}
 use lib.Dec.{eqb, ltb}
 use lib.ListN.{length, getD, take, drop}
-use Rattle.frame.specs.Frame.{headerBytes, contentOf}
+use Rattle.frame.specs.Frame.{headerBytes, contentOf, longestFrame, mostPayload}
 use Rattle.reading.specs.Moves.{withByte, withMark}
 use Rattle.place.specs.declared.Look.{Look}
 use Rattle.place.specs.declared.Look.the-variants.{Pass, Wait, Bad, Good}
-use Rattle.line.specs.declared.Line.{Line}
 use Rattle.line.specs.declared.Reader.{Reader}
-use Rattle.line.specs.declared.Taken.{Taken}
 use Rattle.line.specs.declared.Answer.{Answer}
 use Rattle.line.specs.declared.Answer.the-variants.{Done, Waits}
 use Rattle.line.specs.declared.Given.{Given}
@@ -21,9 +19,9 @@ use Rattle.line.specs.declared.Asked.{Asked}
 use Rattle.line.specs.State.{rulesFor, padded, readerOf, keptOf, settledReader}
 
 -- 01's number of each answer
-unfoldable pub numberOf : Answer → ℕ
-numberOf Done = 0
-numberOf Waits = 1
+unfoldable pub numberOfAnswer : Answer → ℕ
+numberOfAnswer Done = 0
+numberOfAnswer Waits = 1
 
 abbrev pub isAnswer : Look → Bool
 isAnswer Pass = false
@@ -33,22 +31,24 @@ isAnswer (Good l) = true
 
 -- an input is taken unless a report waits; a full array takes none either (no reader that is reached is full and has no report)
 abbrev pub takes : ℕ → Look → Bool
-takes n head = ltb n 258 && not (isAnswer head)
+takes n head = ltb n longestFrame && not (isAnswer head)
 
 -- "1: an input comes while a report waits"
 abbrev pub busy : Reader → Bool
 busy reader = not (takes (reader .len) (reader .head))
 
+-- what an input is answered, and the reader as it is then
+abbrev pub gives : Answer → Reader → Given
+gives answer reader = record { answer = answer; reader = reader }
+
 -- "Bytes or marks are given one at a time"; "otherwise a refusal changes nothing"
 unfoldable pub givenByte : Reader → ℕ → Given
 givenByte reader b =
-    cond (busy reader) (record { answer = Waits; reader = reader })
-    (record { answer = Done; reader = readerOf (reader .line) (withByte (rulesFor (reader .line)) (keptOf reader) b) })
+    cond (busy reader) (gives Waits reader) (gives Done (readerOf (reader .line) (withByte (rulesFor (reader .line)) (keptOf reader) b)))
 
 unfoldable pub givenMark : Reader → Given
 givenMark reader =
-    cond (busy reader) (record { answer = Waits; reader = reader })
-    (record { answer = Done; reader = readerOf (reader .line) (withMark (rulesFor (reader .line)) (keptOf reader)) })
+    cond (busy reader) (gives Waits reader) (gives Done (readerOf (reader .line) (withMark (rulesFor (reader .line)) (keptOf reader))))
 
 -- bytes given one after the other until one is refused
 abbrev pub gave : ℕ → Reader → Gave
@@ -83,27 +83,6 @@ told checking Wait body = Nothing
 told checking (Bad command) body = BadCheck command
 told checking (Good l) body = Accepted (getD body 0 0) (length (drop 1 (contentOf checking body)))
 
--- the reader with these bytes left of a stretch: it is closed only while some are left
-abbrev pub readerWith : Line → Bool → ℕ → Look → List ℕ → Reader
-readerWith line closed n head held = record { line = line; held = held; len = n; closed = closed && ltb 0 n; head = head }
-
--- an answer with its two arrays
-abbrev pub askedWith : Line → Taken → List ℕ → List ℕ → Asked
-askedWith line t payload held =
-    record { report = t .report; payload = payload; reader = record { line = line; held = held; len = t .len; closed = t .closed; head = t .head } }
-
--- what an ask answers where the report at the front is handed over
-unfoldable pub taken : Reader → Asked
-taken reader =
-    let header = headerBytes (reader .line .header) in
-    let checking = reader .line .checking in
-    let body = take (bodyLength (reader .head)) (drop (length header + 1) (reader .held)) in
-    record {
-      report = told checking (reader .head) body;
-      payload = padded 254 (drop 1 (contentOf checking body));
-      reader = settledReader (reader .line) (reader .closed) (take (reader .len - span header (reader .head)) (drop (span header (reader .head)) (reader .held)));
-    }
-
 -- "'Nothing' changes nothing." A head whose frame is not all held belongs to no reader that is reached, and hands nothing over.
 unfoldable pub asked : Reader → Asked
 asked reader =
@@ -112,10 +91,10 @@ asked reader =
     let xs = keptOf reader .bytes in
     let k = span header (reader .head) in
     let body = take (bodyLength (reader .head)) (drop (length header + 1) xs) in
-    cond (eqb k 0 || ltb (reader .len) k || ltb 258 (reader .len))
-    (record { report = Nothing; payload = padded 254 []; reader = reader })
+    cond (eqb k 0 || ltb (reader .len) k || ltb longestFrame (reader .len))
+    (record { report = Nothing; payload = padded mostPayload []; reader = reader })
     (record {
       report = told checking (reader .head) body;
-      payload = padded 254 (drop 1 (contentOf checking body));
+      payload = padded mostPayload (drop 1 (contentOf checking body));
       reader = settledReader (reader .line) (reader .closed) (drop k xs);
     })

@@ -5,6 +5,7 @@ use mathlib.Core.Bool.{false}
 use mathlib.Core.List.{List, [], _∷_}
 use lib.ListN.{length}
 use Rattle.wire.specs.Bytes.{Bytes}
+use Rattle.frame.specs.Frame.{longestFrame, mostPayload}
 use Rattle.reading.specs.Place as Place
 use Rattle.reading.specs.Place.{look, badCheck, acceptedFrame}
 use Rattle.reading.specs.Moves.{Kept, isPass}
@@ -16,16 +17,16 @@ use Rattle.line.specs.State.{rulesFor, padded}
 -- what holds of all that a reader keeps between inputs
 pub record Reached (line : Line) (kept : Kept) : Type 0 where
   pub are-bytes : Bytes (kept .bytes)
-  pub few : length (kept .bytes) ≤ 258
+  pub few : length (kept .bytes) ≤ longestFrame
   -- the first byte kept is one where reading stays: it waits or reports
   pub stands : isPass (look (rulesFor line) (kept .closed) (kept .bytes)) ≡ false
 
 unfoldable pub reportAs : List Place.Report → Report
 reportAs [] = Nothing
-reportAs (badCheck command ∷ reports) = BadCheck command
-reportAs (acceptedFrame command content ∷ reports) = Accepted command (length content)
+reportAs (badCheck command ∷ later) = BadCheck command
+reportAs (acceptedFrame command content ∷ later) = Accepted command (length content)
 
 unfoldable pub payloadAs : List Place.Report → List ℕ
-payloadAs [] = padded 254 []
-payloadAs (badCheck command ∷ reports) = padded 254 []
-payloadAs (acceptedFrame command content ∷ reports) = padded 254 content
+payloadAs [] = padded mostPayload []
+payloadAs (badCheck command ∷ later) = padded mostPayload []
+payloadAs (acceptedFrame command content ∷ later) = padded mostPayload content

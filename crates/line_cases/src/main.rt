@@ -7,6 +7,8 @@
 //   | a quiet mark, as a byte
 //   ? reports are asked for until there is none: F command and data, B command
 use frame::Header;
+use frame::LONGEST_FRAME;
+use frame::MOST_PAYLOAD;
 use line::Answer;
 use line::Reader;
 use line::Report;
@@ -57,12 +59,12 @@ fn front(s: &[u8], n: usize) -> &[u8] {
 }
 
 // Prints a report; answers whether there was one.
-fn put_report(report: Report, payload: [u8; 254]) -> bool {
+fn put_report(report: Report, payload: [u8; MOST_PAYLOAD]) -> bool {
     match report {
         Report::Accepted { command, len } => {
             io::write_all(1, b"F");
             put_hex(command);
-            if len <= 254 {
+            if len <= MOST_PAYLOAD {
                 put_bytes(&payload[0..len]);
             }
             io::write_all(1, b"\n");
@@ -78,11 +80,11 @@ fn put_report(report: Report, payload: [u8; 254]) -> bool {
     }
 }
 
-// No more than 258 reports can stand in what is held.
+// No more reports can stand in what is held than the longest frame has bytes.
 fn ask_all(start: Reader) -> Reader {
     let mut reader = start;
     let mut k = 0usize;
-    while k < 259 {
+    while k <= LONGEST_FRAME {
         let asked = reader.ask();
         let next = asked.reader;
         reader = next;

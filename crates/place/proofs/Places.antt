@@ -13,7 +13,7 @@ use Rattle.wire.proofs.Parts.{part-whole}
 use Rattle.check_value.specs.CheckValue.{checkValue}
 use Rattle.frame.specs.Frame.{headerBytes, checkLength, leastLength, rightCheck}
 use Rattle.frame.specs.declared.Header.{Header}
-use Rattle.reading.specs.Place.{cutShort, judged, afterHeader, behind, look}
+use Rattle.reading.specs.Place.{cutShort, decidedByCheck, afterHeader, behind, look}
 use Rattle.place.specs.declared.Look.{Look}
 use Rattle.place.specs.declared.Look.the-variants.{Pass, Wait, Bad, Good}
 use Rattle.place.specs.Looks.{rulesOf, shown}
@@ -43,13 +43,13 @@ check-off checking body off = rw off
 
 -- a whole frame
 module _ (checking : Bool) (l : ℕ) (body : List ℕ) (right : Bool) (is-right : right ≡ rightCheck checking body) where
-  pub judged-good : right ≡ true → length body ≡ l → Good l ≡ shown (judged checking body)
-  unfolding judged
-  judged-good good long = rw (sym is-right ∙ good) (ap Good (sym long))
+  pub check-good : right ≡ true → length body ≡ l → Good l ≡ shown (decidedByCheck checking body)
+  unfolding decidedByCheck
+  check-good good long = rw (sym is-right ∙ good) (ap Good (sym long))
 
-  pub judged-bad : (command : ℕ) → right ≡ false → command ≡ getD body 0 0 → Bad command ≡ shown (judged checking body)
-  unfolding judged
-  judged-bad command wrong is = rw (sym is-right ∙ wrong) (ap Bad is)
+  pub check-bad : (command : ℕ) → right ≡ false → command ≡ getD body 0 0 → Bad command ≡ shown (decidedByCheck checking body)
+  unfolding decidedByCheck
+  check-bad command wrong is = rw (sym is-right ∙ wrong) (ap Bad is)
 
 -- behind the header
 module _ (checking closed : Bool) where
@@ -80,19 +80,19 @@ module _ (checking closed : Bool) where
             let short : length xs < x = omega arith in
             rw (le-ltb x (1 + checkLength checking) enough, lt-ltb (length xs) x short) is
 
-    pub frame-whole : (r : Look) → 1 + c ≤ n → n ≤ length s - 1 → r ≡ shown (judged checking (take (1 + n - 1) (drop 1 s)))
+    pub frame-whole : (r : Look) → 1 + c ≤ n → n ≤ length s - 1 → r ≡ shown (decidedByCheck checking (take (1 + n - 1) (drop 1 s)))
         → r ≡ shown (afterHeader checking closed s)
     unfolding afterHeader leastLength
     frame-whole r least whole is = go s some is-l whole is
       where
-        go : (s : List ℕ) → (length s ≡ 0 → ⊥) → l ≡ getD s 0 0 → n ≤ length s - 1 → r ≡ shown (judged checking (take (1 + n - 1) (drop 1 s)))
+        go : (s : List ℕ) → (length s ≡ 0 → ⊥) → l ≡ getD s 0 0 → n ≤ length s - 1 → r ≡ shown (decidedByCheck checking (take (1 + n - 1) (drop 1 s)))
             → r ≡ shown (afterHeader checking closed s)
         go [] some is-l whole is = absurd (some refl)
         go (x ∷ xs) some is-l whole is =
             let enough : 1 + checkLength checking ≤ x = omega arith in
             let long : x ≤ length xs = omega arith in
             let same : 1 + n - 1 ≡ x = omega arith in
-            rw (le-ltb x (1 + checkLength checking) enough, le-ltb (length xs) x long) (is ∙ ap (λ (k : ℕ). shown (judged checking (take k xs))) same)
+            rw (le-ltb x (1 + checkLength checking) enough, le-ltb (length xs) x long) (is ∙ ap (λ (k : ℕ). shown (decidedByCheck checking (take k xs))) same)
 
 -- at a header byte
 module _ (checking closed : Bool) (h : ℕ) (header : List ℕ) where
@@ -140,8 +140,8 @@ pub ruleset places = (
   front-length,
   check-compared,
   check-off,
-  judged-good,
-  judged-bad,
+  check-good,
+  check-bad,
   behind-empty,
   length-low,
   frame-cut,

@@ -13,7 +13,8 @@ use Rattle.reading.specs.Moves.{isPass, passes, stillClosed}
 use Rattle.place.specs.declared.Look.{Look}
 use Rattle.place.specs.declared.Look.the-variants.{Wait}
 use Rattle.place.specs.declared.Stop.{Stop}
-use Rattle.place.specs.Looks.{shown, passesOver, stopOf}
+use Rattle.place.specs.Inner.{passesOver}
+use Rattle.place.specs.Looks.{shown, stopOf}
 
 -- the code's verdict passes over what the reading passes over
 pub shown-pass : (seen : Seen) → passesOver (shown seen) ≡ isPass seen

@@ -1,6 +1,6 @@
 -- What the code answers of a place, against `look` of crate reading.
 use Prim.Native.Nat.{ℕ}
-use mathlib.Core.Bool.{Bool, true, false}
+use mathlib.Core.Bool.{Bool}
 use mathlib.Core.List.{List}
 use lib.ListN.{length, getD, drop}
 use Rattle.frame.specs.Frame.{headerBytes}
@@ -21,12 +21,6 @@ shown pass = Pass
 shown wait = Wait
 shown (bad body) = Bad (getD body 0 0)
 shown (accepted body) = Good (length body)
-
-abbrev pub passesOver : Look → Bool
-passesOver Pass = true
-passesOver Wait = false
-passesOver (Bad command) = false
-passesOver (Good l) = false
 
 -- the first place that is not passed over, and what stands there; where all are passed over, what comes next begins a new stretch or
 -- goes on with an open one, so that the place behind the last byte waits

@@ -3,11 +3,12 @@
 use frame::Header;
 ghost use mathlib.Core.Path.{_≡_};
 ghost use mathlib.Core.List.{_∷_, []};
-ghost use Prim.Native.Nat.{_-_, _≤_};
+ghost use Prim.Native.Nat.{_-_};
 ghost use lib.ListN.{length};
 ghost use Rattle.frame.specs.Frame.{rightCheck};
-ghost use Rattle.reading.specs.Place.{cutShort, judged, afterHeader, behind, look};
-ghost use Rattle.place.specs.Looks.{rulesOf, shown, passesOver, stopOf};
+ghost use Rattle.reading.specs.Place.{cutShort, decidedByCheck, afterHeader, behind, look};
+ghost use Rattle.place.specs.Inner.{passesOver};
+ghost use Rattle.place.specs.Looks.{rulesOf, shown, stopOf};
 
 // What stands at a place.
 pub enum Look {
@@ -57,9 +58,9 @@ fn right_check(checking: bool, body: &[u8]) -> bool
 }
 
 // A whole frame, by its length byte and the L bytes behind it.
-fn judge(checking: bool, l: u8, body: &[u8]) -> Look
+fn by_check(checking: bool, l: u8, body: &[u8]) -> Look
     requires { ⌜ length (now body) ≡ l ⌝ }
-    ensures { λ r. ⌜ r ≡ shown (judged checking (now (body .entry))) ⌝ }
+    ensures { λ r. ⌜ r ≡ shown (decidedByCheck checking (now (body .entry))) ⌝ }
 {
     if right_check(checking, body) {
         Look::Good(l)
@@ -83,7 +84,7 @@ fn after_header(checking: bool, closed: bool, s: &[u8]) -> Look
     if s.len() - 1 < n {
         return cut_short(closed);
     }
-    judge(checking, l, &s[1..1 + n])
+    by_check(checking, l, &s[1..1 + n])
 }
 
 // What the bytes behind the first header byte make of the place.

@@ -10,19 +10,19 @@ use lib.ListN.{length, getD, take, drop, length-append, take-append-drop}
 use lib.Seq.{take-append-seam, getD-append-seam, length-take-le}
 use Rattle.wire.specs.Bytes.{Bytes}
 use Rattle.frame.specs.Frame.{leastLength, rightCheck, GoodFrame}
-use Rattle.reading.specs.Place.{Rules, pass, bad, accepted, cutShort, judged, afterHeader, behind, look}
+use Rattle.reading.specs.Place.{Rules, pass, bad, accepted, cutShort, decidedByCheck, afterHeader, behind, look}
 use Rattle.reading.proofs.Stable.{never}
 
-judged-right : (checking : Bool) (body : List ℕ) → rightCheck checking body ≡ true → judged checking body ≡ accepted body
-unfolding judged
-judged-right checking body right = rw right
+check-right : (checking : Bool) (body : List ℕ) → rightCheck checking body ≡ true → decidedByCheck checking body ≡ accepted body
+unfolding decidedByCheck
+check-right checking body right = rw right
 
 afterHeader-good : (checking closed : Bool) (body ys : List ℕ) → leastLength checking ≤ length body → rightCheck checking body ≡ true
     → afterHeader checking closed (length body ∷ (body ++ ys)) ≡ accepted body
 unfolding afterHeader
 afterHeader-good checking closed body ys least right =
     let whole : length body ≤ length (body ++ ys) = simp length-append (omega arith) in
-    rw (le-ltb (length body) (leastLength checking) least, le-ltb (length (body ++ ys)) (length body) whole, take-append-seam body ys) (judged-right checking body right)
+    rw (le-ltb (length body) (leastLength checking) least, le-ltb (length (body ++ ys)) (length body) whole, take-append-seam body ys) (check-right checking body right)
 
 behind-good : (checking closed : Bool) (header body ys : List ℕ) → leastLength checking ≤ length body → rightCheck checking body ≡ true
     → behind checking closed header (header ++ (length body ∷ (body ++ ys))) ≡ accepted body
@@ -51,9 +51,9 @@ unfolding cutShort
 cut-short-accepts-none false body is = never cc
 cut-short-accepts-none true body is = never cc
 
-judged-accepted : (checking : Bool) (body body′ : List ℕ) → judged checking body ≡ accepted body′ → (rightCheck checking body ≡ true) × (body ≡ body′)
-unfolding judged
-judged-accepted checking body body′ is = go (rightCheck checking body) refl is
+check-accepted : (checking : Bool) (body body′ : List ℕ) → decidedByCheck checking body ≡ accepted body′ → (rightCheck checking body ≡ true) × (body ≡ body′)
+unfolding decidedByCheck
+check-accepted checking body body′ is = go (rightCheck checking body) refl is
   where
     go : (b : Bool) → rightCheck checking body ≡ b → cond b (accepted body) (bad body) ≡ accepted body′ → (rightCheck checking body ≡ true) × (body ≡ body′)
     go true right is = (right, cc)
@@ -65,11 +65,11 @@ afterHeader-accepted checking closed [] body is = cut-short-accepts-none closed 
 afterHeader-accepted checking closed (l ∷ xs) body is = go (ltb l (leastLength checking)) (ltb (length xs) l) refl refl is
   where
     go : (a b : Bool) → ltb l (leastLength checking) ≡ a → ltb (length xs) l ≡ b
-        → cond a pass (cond b (cutShort closed) (judged checking (take l xs))) ≡ accepted body → Begun checking [] (l ∷ xs) body
+        → cond a pass (cond b (cutShort closed) (decidedByCheck checking (take l xs))) ≡ accepted body → Begun checking [] (l ∷ xs) body
     go true b at-least whole is = never cc
     go false true at-least whole is = cut-short-accepts-none closed body is
     go false false at-least whole is =
-        let right = judged-accepted checking (take l xs) body is in
+        let right = check-accepted checking (take l xs) body is in
         let same : take l xs ≡ body = right .1 in
         let enough : l ≤ length xs = ltb-false (length xs) l whole in
         let long : length body ≡ l = ap length (sym same) ∙ length-take-le l xs enough in

@@ -39,7 +39,7 @@ after-mark-as-new rules events earlier later given quiet = goes-on-as-new rules 
 abbrev FromClosed : Rules → Kept → Type 0
 FromClosed rules kept = (xs : List ℕ) × (kept ≡ settled rules true xs)
 
-from-closed-quiet : (rules : Rules) (xs : List ℕ) → waiting rules (settled rules true xs) ≡ false → settled rules true xs ≡ fresh
+pub from-closed-quiet : (rules : Rules) (xs : List ℕ) → waiting rules (settled rules true xs) ≡ false → settled rules true xs ≡ fresh
 unfolding settled
 from-closed-quiet rules xs quiet = go (drop (passes rules true xs) xs) (settled-settled rules true xs .is-open quiet)
   where

@@ -1,4 +1,4 @@
--- 01, "Frame": "a frame has 3 + L bytes, at most 258": so at most 257 are held while nothing waits, and never more than 258 are kept.
+-- 01, "Frame": "a frame has 3 + L bytes, at most 258": less than the longest frame is held while nothing waits, and never more than it is kept.
 use mathlib.Core.Path.{_≡_, refl}
 use mathlib.Core.Bool.{Bool, true, false, cond}
 use mathlib.Core.List.{List, [], _∷_, _++_}
@@ -6,10 +6,12 @@ use Prim.Native.Nat.{ℕ, suc, _+_, _≤_, _<_}
 use native.Mathlib.Omega.{arith}
 use lib.ListN.{length, drop, length-append, length-drop}
 use Rattle.wire.specs.Bytes.{Bytes}
+use Rattle.frame.specs.Frame.{longestFrame, longestWith}
 use Rattle.reading.specs.Place.{Rules, look, goneBy}
 use Rattle.reading.specs.Line.{byte, mark}
 use Rattle.reading.specs.Moves.{Kept, fresh, passes, settled, waiting, withByte, withMark, afterReport}
 use Rattle.reading.specs.Run.{Event, offer, ask, giving, withInput, run, offered}
+use Rattle.reading.specs.Demand3.{oneLessThanLongest}
 use Rattle.reading.proofs.ByteLists.{bytes-nil, bytes-cons, bytes-append, bytes-drop}
 use Rattle.reading.proofs.Waiting.{waits-short}
 use Rattle.reading.proofs.Settling.{Settled, fresh-settled, settled-settled, settled-shorter}
@@ -17,16 +19,16 @@ use Rattle.reading.proofs.Moves.{report-settles, nothing-changes}
 
 -- while no report waits: one byte less than the longest frame has
 pub quiet-bound : (rules : Rules) (kept : Kept) → Settled rules kept → Bytes (kept .bytes) → waiting rules kept ≡ false
-    → length (kept .bytes) ≤ length (rules .header) + 255
+    → length (kept .bytes) ≤ oneLessThanLongest (rules .header)
 quiet-bound rules kept now are quiet = waits-short rules (kept .bytes) are (now .first-waits quiet)
 
 -- in every state that is reached
 record Small (rules : Rules) (kept : Kept) : Type 0 where
   now : Settled rules kept
   are : Bytes (kept .bytes)
-  few : length (kept .bytes) ≤ length (rules .header) + 256
+  few : length (kept .bytes) ≤ longestWith (rules .header)
 
-small-settled : (rules : Rules) (closed : Bool) (xs : List ℕ) → Bytes xs → length xs ≤ length (rules .header) + 256 → Small rules (settled rules closed xs)
+small-settled : (rules : Rules) (closed : Bool) (xs : List ℕ) → Bytes xs → length xs ≤ longestWith (rules .header) → Small rules (settled rules closed xs)
 small-settled rules closed xs are few =
     record {
       now = settled-settled rules closed xs;
@@ -80,11 +82,11 @@ module _ (rules : Rules) (events : List Event) (are : Bytes (offered events)) wh
   reached = small-run rules fresh events (record { now = fresh-settled rules; are = bytes-nil; few = omega arith }) are
 
   -- at most one byte less than the longest frame has is held
-  pub held-bound : waiting rules (run rules fresh events .kept) ≡ false → length (run rules fresh events .kept .bytes) ≤ length (rules .header) + 255
+  pub held-bound : waiting rules (run rules fresh events .kept) ≡ false → length (run rules fresh events .kept .bytes) ≤ oneLessThanLongest (rules .header)
   held-bound quiet = quiet-bound rules (run rules fresh events .kept) (reached .now) (reached .are) quiet
 
   -- and in every state no more than the longest frame has
-  pub kept-bound : length (run rules fresh events .kept .bytes) ≤ length (rules .header) + 256
+  pub kept-bound : length (run rules fresh events .kept .bytes) ≤ longestWith (rules .header)
   kept-bound = reached .few
 
 -- two header bytes: 257 and 258
@@ -95,5 +97,5 @@ module _ (h1 h2 : ℕ) (checking : Bool) (events : List Event) (are : Bytes (off
   pub held-257 : waiting two (run two fresh events .kept) ≡ false → length (run two fresh events .kept .bytes) ≤ 257
   held-257 quiet = held-bound two events are quiet
 
-  pub kept-258 : length (run two fresh events .kept .bytes) ≤ 258
+  pub kept-258 : length (run two fresh events .kept .bytes) ≤ longestFrame
   kept-258 = kept-bound two events are

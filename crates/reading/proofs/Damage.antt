@@ -7,9 +7,10 @@ use native.Mathlib.Omega.{arith}
 use lib.ListN.{length, getD, take, drop, length-append, length-drop, take-append-drop}
 use lib.Seq.{take-append-le, drop-append-le, take-append-seam}
 use Rattle.wire.specs.Bytes.{Bytes}
+use Rattle.frame.specs.Frame.{longestWith}
 use Rattle.reading.specs.Place.{Rules, Seen, pass, wait, bad, accepted, Report, badCheck, acceptedFrame, look, reportOf, goneBy, isWait}
 use Rattle.reading.specs.Stretch.{reports, heldOf}
-use Rattle.reading.specs.Demand3.{Good, GoodFrames, none, next, joined, Cut, BeginsNone, acceptedOf, reportOfFrame}
+use Rattle.reading.specs.Demand3.{Good, GoodFrames, none, next, joined, Cut, BeginsNone, oneLessThanLongest, acceptedOf, reportOfFrame}
 use Rattle.reading.proofs.Stable.{stable, true-is-not-false}
 use Rattle.reading.proofs.Waiting.{closed-goes-on, long-goes-on}
 use Rattle.reading.proofs.Accepting.{good-accepted, accepted-begun, accepted-good}
@@ -89,7 +90,7 @@ tested-begins-none rules (x ∷ damage) come tested (suc p) inside frame rest is
     tested-begins-none rules damage come later p (omega arith) frame rest is good
 
 -- a good frame is no longer than the longest
-pub good-length : (rules : Rules) (frame : List ℕ) → Good rules frame → length frame ≤ length (rules .header) + 256
+pub good-length : (rules : Rules) (frame : List ℕ) → Good rules frame → length frame ≤ longestWith (rules .header)
 good-length rules frame good =
     let long : length frame ≡ length (rules .header) + suc (length (good .body)) = ap length (good .whole) ∙ simp length-append in
     omega (arith, good .most)
@@ -101,7 +102,7 @@ prefix-of frame rest xs more is long =
     sym (take-append-drop n xs) ∙ ap (λ (l : List ℕ). l ++ drop n xs) front
 
 -- the premise is settled once so many bytes have come: what comes later begins no good frame in the damage
-pub begins-none-later : (rules : Rules) (damage come more : List ℕ) → length (rules .header) + 255 ≤ length come → BeginsNone rules damage come
+pub begins-none-later : (rules : Rules) (damage come more : List ℕ) → oneLessThanLongest (rules .header) ≤ length come → BeginsNone rules damage come
     → BeginsNone rules damage (come ++ more)
 begins-none-later rules damage come more enough begins-none p inside frame rest is good =
     let whole = damage ++ come in
@@ -163,9 +164,9 @@ all-accepted rules closed xs frames tail no-more found =
     ap acceptedOf (found .1 .reported ∙ ap (λ (l : List Report). found .0 ++ l) no-more ∙ append-nil (found .0)) ∙ found .2
 
 -- "once 257 bytes have followed the damage on a line still open .. the frames accepted are exactly those good frames that had come whole, in order",
--- for a header of any length: as many bytes as the longest frame has, less one. With checking on or off.
+-- for a header of any length, with checking on or off
 module _ (rules : Rules) (damage : List ℕ) (frames : List (List ℕ)) (tail : List ℕ) (good : GoodFrames rules frames) (cut : Cut rules tail)
-    (are : Bytes (damage ++ (joined frames ++ tail))) (enough : length (rules .header) + 255 ≤ length (joined frames ++ tail))
+    (are : Bytes (damage ++ (joined frames ++ tail))) (enough : oneLessThanLongest (rules .header) ≤ length (joined frames ++ tail))
     (begins-none : BeginsNone rules damage (joined frames ++ tail)) where
   behind-open : Accepts rules false (damage ++ (joined frames ++ tail)) frames tail
   behind-open = behind-damage rules false damage frames tail good (λ xs b long. long-goes-on rules false xs b (omega arith)) are begins-none

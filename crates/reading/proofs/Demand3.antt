@@ -12,7 +12,7 @@ use Rattle.reading.specs.Place.{Rules}
 use Rattle.reading.specs.Line.{Input, byte, mark, lineReports}
 use Rattle.reading.specs.Moves.{Kept, fresh, waiting}
 use Rattle.reading.specs.Run.{Event, Ran, run}
-use Rattle.reading.specs.Demand3.{GoodFrames, joined, Cut, BeginsNone, acceptedOf, reportOfFrame, NothingHeldOrWaiting, checked}
+use Rattle.reading.specs.Demand3.{GoodFrames, joined, Cut, BeginsNone, oneLessThanLongest, acceptedOf, reportOfFrame, NothingHeldOrWaiting, checked}
 use Rattle.reading.proofs.Lines.{open-line, closed-line}
 use Rattle.reading.proofs.Settling.{empty-is-fresh}
 use Rattle.reading.proofs.Run.{reached-settled, handed-all}
@@ -39,7 +39,7 @@ module _ (rules : Rules) (earlier events : List Event) (idle : NothingHeldOrWait
 
   module _ (asked : waiting rules (since .kept) ≡ false) (damage : List ℕ) (frames : List (List ℕ)) (good : GoodFrames rules frames) where
     pub accepted-open : (tail : List ℕ) → Cut rules tail → Bytes (damage ++ (joined frames ++ tail)) → BeginsNone rules damage (joined frames ++ tail)
-        → since .given ≡ map byte (damage ++ (joined frames ++ tail)) → length (rules .header) + 255 ≤ length (joined frames ++ tail)
+        → since .given ≡ map byte (damage ++ (joined frames ++ tail)) → oneLessThanLongest (rules .header) ≤ length (joined frames ++ tail)
         → acceptedOf (since .handedOver) ≡ map (reportOfFrame rules) frames
     accepted-open tail cut are begins-none given followed =
         let came = damage ++ (joined frames ++ tail) in

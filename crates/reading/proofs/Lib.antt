@@ -13,6 +13,7 @@ pub mod Moves
 pub mod Run
 pub mod Asking
 pub mod AfterMark
+pub mod Longest
 pub mod Bounded
 pub mod Demand3
 pub mod Examples

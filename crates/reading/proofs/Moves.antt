@@ -79,7 +79,7 @@ nil-left : (these later : List Report) → these ++ later ≡ [] → these ≡ [
 nil-left [] later none = refl
 nil-left (report ∷ these) later none = never cc
 
-some-kept : (rules : Rules) (closed : Bool) (xs : List ℕ) → isReport (look rules closed xs) ≡ true → 0 < length xs
+pub some-kept : (rules : Rules) (closed : Bool) (xs : List ℕ) → isReport (look rules closed xs) ≡ true → 0 < length xs
 some-kept rules closed [] waits = true-is-not-false (sym waits ∙ unfold waiting in quiet-nil rules closed)
 some-kept rules closed (x ∷ xs) waits = omega arith
 

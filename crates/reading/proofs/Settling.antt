@@ -43,7 +43,7 @@ is-pass wait is = true-is-not-false (sym is)
 is-pass (bad body) is = true-is-not-false (sym is)
 is-pass (accepted body) is = true-is-not-false (sym is)
 
-neither : (seen : Seen) → isPass seen ≡ false → isReport seen ≡ false → isWait seen ≡ true
+pub neither : (seen : Seen) → isPass seen ≡ false → isReport seen ≡ false → isWait seen ≡ true
 unfolding isPass isReport isWait
 neither pass p r = true-is-not-false p
 neither wait p r = refl

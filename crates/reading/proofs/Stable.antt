@@ -9,7 +9,7 @@ use lib.Dec.{eqb, ltb}
 use lib.ListN.{length, take, length-append}
 use lib.Seq.{take-append-le}
 use Rattle.frame.specs.Frame.{leastLength}
-use Rattle.reading.specs.Place.{Rules, pass, wait, cutShort, judged, afterHeader, behind, look, isWait}
+use Rattle.reading.specs.Place.{Rules, pass, wait, cutShort, decidedByCheck, afterHeader, behind, look, isWait}
 
 -- what a false equation of two answers proves
 pub never : {A : Type 0} → _≡_ {A = ℕ} 0 1 → A
@@ -24,17 +24,17 @@ unfolding afterHeader isWait cutShort
 afterHeader-stable checking closed [] ys decided = true-is-not-false decided
 afterHeader-stable checking closed (l ∷ xs) ys decided = below (ltb l (leastLength checking)) decided
   where
-    whole : (b : Bool) → ltb (length xs) l ≡ b → isWait (cond b wait (judged checking (take l xs))) ≡ false
-        → cond (ltb (length (xs ++ ys)) l) (cutShort closed) (judged checking (take l (xs ++ ys))) ≡ cond b wait (judged checking (take l xs))
+    whole : (b : Bool) → ltb (length xs) l ≡ b → isWait (cond b wait (decidedByCheck checking (take l xs))) ≡ false
+        → cond (ltb (length (xs ++ ys)) l) (cutShort closed) (decidedByCheck checking (take l (xs ++ ys))) ≡ cond b wait (decidedByCheck checking (take l xs))
     whole true is decided = true-is-not-false decided
     whole false is decided =
         let enough : l ≤ length xs = ltb-false (length xs) l is in
         let still : l ≤ length (xs ++ ys) = simp length-append (omega arith) in
         rw (le-ltb (length (xs ++ ys)) l still, take-append-le l xs ys enough)
 
-    below : (b : Bool) → isWait (cond b pass (cond (ltb (length xs) l) wait (judged checking (take l xs)))) ≡ false
-        → cond b pass (cond (ltb (length (xs ++ ys)) l) (cutShort closed) (judged checking (take l (xs ++ ys))))
-        ≡ cond b pass (cond (ltb (length xs) l) wait (judged checking (take l xs)))
+    below : (b : Bool) → isWait (cond b pass (cond (ltb (length xs) l) wait (decidedByCheck checking (take l xs)))) ≡ false
+        → cond b pass (cond (ltb (length (xs ++ ys)) l) (cutShort closed) (decidedByCheck checking (take l (xs ++ ys))))
+        ≡ cond b pass (cond (ltb (length xs) l) wait (decidedByCheck checking (take l xs)))
     below true decided = refl
     below false decided = whole (ltb (length xs) l) refl decided
 

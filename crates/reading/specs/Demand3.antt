@@ -1,5 +1,5 @@
 -- Demand 3: the words in which it is stated, over the reading of 01.
-use Prim.Native.Nat.{ℕ, suc, _<_}
+use Prim.Native.Nat.{ℕ, suc, _+_, _<_}
 use mathlib.Core.Path.{_≡_}
 use mathlib.Core.Bool.{true, false}
 use mathlib.Core.List.{List, [], _∷_, _++_}
@@ -35,11 +35,15 @@ abbrev pub BeginsNone : Rules → List ℕ → List ℕ → Type 0
 BeginsNone rules damage come =
     (p : ℕ) → p < length damage → (frame rest : List ℕ) → drop p (damage ++ come) ≡ frame ++ rest → Good rules frame → ⊥
 
+-- "once 257 bytes have followed the damage on a line still open": one less than the longest frame, whatever the header's length
+abbrev pub oneLessThanLongest : List ℕ → ℕ
+oneLessThanLongest header = length header + 255
+
 -- "the frames accepted"
 unfoldable pub acceptedOf : List Report → List Report
 acceptedOf [] = []
-acceptedOf (badCheck command ∷ reports) = acceptedOf reports
-acceptedOf (acceptedFrame command content ∷ reports) = acceptedFrame command content ∷ acceptedOf reports
+acceptedOf (badCheck command ∷ later) = acceptedOf later
+acceptedOf (acceptedFrame command content ∷ later) = acceptedFrame command content ∷ acceptedOf later
 
 -- a frame's command and data, as they stand in its bytes
 unfoldable pub reportOfFrame : Rules → List ℕ → Report

@@ -24,14 +24,14 @@ cutShort false = wait
 cutShort true = pass
 
 -- "the frame is whole, checking is on and the check bytes are wrong: report a bad check .. otherwise report an accepted frame"
-unfoldable pub judged : Bool → List ℕ → Seen
-judged checking body = cond (rightCheck checking body) (accepted body) (bad body)
+unfoldable pub decidedByCheck : Bool → List ℕ → Seen
+decidedByCheck checking body = cond (rightCheck checking body) (accepted body) (bad body)
 
 -- behind the header: ".. or L is below its least value: go to p+1"; then whether the frame is whole; then its check bytes
 unfoldable pub afterHeader : Bool → Bool → List ℕ → Seen
 afterHeader checking closed [] = cutShort closed
 afterHeader checking closed (l ∷ xs) =
-    cond (ltb l (leastLength checking)) pass (cond (ltb (length xs) l) (cutShort closed) (judged checking (take l xs)))
+    cond (ltb l (leastLength checking)) pass (cond (ltb (length xs) l) (cutShort closed) (decidedByCheck checking (take l xs)))
 
 -- "byte p isn't H1, or byte p+1 isn't H2 ..: go to p+1, nothing reported", over what is left of the header
 unfoldable pub behind : Bool → Bool → List ℕ → List ℕ → Seen

@@ -22,7 +22,7 @@ abbrev pub giving : Input → Ran → Ran
 giving input ran = record { given = input ∷ ran .given; handedOver = ran .handedOver; kept = ran .kept }
 
 abbrev pub handing : List Report → Ran → Ran
-handing reports ran = record { given = ran .given; handedOver = reports ++ ran .handedOver; kept = ran .kept }
+handing these ran = record { given = ran .given; handedOver = these ++ ran .handedOver; kept = ran .kept }
 
 -- one run and then another
 abbrev pub followed : Ran → Ran → Ran

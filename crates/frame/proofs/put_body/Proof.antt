@@ -1,3 +1,4 @@
+-- `frame::put_body` meets its contract.
 use mathlib.Core.Path.{ap, _∙_}
 use mathlib.Core.List.{List, _∷_}
 use Prim.Native.Nat.{ℕ, _+_}
@@ -7,45 +8,31 @@ use Rattle.frame.specs.Frame.{checkLength}
 use Rattle.frame.proofs.Laying.{content-checked, command-laid}
 use Rattle.frame.proofs.put_body.Statement.{statement}
 use Rattle.frame.proofs.put_body.Tie as tie
-use Rattle.frame.proofs.put_body.Reads as reads
-use Rattle.frame.proofs.put_body.Lts as lts
-use Rattle.bytes.proofs.copy.Reads as copy-reads
-use Rattle.frame.proofs.put_check.Reads as put-check-reads
-use Rattle.frame.proofs.put_first.Reads as put-first-reads
 
--- src/lib.rt:92:5
 put-first-requires : tie.Need-put-first-requires
 put-first-requires c κs = search needs
 
--- src/lib.rt:93:34
 sub-copy : tie.Need-sub-copy
 sub-copy c = search needs
 
--- src/lib.rt:93:34
 part-copy-start : tie.Need-part-copy-start
 part-copy-start c = search needs
 
--- src/lib.rt:93:34
 part-copy-end : tie.Need-part-copy-end
 part-copy-end c = search needs
 
--- src/lib.rt:93:9
 copy-requires : tie.Need-copy-requires
 copy-requires c κs = search needs
 
--- src/lib.rt:94:25
 add-put-check : tie.Need-add-put-check
 add-put-check c = search needs
 
--- src/lib.rt:94:5
 put-check-requires : tie.Need-put-check-requires
 put-check-requires c κs = search needs
 
--- src/lib.rt:88:1
 same-length : tie.Need-same-length
 same-length c = search needs
 
--- src/lib.rt:88:1
 returns : tie.Need-returns
 returns c =
     let a = c .before .before .before .before .before .before .before .before .before .before .before .before .before .before .args in

@@ -1,3 +1,4 @@
+-- `frame::put_enclosed` meets its contract.
 use mathlib.Core.List.{List, _∷_}
 use Prim.Native.Nat.{ℕ}
 use native.Mathlib.Omega.{arith}
@@ -6,49 +7,34 @@ use Rattle.frame.specs.Frame.{headerBytes}
 use Rattle.frame.proofs.Laying.{length-enclosed, enclosed-laid}
 use Rattle.frame.proofs.put_enclosed.Statement.{statement}
 use Rattle.frame.proofs.put_enclosed.Tie as tie
-use Rattle.frame.proofs.put_enclosed.Reads as reads
-use Rattle.frame.proofs.put_enclosed.Lts as lts
-use Rattle.frame.proofs.Header.length.Reads as length-reads
-use Rattle.frame.proofs.put_body.Reads as put-body-reads
-use Rattle.frame.proofs.put_prefix.Reads as put-prefix-reads
 
--- src/lib.rt:109:5
 put-prefix-requires : tie.Need-put-prefix-requires
 put-prefix-requires c κs = search needs
 
--- src/lib.rt:110:13
 length-requires : tie.Need-length-requires
 length-requires c κs = search needs
 
--- src/lib.rt:110:13
 add-k : tie.Need-add-k
 add-k c = search needs
 
--- src/lib.rt:111:50
 sub-put-body : tie.Need-sub-put-body
 sub-put-body c = search needs
 
--- src/lib.rt:111:50
 part-put-body-start : tie.Need-part-put-body-start
 part-put-body-start c = search needs
 
--- src/lib.rt:111:50
 part-put-body-end : tie.Need-part-put-body-end
 part-put-body-end c = search needs
 
--- src/lib.rt:111:9
 put-body-requires : tie.Need-put-body-requires
 put-body-requires c κs = search needs
 
--- src/lib.rt:112:5
 add-result : tie.Need-add-result
 add-result c = search needs
 
--- src/lib.rt:98:1
 same-length : tie.Need-same-length
 same-length c = search needs
 
--- src/lib.rt:98:1
 returns : tie.Need-returns
 returns c =
     let a = c .before .before .before .before .before .before .before .before .before .before .before .args in

@@ -1,3 +1,4 @@
+-- `frame_cases::print_case` is safe and ends.
 use borrow.Author.Needs.{needs}
 use Rattle.wire.proofs.Parts.{front-length-of}
 use Rattle.frame_cases.proofs.print_case.Statement.{statement}

@@ -1,3 +1,4 @@
+-- `line::Reader::is_waiting` meets its contract.
 use Rattle.line.proofs.Giving.{waits-if}
 use borrow.Author.Needs.{needs}
 use Rattle.line.proofs.Reader.is_waiting.Statement.{statement}
