@@ -60,7 +60,7 @@ module _ (setup : Setup) (pad : Pad) (sound : Sound setup pad) (x y : ℕ) where
       (marked-only (pad .registers) whole′ status x y 0x03 (inl (omega arith))) (marked-only (pad .registers) whole′ status x y 0x04 (inl (omega arith))))
       (sound .below)
 
-  kept-sound : (words : List ℕ) → Sound setup (kept pad words x y .pad)
+  kept-sound : (words : List ℕ) → Sound setup (kept setup pad words x y .pad)
   unfolding kept
   kept-sound words =
       down-sound setup (withPlace (withStatus (pad .registers) 0x03) x y) (pad .catch) (length-marked (pad .registers) whole′ 0x03 x y) (marked-below 0x03)
@@ -100,20 +100,20 @@ module _ (setup : Setup) (pad : Pad) (sound : Sound setup pad) (x y : ℕ) where
           }
 
   module _ (table words : List ℕ) (good : judged setup table ≡ Good) where
-    pressed-sound : Sound setup (pressed pad table words x y .pad)
+    pressed-sound : Sound setup (pressed setup pad table words x y .pad)
     unfolding pressed acting
     pressed-sound = go (found table (pageOf (pad .registers)) x y) refl
       where
-        go : (f : Found) → found table (pageOf (pad .registers)) x y ≡ f → Sound setup (acting f now (pad .catch) words x y .pad)
+        go : (f : Found) → found table (pageOf (pad .registers)) x y ≡ f → Sound setup (acting setup f now (pad .catch) words x y .pad)
         go Nothing is = now-sound (pad .catch) (sound .caught-good)
         go (At i r) is = shown-sound r (found-good setup table (pageOf (pad .registers)) x y i r good is)
 
     -- a contact with a table judged good
-    pub touched-sound : Sound setup (touched pad table words x y .pad)
+    pub touched-sound : Sound setup (touched setup pad table words x y .pad)
     unfolding touched
     touched-sound = go (isDown (pad .registers))
       where
-        go : (b : Bool) → Sound setup (cond b (kept pad words x y) (pressed pad table words x y) .pad)
+        go : (b : Bool) → Sound setup (cond b (kept setup pad words x y) (pressed setup pad table words x y) .pad)
         go true = kept-sound words
         go false = pressed-sound
 

@@ -171,7 +171,7 @@ fn slide(begin: u16, end: u16, first: u16, last: u16, at: u16) -> u64
     }
 }
 
-// The word after a slider acted on it: begin and end stand at the first and the last edge, and the point lies at a place along the axis.
+// The word after a slider acted on it, rounding down: begin and end stand at the first and the last edge, and the point lies at a place along the axis.
 pub fn slider_stores(
     mode: u8,
     old: u16,
@@ -181,7 +181,7 @@ pub fn slider_stores(
     last: u16,
     at: u16,
 ) -> u16
-    ensures { λ r. ⌜ r ≡ sliderStores mode old begin end first last at ⌝ }
+    ensures { λ r. ⌜ r ≡ sliderStores roundedDown mode old begin end first last at ⌝ }
 {
     let stands = slide(begin, end, first, last, at);
     place(mode, old, lower(stands))

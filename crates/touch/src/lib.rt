@@ -5,6 +5,7 @@ ghost use Prim.Native.Nat.{_/_, _<_};
 ghost use lib.ListN.{length};
 ghost use Rattle.stores.specs.Store.{goodEnd};
 ghost use Rattle.touch.specs.Setup.{goodSetup, checkingOf, acknowledgingOf};
+ghost use Rattle.touch.specs.Rounding.{roundingOf};
 ghost use Rattle.touch.specs.Record.{areaAt, stepFields, sliderFields, kindOf, recordOf, noNext, slides, along};
 ghost use Rattle.touch.specs.Table.{recordBytes, recordAt, recordsOf};
 ghost use Rattle.touch.specs.Judge.{goodArea, goodStep, sameArea, goodSlider, goodKind, goodRecord, firstWrong, judged};
@@ -336,8 +337,8 @@ pub fn find(table: &[u8], page: u16, x: u16, y: u16) -> Found
 
 // ---- Acting
 
-fn slid_at(r: Record, f: SliderFields, old: u16, x: u16, y: u16) -> u16
-    ensures { λ a. ⌜ a ≡ slidAt r f old x y ⌝ }
+fn slid_at(setup: Setup, r: Record, f: SliderFields, old: u16, x: u16, y: u16) -> u16
+    ensures { λ a. ⌜ a ≡ slidAt (roundingOf setup) r f old x y ⌝ }
 {
     let area = r.area;
     let first = along(r.mode, area.xs, area.ys);
@@ -347,8 +348,8 @@ fn slid_at(r: Record, f: SliderFields, old: u16, x: u16, y: u16) -> u16
 }
 
 // The word at a record's address after the record acted at a point.
-pub fn acted(r: Record, old: u16, x: u16, y: u16) -> u16
-    ensures { λ a. ⌜ a ≡ actedOf r old x y ⌝ }
+pub fn acted(setup: Setup, r: Record, old: u16, x: u16, y: u16) -> u16
+    ensures { λ a. ⌜ a ≡ actedOf setup r old x y ⌝ }
 {
     let kind = r.kind;
     match kind {
@@ -362,17 +363,17 @@ pub fn acted(r: Record, old: u16, x: u16, y: u16) -> u16
             f.least,
             f.greatest,
         ),
-        Kind::Slider(f) => slid_at(r, f, old, x, y),
+        Kind::Slider(f) => slid_at(setup, r, f, old, x, y),
         Kind::Other => old,
     }
 }
 
 // The word after a record that was caught is dragged to a point, which may lie outside its area. Only a slider stores.
-pub fn dragged(r: Record, old: u16, x: u16, y: u16) -> u16
-    ensures { λ a. ⌜ a ≡ draggedOf r old x y ⌝ }
+pub fn dragged(setup: Setup, r: Record, old: u16, x: u16, y: u16) -> u16
+    ensures { λ a. ⌜ a ≡ draggedOf setup r old x y ⌝ }
 {
     if is_slider(r) {
-        acted(r, old, x, y)
+        acted(setup, r, old, x, y)
     } else {
         old
     }
