@@ -7,7 +7,7 @@ use lib.IntN.{ℤ}
 use mir.Syntax.{w64}
 use mir.Val.{Fits}
 use borrow.Author.Needs.{needs}
-use Rattle.stores.specs.Raised.{whole}
+use Rattle.stores.specs.Raised.{raisedBy, whole}
 use Rattle.stores.specs.Slider.{nearest, roundedDown, Fair, slidTo}
 use Rattle.stores.proofs.Slid.{near-before, near-behind, near-inside, near-le, share-le, rounded-down-fair, slid-rise, slid-fall}
 
@@ -55,14 +55,14 @@ module _ (first last at near d w : ℕ) (is-near : near ≡ nearest first last a
       module _ (begin end : ℤ) (is-b : whole b ≡ begin) (is-e : whole e ≡ end) where
         pub slide-rises : b ≤ e → far ≡ e - b → whole (b + m) ≡ slidTo ρ begin end first last at
         unfolding slidTo whole
-        slide-rises p is = rw (← is-b, ← is-e, ← is-w, ← is-near, ← is-d, slid-rise ρ 98304 b e d w p, moved, is)
+        slide-rises p is = rw (← is-b, ← is-e, ← is-w, ← is-near, ← is-d, slid-rise ρ raisedBy b e d w p, moved, is)
 
         pub slide-falls : e < b → far ≡ b - e → whole (b - m) ≡ slidTo ρ begin end first last at
         unfolding slidTo whole
         slide-falls p is =
             let k : m ≡ ρ ((b - e) * d) w = moved ∙ ap (λ (n : ℕ). ρ (n * d) w) is in
             let l : ρ ((b - e) * d) w ≤ b = subst (λ (n : ℕ). n ≤ b) k (fall-fits p is) in
-            rw (← is-b, ← is-e, ← is-w, ← is-near, ← is-d, slid-fall ρ 98304 b e d w p l, moved, is)
+            rw (← is-b, ← is-e, ← is-w, ← is-near, ← is-d, slid-fall ρ raisedBy b e d w p l, moved, is)
 
 pub ruleset sliding = (
   needs,

@@ -2,6 +2,9 @@
 use Prim.Native.Nat.{ℕ}
 use lib.IntN.{ℤ, subℕ}
 
+abbrev pub raisedBy : ℕ
+raisedBy = 98304
+
 -- the whole number that a raised one stands for
 unfoldable pub whole : ℕ → ℤ
-whole n = subℕ n 98304
+whole n = subℕ n raisedBy

@@ -15,14 +15,14 @@ use Rattle.stores.specs.Store.{keyStores}
 use Rattle.stores.specs.Step.{stepStores}
 use Rattle.touch.specs.Rounding.{roundingOf}
 use Rattle.touch.specs.Record.{slides, up, round, along}
-use Rattle.touch.specs.Judge.{goodStep, goodSlider, goodKind}
+use Rattle.touch.specs.Judge.{goodMode, goodStep, goodSlider, goodKind}
 use Rattle.touch.specs.Act.{slidAt, actedBy, actedOf, draggedOf}
 
 module _ (r : Record) where
   good-as : (k : Kind) (b : Bool) → r .kind ≡ k → b ≡ goodKind r k → b ≡ goodKind r (r .kind)
   good-as k b e p = p ∙ ap (goodKind r) (sym e)
 
-  pub key-good : (code : ℕ) → r .kind ≡ Key code → ltb (r .mode) 3 ≡ goodKind r (r .kind)
+  pub key-good : (code : ℕ) → r .kind ≡ Key code → goodMode (r .mode) ≡ goodKind r (r .kind)
   key-good code e = ap (goodKind r) (sym e)
 
   pub step-good : (f : StepFields) (b : Bool) → r .kind ≡ Step f → b ≡ goodStep (r .mode) f → b ≡ goodKind r (r .kind)

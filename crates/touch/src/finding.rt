@@ -1,6 +1,7 @@
 // Which record of a table a point finds.
 ghost use mathlib.Core.Path.{_≡_};
 ghost use Rattle.touch.specs.Find.{holds, found};
+use crate::END_PAGE;
 use crate::Found;
 use crate::RECORD_BYTES;
 use crate::Record;
@@ -21,7 +22,7 @@ pub fn find(table: &[u8], page: u16, x: u16, y: u16) -> Found
     let mut i: usize = 0;
     while i < count {
         let r = records::record_at(table, i);
-        if r.page == 0xFFFF {
+        if r.page == END_PAGE {
             return Found::Nothing;
         }
         if holds_point(r, page, x, y) {

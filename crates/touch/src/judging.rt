@@ -4,6 +4,7 @@ ghost use Rattle.stores.specs.Store.{goodEnd};
 ghost use Rattle.touch.specs.Table.{recordsOf};
 ghost use Rattle.touch.specs.Judge.{goodArea, goodStep, sameArea, goodSlider, goodKind, goodRecord, firstWrong, judged};
 use crate::Area;
+use crate::END_PAGE;
 use crate::Kind;
 use crate::MOST_RECORDS;
 use crate::RECORD_BYTES;
@@ -13,6 +14,9 @@ use crate::SliderFields;
 use crate::StepFields;
 use crate::Verdict;
 use crate::records;
+
+// How many modes there are: "mode 0 whole word, 1 high byte, 2 low byte".
+const MODES: u8 = 3;
 
 fn good_area(s: Setup, a: Area) -> bool
     ensures { λ r. ⌜ r ≡ goodArea s a ⌝ }
@@ -29,7 +33,7 @@ fn good_end(mode: u8, w: u16) -> bool
 fn good_step(mode: u8, f: StepFields) -> bool
     ensures { λ r. ⌜ r ≡ goodStep mode f ⌝ }
 {
-    (mode < 3)
+    (mode < MODES)
         & (1 <= f.step)
         & (f.step <= 32767)
         & good_end(mode, f.least)
@@ -52,7 +56,7 @@ fn good_slider(r: Record, f: SliderFields) -> bool
     let again = f.again;
     let first = records::along(r.mode, area.xs, area.ys);
     let last = records::along(r.mode, area.xe, area.ye);
-    (digit < 3)
+    (digit < MODES)
         & (r.mode % 16 < 2)
         & same_area(area, again)
         & records::no_next(r)
@@ -66,7 +70,7 @@ fn good_kind(r: Record) -> bool
 {
     let kind = r.kind;
     match kind {
-        Kind::Key(_) => r.mode < 3,
+        Kind::Key(_) => r.mode < MODES,
         Kind::Step(f) => good_step(r.mode, f),
         Kind::Slider(f) => good_slider(r, f),
         Kind::Other => false,
@@ -81,7 +85,7 @@ pub fn good_record(s: Setup, r: Record) -> bool
         & good_area(s, area)
         & (records::no_next(r) | (r.next < s.pages))
         & (r.fe == 0xFE)
-        & (r.word < 0x7000)
+        & ((r.word as usize) < wire::WORD_COUNT)
         & good_kind(r)
 }
 
@@ -92,7 +96,7 @@ fn first_wrong(s: Setup, table: &[u8]) -> Verdict
     let mut number: usize = 0;
     while number < count {
         let r = records::record_at(table, number);
-        if r.page == 0xFFFF {
+        if r.page == END_PAGE {
             return Verdict::Good;
         }
         if good_record(s, r) {

@@ -24,6 +24,9 @@ pub const MOST_RECORDS: usize = 128;
 
 pub const RECORD_BYTES: usize = 32;
 
+// "A record with page FFFF ends it"
+const END_PAGE: u16 = 0xFFFF;
+
 pub struct Setup {
     pub h1: u8,
     pub h2: u8,
