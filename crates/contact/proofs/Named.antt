@@ -24,7 +24,7 @@ use Rattle.touch.specs.Act.{actedOf, draggedOf}
 use Rattle.contact.specs.declared.Catch.{Catch}
 use Rattle.contact.specs.declared.Catch.the-variants.{Free, Caught}
 use Rattle.contact.specs.declared.Pad.{Pad}
-use Rattle.contact.specs.Contact.{padOf, showing, catching, acting, pressed, dragging, kept, touched, lifted}
+use Rattle.contact.specs.Contact.{padWith, showing, catching, acting, pressed, dragging, heldDown, touched, lifted}
 
 -- the word that a touch names: that of the record which acts, or of the caught one
 pub data NamesWord (pad : Pad) (table : List ℕ) (x y k : ℕ) : Type 0 where
@@ -54,10 +54,10 @@ module _ (setup : Setup) (pad : Pad) (table words : List ℕ) (x y : ℕ) where
       go Nothing is = inl refl
       go (At i r) is = one-set words (r .word) (actedOf setup r (wordAtAddress words (r .word)) x y) k (acts i r up is)
 
-  kept-word : isDown (pad .registers) ≡ true → (k : ℕ)
-      → (wordAtAddress (kept setup pad words x y .words) k ≡ wordAtAddress words k) ⊎ NamesWord pad table x y k
-  unfolding kept dragging
-  kept-word down k = go (pad .catch) refl
+  held-down-word : isDown (pad .registers) ≡ true → (k : ℕ)
+      → (wordAtAddress (heldDown setup pad words x y .words) k ≡ wordAtAddress words k) ⊎ NamesWord pad table x y k
+  unfolding heldDown dragging
+  held-down-word down k = go (pad .catch) refl
     where
       go : (c : Catch) → pad .catch ≡ c → (wordAtAddress (dragging setup c words x y) k ≡ wordAtAddress words k) ⊎ NamesWord pad table x y k
       go Free is = inl refl
@@ -69,8 +69,8 @@ module _ (setup : Setup) (pad : Pad) (table words : List ℕ) (x y : ℕ) where
   word-named k = go (isDown (pad .registers)) refl
     where
       go : (b : Bool) → isDown (pad .registers) ≡ b
-          → (wordAtAddress (cond b (kept setup pad words x y) (pressed setup pad table words x y) .words) k ≡ wordAtAddress words k) ⊎ NamesWord pad table x y k
-      go true is = kept-word is k
+          → (wordAtAddress (cond b (heldDown setup pad words x y) (pressed setup pad table words x y) .words) k ≡ wordAtAddress words k) ⊎ NamesWord pad table x y k
+      go true is = held-down-word is k
       go false is = pressed-word is k
 
 -- status, flag and place set
@@ -117,7 +117,7 @@ module _ (setup : Setup) (pad : Pad) (whole : length (pad .registers .bytes) ≡
   unfolding showing
   showing-register r registers catch long = go (noNext r)
     where
-      go : (b : Bool) → registerAt (cond b (padOf registers catch) (padOf (withPage registers (r .next)) Free) .registers) address ≡ registerAt registers address
+      go : (b : Bool) → registerAt (cond b (padWith registers catch) (padWith (withPage registers (r .next)) Free) .registers) address ≡ registerAt registers address
       go true = refl
       go false = page-only registers long (r .next) address behind-page
 
@@ -128,10 +128,10 @@ module _ (setup : Setup) (pad : Pad) (whole : length (pad .registers .bytes) ≡
   acting-register (At i r) registers catch long = showing-register r registers (catching r catch) long
 
   pub other-register-stays : registerAt (touched setup pad table words x y .pad .registers) address ≡ registerAt (pad .registers) address
-  unfolding touched kept pressed
+  unfolding touched heldDown pressed
   other-register-stays = go (isDown (pad .registers))
     where
-      go : (b : Bool) → registerAt (cond b (kept setup pad words x y) (pressed setup pad table words x y) .pad .registers) address ≡ registerAt (pad .registers) address
+      go : (b : Bool) → registerAt (cond b (heldDown setup pad words x y) (pressed setup pad table words x y) .pad .registers) address ≡ registerAt (pad .registers) address
       go true = marked-only (pad .registers) whole 0x03 x y address far
       go false =
           acting-register (found table (pageOf (pad .registers)) x y) (withPlace (withStatus (pad .registers) 0x01) x y) (pad .catch)
@@ -141,7 +141,7 @@ module _ (setup : Setup) (pad : Pad) (whole : length (pad .registers .bytes) ≡
 -- "Contact while down: .. nothing else acts": no page is shown
 pub page-stays-down : (setup : Setup) (pad : Pad) → length (pad .registers .bytes) ≡ 256 → (table words : List ℕ) (x y address : ℕ) → isDown (pad .registers) ≡ true → address < 0x05
     → registerAt (touched setup pad table words x y .pad .registers) address ≡ registerAt (pad .registers) address
-unfolding touched kept
+unfolding touched heldDown
 page-stays-down setup pad whole table words x y address down low = rw down (marked-only (pad .registers) whole 0x03 x y address (inl low))
 
 -- "Lift: status 02": no other register

@@ -1,6 +1,6 @@
 // 01, "Contact and lift": what a contact that is not refused, and a lift, do to registers, words and the catch.
 ghost use mathlib.Core.Path.{_≡_};
-ghost use Rattle.contact.specs.Contact.{leaves, showing, catching, acting, pressed, dragging, kept, touched, lifted};
+ghost use Rattle.contact.specs.Contact.{touching, showing, catching, acting, pressed, dragging, heldDown, touched, lifted};
 use registers::Registers;
 use touch::Found;
 use touch::Record;
@@ -54,7 +54,7 @@ fn act(
     x: u16,
     y: u16,
 ) -> Pad
-    ensures { λ a. ⌜ leaves a (now (words .exit)) ≡ acting setup f registers catch (now (words .entry)) x y ⌝ }
+    ensures { λ a. ⌜ touching a (now (words .exit)) ≡ acting setup f registers catch (now (words .entry)) x y ⌝ }
 {
     match f {
         Found::Nothing => Pad {
@@ -74,7 +74,7 @@ fn act(
 }
 
 fn press(setup: Setup, pad: Pad, table: &[u8], words: &mut [u16], x: u16, y: u16) -> Pad
-    ensures { λ a. ⌜ leaves a (now (words .exit)) ≡ pressed setup pad (now (table .entry)) (now (words .entry)) x y ⌝ }
+    ensures { λ a. ⌜ touching a (now (words .exit)) ≡ pressed setup pad (now (table .entry)) (now (words .entry)) x y ⌝ }
 {
     let before = pad.registers;
     let catch = pad.catch;
@@ -99,8 +99,8 @@ fn drag(setup: Setup, catch: Catch, words: &mut [u16], x: u16, y: u16)
     }
 }
 
-fn keep(setup: Setup, pad: Pad, words: &mut [u16], x: u16, y: u16) -> Pad
-    ensures { λ a. ⌜ leaves a (now (words .exit)) ≡ kept setup pad (now (words .entry)) x y ⌝ }
+fn hold_down(setup: Setup, pad: Pad, words: &mut [u16], x: u16, y: u16) -> Pad
+    ensures { λ a. ⌜ touching a (now (words .exit)) ≡ heldDown setup pad (now (words .entry)) x y ⌝ }
 {
     let before = pad.registers;
     let catch = pad.catch;
@@ -113,11 +113,11 @@ fn keep(setup: Setup, pad: Pad, words: &mut [u16], x: u16, y: u16) -> Pad
 
 // A contact on the screen of a panel set up so, with touch on and a good table.
 pub fn touch_down(setup: Setup, pad: Pad, table: &[u8], words: &mut [u16], x: u16, y: u16) -> Pad
-    ensures { λ a. ⌜ leaves a (now (words .exit)) ≡ touched setup pad (now (table .entry)) (now (words .entry)) x y ⌝ }
+    ensures { λ a. ⌜ touching a (now (words .exit)) ≡ touched setup pad (now (table .entry)) (now (words .entry)) x y ⌝ }
 {
     let registers = pad.registers;
     if registers.is_down() {
-        keep(setup, pad, words, x, y)
+        hold_down(setup, pad, words, x, y)
     } else {
         press(setup, pad, table, words, x, y)
     }

@@ -55,7 +55,7 @@ module _ (mode old a b : ℕ) (z : ℤ) (low : leZ (signed a) z ≡ true) (high 
       go (k, (e, l)) = rw e (stores-byte mode old k n l)
 
   module _ (p : a < 65536) (q : b < 65536) (fits-a : goodEnd mode a ≡ true) (fits-b : goodEnd mode b ≡ true) where
-    pub kept : valueIn mode (placed mode old (wordOf z)) ≡ z
+    kept : valueIn mode (placed mode old (wordOf z)) ≡ z
     kept = go (eqb mode 0) refl fits-a fits-b
       where
         go : (t : Bool) → eqb mode 0 ≡ t → (t || ltb a 256) ≡ true → (t || ltb b 256) ≡ true
