@@ -69,7 +69,8 @@ module _ (setup : Setup) (pad : Pad) (table words : List ℕ) (x y : ℕ) where
   word-named k = go (isDown (pad .registers)) refl
     where
       go : (b : Bool) → isDown (pad .registers) ≡ b
-          → (wordAtAddress (cond b (heldDown setup pad words x y) (pressed setup pad table words x y) .words) k ≡ wordAtAddress words k) ⊎ NamesWord pad table x y k
+          → (wordAtAddress (cond b (heldDown setup pad words x y) (pressed setup pad table words x y) .words) k ≡ wordAtAddress words k)
+          ⊎ NamesWord pad table x y k
       go true is = held-down-word is k
       go false is = pressed-word is k
 
@@ -117,7 +118,9 @@ module _ (setup : Setup) (pad : Pad) (whole : length (pad .registers .bytes) ≡
   unfolding showing
   showing-register r registers catch long = go (noNext r)
     where
-      go : (b : Bool) → registerAt (cond b (padWith registers catch) (padWith (withPage registers (r .next)) Free) .registers) address ≡ registerAt registers address
+      go : (b : Bool)
+          → registerAt (cond b (padWith registers catch) (padWith (withPage registers (r .next)) Free) .registers) address
+          ≡ registerAt registers address
       go true = refl
       go false = page-only registers long (r .next) address behind-page
 
@@ -131,7 +134,9 @@ module _ (setup : Setup) (pad : Pad) (whole : length (pad .registers .bytes) ≡
   unfolding touched heldDown pressed
   other-register-stays = go (isDown (pad .registers))
     where
-      go : (b : Bool) → registerAt (cond b (heldDown setup pad words x y) (pressed setup pad table words x y) .pad .registers) address ≡ registerAt (pad .registers) address
+      go : (b : Bool)
+          → registerAt (cond b (heldDown setup pad words x y) (pressed setup pad table words x y) .pad .registers) address
+          ≡ registerAt (pad .registers) address
       go true = marked-only (pad .registers) whole 0x03 x y address far
       go false =
           acting-register (found table (pageOf (pad .registers)) x y) (withPlace (withStatus (pad .registers) 0x01) x y) (pad .catch)
@@ -139,7 +144,8 @@ module _ (setup : Setup) (pad : Pad) (whole : length (pad .registers .bytes) ≡
           ∙ marked-only (pad .registers) whole 0x01 x y address far
 
 -- "Contact while down: .. nothing else acts": no page is shown
-pub page-stays-down : (setup : Setup) (pad : Pad) → length (pad .registers .bytes) ≡ 256 → (table words : List ℕ) (x y address : ℕ) → isDown (pad .registers) ≡ true → address < 0x05
+pub page-stays-down : (setup : Setup) (pad : Pad) → length (pad .registers .bytes) ≡ 256 → (table words : List ℕ) (x y address : ℕ)
+    → isDown (pad .registers) ≡ true → address < 0x05
     → registerAt (touched setup pad table words x y .pad .registers) address ≡ registerAt (pad .registers) address
 unfolding touched heldDown
 page-stays-down setup pad whole table words x y address down low = rw down (marked-only (pad .registers) whole 0x03 x y address (inl low))

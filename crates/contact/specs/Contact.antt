@@ -54,7 +54,9 @@ dragging setup (Caught r) words x y = wordSet words (r .word) (draggedOf setup r
 
 -- "Contact while down: status 03, flag and place by the same rule"
 unfoldable pub heldDown : Setup → Pad → List ℕ → (x y : ℕ) → Touching
-heldDown setup pad words x y = touching (padWith (withPlace (withStatus (pad .registers) 0x03) x y) (pad .catch)) (dragging setup (pad .catch) words x y)
+heldDown setup pad words x y =
+    let registers = withPlace (withStatus (pad .registers) 0x03) x y in
+    touching (padWith registers (pad .catch)) (dragging setup (pad .catch) words x y)
 
 unfoldable pub touched : Setup → Pad → List ℕ → List ℕ → (x y : ℕ) → Touching
 touched setup pad table words x y = cond (isDown (pad .registers)) (heldDown setup pad words x y) (pressed setup pad table words x y)

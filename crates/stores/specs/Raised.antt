@@ -1,4 +1,5 @@
--- How the code holds whole numbers from −98,304 on: raised by 98,304, so that differences and comparisons are those of 01.
+-- What the private functions of the code are held against; no public contract cites any of this. They hold whole numbers from −98,304 on
+-- raised by 98,304, so that differences and comparisons are those of 01.
 use Prim.Native.Nat.{ℕ}
 use lib.IntN.{ℤ, subℕ}
 

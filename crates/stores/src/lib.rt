@@ -174,7 +174,8 @@ fn slide(begin: u16, end: u16, first: u16, last: u16, at: u16) -> u64
     }
 }
 
-// The word after a slider acted on it, rounding down: begin and end stand at the first and the last edge, and the point lies at a place along the axis.
+// The word after a slider acted on it, rounding down: begin and end stand at the first and the last edge, and the point lies at a
+// place along the axis.
 pub fn slider_stores(
     mode: u8,
     old: u16,

@@ -66,4 +66,17 @@ module _ (mode x y : ℕ) where
   pub down-is : (mode % 16 ≡ 0 → ⊥) → y ≡ along mode x y
   down-is n = rw (ne-eqb (mode % 16) 0 n)
 
-pub ruleset by-kind = (needs, across-is, down-is, key-good, step-good, slider-good, key-acts, step-acts, slider-acts, other-acts, drags, drags-nothing)
+pub ruleset by-kind = (
+  needs,
+  across-is,
+  down-is,
+  key-good,
+  step-good,
+  slider-good,
+  key-acts,
+  step-acts,
+  slider-acts,
+  other-acts,
+  drags,
+  drags-nothing,
+)
