@@ -14,6 +14,7 @@ use Rattle.registers.specs.Touched.{pageOf, withPage, isDown, withStatus, withP
 use Rattle.registers.proofs.Touched.{length-withStatus, status-now, status-only, page-only, length-withPlace, place-only}
 use Rattle.words.specs.Words.{wordAtAddress, wordSet}
 use Rattle.words.proofs.OneWord.{other-word-stays}
+use Rattle.touch.specs.declared.Setup.{Setup}
 use Rattle.touch.specs.declared.Record.{Record}
 use Rattle.touch.specs.declared.Found.{Found}
 use Rattle.touch.specs.declared.Found.the-variants.{Nothing, At}
@@ -23,7 +24,7 @@ use Rattle.touch.specs.Act.{actedOf, draggedOf}
 use Rattle.contact.specs.declared.Catch.{Catch}
 use Rattle.contact.specs.declared.Catch.the-variants.{Free, Caught}
 use Rattle.contact.specs.declared.Pad.{Pad}
-use Rattle.contact.specs.Contact.{padOf, showing, catching, acting, pressed, dragging, kept, touched, lifted}
+use Rattle.contact.specs.Contact.{padWith, showing, catching, acting, pressed, dragging, heldDown, touched, lifted}
 
 -- the word that a touch names: that of the record which acts, or of the caught one
 pub data NamesWord (pad : Pad) (table : List ℕ) (x y k : ℕ) : Type 0 where
@@ -39,9 +40,9 @@ one-set {B} words address word k named = go (eqb k address) refl
     go true is = inr (named (eqb-true k address is))
     go false is = inl (other-word-stays words address word k (eqb-false k address is))
 
-module _ (pad : Pad) (table words : List ℕ) (x y : ℕ) where
+module _ (setup : Setup) (pad : Pad) (table words : List ℕ) (x y : ℕ) where
   pressed-word : isDown (pad .registers) ≡ false → (k : ℕ)
-      → (wordAtAddress (pressed pad table words x y .words) k ≡ wordAtAddress words k) ⊎ NamesWord pad table x y k
+      → (wordAtAddress (pressed setup pad table words x y .words) k ≡ wordAtAddress words k) ⊎ NamesWord pad table x y k
   unfolding pressed acting
   pressed-word up k = go (found table (pageOf (pad .registers)) x y) refl
     where
@@ -49,27 +50,28 @@ module _ (pad : Pad) (table words : List ℕ) (x y : ℕ) where
       now = withPlace (withStatus (pad .registers) 0x01) x y
 
       go : (f : Found) → found table (pageOf (pad .registers)) x y ≡ f
-          → (wordAtAddress (acting f now (pad .catch) words x y .words) k ≡ wordAtAddress words k) ⊎ NamesWord pad table x y k
+          → (wordAtAddress (acting setup f now (pad .catch) words x y .words) k ≡ wordAtAddress words k) ⊎ NamesWord pad table x y k
       go Nothing is = inl refl
-      go (At i r) is = one-set words (r .word) (actedOf r (wordAtAddress words (r .word)) x y) k (acts i r up is)
+      go (At i r) is = one-set words (r .word) (actedOf setup r (wordAtAddress words (r .word)) x y) k (acts i r up is)
 
-  kept-word : isDown (pad .registers) ≡ true → (k : ℕ)
-      → (wordAtAddress (kept pad words x y .words) k ≡ wordAtAddress words k) ⊎ NamesWord pad table x y k
-  unfolding kept dragging
-  kept-word down k = go (pad .catch) refl
+  held-down-word : isDown (pad .registers) ≡ true → (k : ℕ)
+      → (wordAtAddress (heldDown setup pad words x y .words) k ≡ wordAtAddress words k) ⊎ NamesWord pad table x y k
+  unfolding heldDown dragging
+  held-down-word down k = go (pad .catch) refl
     where
-      go : (c : Catch) → pad .catch ≡ c → (wordAtAddress (dragging c words x y) k ≡ wordAtAddress words k) ⊎ NamesWord pad table x y k
+      go : (c : Catch) → pad .catch ≡ c → (wordAtAddress (dragging setup c words x y) k ≡ wordAtAddress words k) ⊎ NamesWord pad table x y k
       go Free is = inl refl
-      go (Caught r) is = one-set words (r .word) (draggedOf r (wordAtAddress words (r .word)) x y) k (drags r down is)
+      go (Caught r) is = one-set words (r .word) (draggedOf setup r (wordAtAddress words (r .word)) x y) k (drags r down is)
 
   -- a word stays, or it is the word of the record that acts or is caught
-  pub word-named : (k : ℕ) → (wordAtAddress (touched pad table words x y .words) k ≡ wordAtAddress words k) ⊎ NamesWord pad table x y k
+  pub word-named : (k : ℕ) → (wordAtAddress (touched setup pad table words x y .words) k ≡ wordAtAddress words k) ⊎ NamesWord pad table x y k
   unfolding touched
   word-named k = go (isDown (pad .registers)) refl
     where
       go : (b : Bool) → isDown (pad .registers) ≡ b
-          → (wordAtAddress (cond b (kept pad words x y) (pressed pad table words x y) .words) k ≡ wordAtAddress words k) ⊎ NamesWord pad table x y k
-      go true is = kept-word is k
+          → (wordAtAddress (cond b (heldDown setup pad words x y) (pressed setup pad table words x y) .words) k ≡ wordAtAddress words k)
+          ⊎ NamesWord pad table x y k
+      go true is = held-down-word is k
       go false is = pressed-word is k
 
 -- status, flag and place set
@@ -103,7 +105,7 @@ module _ (registers : Registers) (whole : length (registers .bytes) ≡ 256) (st
       place (inr l) = inr l
 
 -- the registers that a contact names: 03-04 for a next page, 05 the flag, 06 the status, 07-0A the place
-module _ (pad : Pad) (whole : length (pad .registers .bytes) ≡ 256) (table words : List ℕ) (x y address : ℕ)
+module _ (setup : Setup) (pad : Pad) (whole : length (pad .registers .bytes) ≡ 256) (table words : List ℕ) (x y address : ℕ)
     (outside : (address < 0x03) ⊎ (0x0B ≤ address)) where
   far : (address < 0x05) ⊎ (0x0B ≤ address)
   far = ⊎-elim (λ l. inl (omega arith)) inr outside
@@ -116,21 +118,25 @@ module _ (pad : Pad) (whole : length (pad .registers .bytes) ≡ 256) (table wor
   unfolding showing
   showing-register r registers catch long = go (noNext r)
     where
-      go : (b : Bool) → registerAt (cond b (padOf registers catch) (padOf (withPage registers (r .next)) Free) .registers) address ≡ registerAt registers address
+      go : (b : Bool)
+          → registerAt (cond b (padWith registers catch) (padWith (withPage registers (r .next)) Free) .registers) address
+          ≡ registerAt registers address
       go true = refl
       go false = page-only registers long (r .next) address behind-page
 
   acting-register : (f : Found) (registers : Registers) (catch : Catch) → length (registers .bytes) ≡ 256
-      → registerAt (acting f registers catch words x y .pad .registers) address ≡ registerAt registers address
+      → registerAt (acting setup f registers catch words x y .pad .registers) address ≡ registerAt registers address
   unfolding acting
   acting-register Nothing registers catch long = refl
   acting-register (At i r) registers catch long = showing-register r registers (catching r catch) long
 
-  pub other-register-stays : registerAt (touched pad table words x y .pad .registers) address ≡ registerAt (pad .registers) address
-  unfolding touched kept pressed
+  pub other-register-stays : registerAt (touched setup pad table words x y .pad .registers) address ≡ registerAt (pad .registers) address
+  unfolding touched heldDown pressed
   other-register-stays = go (isDown (pad .registers))
     where
-      go : (b : Bool) → registerAt (cond b (kept pad words x y) (pressed pad table words x y) .pad .registers) address ≡ registerAt (pad .registers) address
+      go : (b : Bool)
+          → registerAt (cond b (heldDown setup pad words x y) (pressed setup pad table words x y) .pad .registers) address
+          ≡ registerAt (pad .registers) address
       go true = marked-only (pad .registers) whole 0x03 x y address far
       go false =
           acting-register (found table (pageOf (pad .registers)) x y) (withPlace (withStatus (pad .registers) 0x01) x y) (pad .catch)
@@ -138,10 +144,11 @@ module _ (pad : Pad) (whole : length (pad .registers .bytes) ≡ 256) (table wor
           ∙ marked-only (pad .registers) whole 0x01 x y address far
 
 -- "Contact while down: .. nothing else acts": no page is shown
-pub page-stays-down : (pad : Pad) → length (pad .registers .bytes) ≡ 256 → (table words : List ℕ) (x y address : ℕ) → isDown (pad .registers) ≡ true → address < 0x05
-    → registerAt (touched pad table words x y .pad .registers) address ≡ registerAt (pad .registers) address
-unfolding touched kept
-page-stays-down pad whole table words x y address down low = rw down (marked-only (pad .registers) whole 0x03 x y address (inl low))
+pub page-stays-down : (setup : Setup) (pad : Pad) → length (pad .registers .bytes) ≡ 256 → (table words : List ℕ) (x y address : ℕ)
+    → isDown (pad .registers) ≡ true → address < 0x05
+    → registerAt (touched setup pad table words x y .pad .registers) address ≡ registerAt (pad .registers) address
+unfolding touched heldDown
+page-stays-down setup pad whole table words x y address down low = rw down (marked-only (pad .registers) whole 0x03 x y address (inl low))
 
 -- "Lift: status 02": no other register
 pub lift-only-status : (pad : Pad) → length (pad .registers .bytes) ≡ 256 → (address : ℕ) → address ≢ 0x06

@@ -23,7 +23,7 @@ use Rattle.touch.proofs.GoodFields.{good-next}
 use Rattle.contact.specs.declared.Catch.{Catch}
 use Rattle.contact.specs.declared.Catch.the-variants.{Free, Caught}
 use Rattle.contact.specs.declared.Pad.{Pad}
-use Rattle.contact.specs.Contact.{padOf, showing, catching, acting, pressed, kept, touched, lifted}
+use Rattle.contact.specs.Contact.{padWith, showing, catching, acting, pressed, heldDown, touched, lifted}
 use Rattle.contact.specs.Sound.{Sound}
 use Rattle.contact.proofs.Named.{length-marked, marked-status, marked-only}
 
@@ -46,7 +46,7 @@ free-good setup r is = absurd (let z : _≡_ {A = ℕ} 0 1 = cc in omega arith)
 
 -- while down, any good catch is sound
 down-sound : (setup : Setup) (registers : Registers) (catch : Catch) → length (registers .bytes) ≡ 256 → pageOf registers < setup .pages
-    → isDown registers ≡ true → CaughtGood setup catch → Sound setup (padOf registers catch)
+    → isDown registers ≡ true → CaughtGood setup catch → Sound setup (padWith registers catch)
 down-sound setup registers catch whole below down good =
     record { whole = whole; below = below; up-free = λ up. no (sym down ∙ up); caught-good = good }
 
@@ -60,16 +60,16 @@ module _ (setup : Setup) (pad : Pad) (sound : Sound setup pad) (x y : ℕ) where
       (marked-only (pad .registers) whole′ status x y 0x03 (inl (omega arith))) (marked-only (pad .registers) whole′ status x y 0x04 (inl (omega arith))))
       (sound .below)
 
-  kept-sound : (words : List ℕ) → Sound setup (kept pad words x y .pad)
-  unfolding kept
-  kept-sound words =
+  held-down-sound : (words : List ℕ) → Sound setup (heldDown setup pad words x y .pad)
+  unfolding heldDown
+  held-down-sound words =
       down-sound setup (withPlace (withStatus (pad .registers) 0x03) x y) (pad .catch) (length-marked (pad .registers) whole′ 0x03 x y) (marked-below 0x03)
       (down-by-3 (withPlace (withStatus (pad .registers) 0x03) x y) (marked-status (pad .registers) whole′ 0x03 x y)) (sound .caught-good)
 
   abbrev now : Registers
   now = withPlace (withStatus (pad .registers) 0x01) x y
 
-  now-sound : (catch : Catch) → CaughtGood setup catch → Sound setup (padOf now catch)
+  now-sound : (catch : Catch) → CaughtGood setup catch → Sound setup (padWith now catch)
   now-sound catch good =
       down-sound setup now catch (length-marked (pad .registers) whole′ 0x01 x y) (marked-below 0x01)
       (down-by-1 now (marked-status (pad .registers) whole′ 0x01 x y)) good
@@ -88,7 +88,7 @@ module _ (setup : Setup) (pad : Pad) (sound : Sound setup pad) (x y : ℕ) where
   unfolding showing
   shown-sound r good = go (noNext r) refl
     where
-      go : (b : Bool) → noNext r ≡ b → Sound setup (cond b (padOf now (catching r (pad .catch))) (padOf (withPage now (r .next)) Free))
+      go : (b : Bool) → noNext r ≡ b → Sound setup (cond b (padWith now (catching r (pad .catch))) (padWith (withPage now (r .next)) Free))
       go true is = now-sound (catching r (pad .catch)) (caught-by r good)
       go false is =
           let long : length (now .bytes) ≡ 256 = length-marked (pad .registers) whole′ 0x01 x y in
@@ -100,21 +100,21 @@ module _ (setup : Setup) (pad : Pad) (sound : Sound setup pad) (x y : ℕ) where
           }
 
   module _ (table words : List ℕ) (good : judged setup table ≡ Good) where
-    pressed-sound : Sound setup (pressed pad table words x y .pad)
+    pressed-sound : Sound setup (pressed setup pad table words x y .pad)
     unfolding pressed acting
     pressed-sound = go (found table (pageOf (pad .registers)) x y) refl
       where
-        go : (f : Found) → found table (pageOf (pad .registers)) x y ≡ f → Sound setup (acting f now (pad .catch) words x y .pad)
+        go : (f : Found) → found table (pageOf (pad .registers)) x y ≡ f → Sound setup (acting setup f now (pad .catch) words x y .pad)
         go Nothing is = now-sound (pad .catch) (sound .caught-good)
         go (At i r) is = shown-sound r (found-good setup table (pageOf (pad .registers)) x y i r good is)
 
     -- a contact with a table judged good
-    pub touched-sound : Sound setup (touched pad table words x y .pad)
+    pub touched-sound : Sound setup (touched setup pad table words x y .pad)
     unfolding touched
     touched-sound = go (isDown (pad .registers))
       where
-        go : (b : Bool) → Sound setup (cond b (kept pad words x y) (pressed pad table words x y) .pad)
-        go true = kept-sound words
+        go : (b : Bool) → Sound setup (cond b (heldDown setup pad words x y) (pressed setup pad table words x y) .pad)
+        go true = held-down-sound words
         go false = pressed-sound
 
 -- a lift

@@ -1,9 +1,10 @@
 // 01, "Contact and lift": what a contact that is not refused, and a lift, do to registers, words and the catch.
 ghost use mathlib.Core.Path.{_≡_};
-ghost use Rattle.contact.specs.Contact.{leaves, showing, catching, acting, pressed, dragging, kept, touched, lifted};
+ghost use Rattle.contact.specs.Contact.{touching, showing, catching, acting, pressed, dragging, heldDown, touched, lifted};
 use registers::Registers;
 use touch::Found;
 use touch::Record;
+use touch::Setup;
 use words::WordAddress;
 
 // A slider that is being dragged, as a copy of its record.
@@ -44,8 +45,16 @@ fn catch_with(r: Record, catch: Catch) -> Catch
     }
 }
 
-fn act(f: Found, registers: Registers, catch: Catch, words: &mut [u16], x: u16, y: u16) -> Pad
-    ensures { λ a. ⌜ leaves a (now (words .exit)) ≡ acting f registers catch (now (words .entry)) x y ⌝ }
+fn act(
+    setup: Setup,
+    f: Found,
+    registers: Registers,
+    catch: Catch,
+    words: &mut [u16],
+    x: u16,
+    y: u16,
+) -> Pad
+    ensures { λ a. ⌜ touching a (now (words .exit)) ≡ acting setup f registers catch (now (words .entry)) x y ⌝ }
 {
     match f {
         Found::Nothing => Pad {
@@ -54,55 +63,63 @@ fn act(f: Found, registers: Registers, catch: Catch, words: &mut [u16], x: u16, 
         },
         Found::At(_, r) => {
             let old = words::at(words, WordAddress(r.word));
-            words::set(words, WordAddress(r.word), touch::acted(r, old, x, y));
+            words::set(
+                words,
+                WordAddress(r.word),
+                touch::acted(setup, r, old, x, y),
+            );
             show(r, registers, catch_with(r, catch))
         }
     }
 }
 
-fn press(pad: Pad, table: &[u8], words: &mut [u16], x: u16, y: u16) -> Pad
-    ensures { λ a. ⌜ leaves a (now (words .exit)) ≡ pressed pad (now (table .entry)) (now (words .entry)) x y ⌝ }
+fn press(setup: Setup, pad: Pad, table: &[u8], words: &mut [u16], x: u16, y: u16) -> Pad
+    ensures { λ a. ⌜ touching a (now (words .exit)) ≡ pressed setup pad (now (table .entry)) (now (words .entry)) x y ⌝ }
 {
     let before = pad.registers;
     let catch = pad.catch;
     let f = touch::find(table, before.page(), x, y);
     let after = before.with_status(0x01).with_place(x, y);
-    act(f, after, catch, words, x, y)
+    act(setup, f, after, catch, words, x, y)
 }
 
-fn drag(catch: Catch, words: &mut [u16], x: u16, y: u16)
-    ensures { λ _. ⌜ now (words .exit) ≡ dragging catch (now (words .entry)) x y ⌝ }
+fn drag(setup: Setup, catch: Catch, words: &mut [u16], x: u16, y: u16)
+    ensures { λ _. ⌜ now (words .exit) ≡ dragging setup catch (now (words .entry)) x y ⌝ }
 {
     match catch {
         Catch::Free => {}
         Catch::Caught(r) => {
             let old = words::at(words, WordAddress(r.word));
-            words::set(words, WordAddress(r.word), touch::dragged(r, old, x, y));
+            words::set(
+                words,
+                WordAddress(r.word),
+                touch::dragged(setup, r, old, x, y),
+            );
         }
     }
 }
 
-fn keep(pad: Pad, words: &mut [u16], x: u16, y: u16) -> Pad
-    ensures { λ a. ⌜ leaves a (now (words .exit)) ≡ kept pad (now (words .entry)) x y ⌝ }
+fn hold_down(setup: Setup, pad: Pad, words: &mut [u16], x: u16, y: u16) -> Pad
+    ensures { λ a. ⌜ touching a (now (words .exit)) ≡ heldDown setup pad (now (words .entry)) x y ⌝ }
 {
     let before = pad.registers;
     let catch = pad.catch;
-    drag(catch, words, x, y);
+    drag(setup, catch, words, x, y);
     Pad {
         registers: before.with_status(0x03).with_place(x, y),
         catch: catch,
     }
 }
 
-// A contact on the screen, with touch on and a good table.
-pub fn touch_down(pad: Pad, table: &[u8], words: &mut [u16], x: u16, y: u16) -> Pad
-    ensures { λ a. ⌜ leaves a (now (words .exit)) ≡ touched pad (now (table .entry)) (now (words .entry)) x y ⌝ }
+// A contact on the screen of a panel set up so, with touch on and a good table.
+pub fn touch_down(setup: Setup, pad: Pad, table: &[u8], words: &mut [u16], x: u16, y: u16) -> Pad
+    ensures { λ a. ⌜ touching a (now (words .exit)) ≡ touched setup pad (now (table .entry)) (now (words .entry)) x y ⌝ }
 {
     let registers = pad.registers;
     if registers.is_down() {
-        keep(pad, words, x, y)
+        hold_down(setup, pad, words, x, y)
     } else {
-        press(pad, table, words, x, y)
+        press(setup, pad, table, words, x, y)
     }
 }
 

@@ -11,9 +11,9 @@ use lib.Signed.{leZ, mag}
 use borrow.Author.Tests.{eqb-true, eqb-false, ltb-true, ltb-false, leb-true, leb-false, le-leb, lt-ltb}
 use Rattle.stores.specs.Store.{signed, wordOf, valueIn, placed, goodEnd}
 use Rattle.stores.specs.Step.{stepped, fenced, stepStores}
-use Rattle.stores.specs.Slider.{nearest, roundedDown, slid, slidTo, sliderStores}
+use Rattle.stores.specs.Slider.{nearest, Fair, slid, slidTo, sliderStores}
 use Rattle.stores.proofs.Differences.{sub-le, over-one}
-use Rattle.stores.proofs.Slid.{rounded-down-fair, near-le, slid-between-up, slid-between-down}
+use Rattle.stores.proofs.Slid.{near-le, slid-between-up, slid-between-down}
 use Rattle.stores.proofs.Fenced.{fenced-within}
 use Rattle.stores.proofs.Placed.{stores-word, stores-byte}
 
@@ -55,7 +55,7 @@ module _ (mode old a b : ℕ) (z : ℤ) (low : leZ (signed a) z ≡ true) (high 
       go (k, (e, l)) = rw e (stores-byte mode old k n l)
 
   module _ (p : a < 65536) (q : b < 65536) (fits-a : goodEnd mode a ≡ true) (fits-b : goodEnd mode b ≡ true) where
-    pub kept : valueIn mode (placed mode old (wordOf z)) ≡ z
+    kept : valueIn mode (placed mode old (wordOf z)) ≡ z
     kept = go (eqb mode 0) refl fits-a fits-b
       where
         go : (t : Bool) → eqb mode 0 ≡ t → (t || ltb a 256) ≡ true → (t || ltb b 256) ≡ true
@@ -82,12 +82,12 @@ le-or = over-one (λ y z. (leZ y z ≡ true) ⊎ (leZ z y ≡ true)) (λ a b c. 
     go a b c false t =
         let h : b < a = leb-false a b t in inr (sub-le c b a ∙ le-leb b a (omega arith))
 
--- the number that a slider stores, where its mode holds begin and end
-pub slider-kept : (mode old begin end first last at : ℕ) → begin < 65536 → end < 65536
+-- the number that a slider stores, where its mode holds begin and end, for every fair rounding
+pub slider-kept : {ρ : ℕ → ℕ → ℕ} → Fair ρ → (mode old begin end first last at : ℕ) → begin < 65536 → end < 65536
     → goodEnd mode begin ≡ true → goodEnd mode end ≡ true
-    → valueIn mode (sliderStores mode old begin end first last at) ≡ slidTo roundedDown (signed begin) (signed end) first last at
+    → valueIn mode (sliderStores ρ mode old begin end first last at) ≡ slidTo ρ (signed begin) (signed end) first last at
 unfolding sliderStores slidTo
-slider-kept mode old begin end first last at p q fits-b fits-e = go (le-or (signed begin) (signed end))
+slider-kept {ρ} fair mode old begin end first last at p q fits-b fits-e = go (le-or (signed begin) (signed end))
   where
     d : ℕ
     d = nearest first last at - first
@@ -96,13 +96,13 @@ slider-kept mode old begin end first last at p q fits-b fits-e = go (le-or (sign
     w = last - first
 
     stands : ℤ
-    stands = slid roundedDown (signed begin) (signed end) d w
+    stands = slid ρ (signed begin) (signed end) d w
 
     go : (leZ (signed begin) (signed end) ≡ true) ⊎ (leZ (signed end) (signed begin) ≡ true)
         → valueIn mode (placed mode old (wordOf stands)) ≡ stands
     go (inl h) =
-        let in-ends = slid-between-up rounded-down-fair w (signed begin) (signed end) d (near-le first last at) h in
+        let in-ends = slid-between-up fair w (signed begin) (signed end) d (near-le first last at) h in
         kept mode old begin end stands (in-ends .0) (in-ends .1) p q fits-b fits-e
     go (inr h) =
-        let in-ends = slid-between-down rounded-down-fair w (signed begin) (signed end) d (near-le first last at) h in
+        let in-ends = slid-between-down fair w (signed begin) (signed end) d (near-le first last at) h in
         kept mode old end begin stands (in-ends .0) (in-ends .1) q p fits-e fits-b

@@ -8,7 +8,7 @@ use borrow.Author.Needs.{needs}
 use borrow.Author.Tests.{eq-eqb, ne-eqb}
 use Rattle.wire.specs.ByteOrder.{highByte, lowByte, word}
 use Rattle.stores.specs.Store.{inMode, signed, valueIn, placed}
-use Rattle.stores.specs.Raised.{whole}
+use Rattle.stores.specs.Raised.{raisedBy, whole}
 use Rattle.stores.proofs.Whole.{whole-over, whole-signed, whole-word, whole-le}
 
 -- what is picked at each mode
@@ -26,17 +26,17 @@ module _ {A : Type 0} (mode : ℕ) (w h l : A) where
   in-low n m = rw (ne-eqb mode 0 n, ne-eqb mode 1 m)
 
 -- a byte's number, raised
-pub whole-byte : (n b : ℕ) → n ≡ b → whole (98304 + n) ≡ pos b
-whole-byte n b e = ap (λ (k : ℕ). whole (98304 + k)) e ∙ whole-over b
+pub whole-byte : (n b : ℕ) → n ≡ b → whole (raisedBy + n) ≡ pos b
+whole-byte n b e = ap (λ (k : ℕ). whole (raisedBy + k)) e ∙ whole-over b
 
 module _ (mode w : ℕ) where
   pub value-whole : (r : ℕ) → mode ≡ 0 → whole r ≡ signed w → whole r ≡ valueIn mode w
   value-whole r e p = p ∙ in-whole mode _ _ _ e
 
-  pub value-high : (n m k : ℕ) → (mode ≡ 0 → ⊥) → mode ≡ 1 → n ≡ m → m ≡ k → k ≡ highByte w → whole (98304 + n) ≡ valueIn mode w
+  pub value-high : (n m k : ℕ) → (mode ≡ 0 → ⊥) → mode ≡ 1 → n ≡ m → m ≡ k → k ≡ highByte w → whole (raisedBy + n) ≡ valueIn mode w
   value-high n m k a e p q r = whole-byte n (highByte w) (p ∙ q ∙ r) ∙ in-high mode _ _ _ a e
 
-  pub value-low : (n m k : ℕ) → (mode ≡ 0 → ⊥) → (mode ≡ 1 → ⊥) → n ≡ m → m ≡ k → k ≡ lowByte w → whole (98304 + n) ≡ valueIn mode w
+  pub value-low : (n m k : ℕ) → (mode ≡ 0 → ⊥) → (mode ≡ 1 → ⊥) → n ≡ m → m ≡ k → k ≡ lowByte w → whole (raisedBy + n) ≡ valueIn mode w
   value-low n m k a b p q r = whole-byte n (lowByte w) (p ∙ q ∙ r) ∙ in-low mode _ _ _ a b
 
 module _ (mode old new a b r : ℕ) (is : r ≡ word a b) where

@@ -7,8 +7,8 @@ use lib.IntN.{ℤ}
 use mir.Syntax.{w64}
 use mir.Val.{Fits}
 use borrow.Author.Needs.{needs}
-use Rattle.stores.specs.Raised.{whole}
-use Rattle.stores.specs.Slider.{nearest, roundedDown, slidTo}
+use Rattle.stores.specs.Raised.{raisedBy, whole}
+use Rattle.stores.specs.Slider.{nearest, roundedDown, Fair, slidTo}
 use Rattle.stores.proofs.Slid.{near-before, near-behind, near-inside, near-le, share-le, rounded-down-fair, slid-rise, slid-fall}
 
 pub rounds-nothing : (product w : ℕ) → w ≡ 0 → 0 ≡ roundedDown product w
@@ -39,28 +39,42 @@ module _ (first last at near d w : ℕ) (is-near : near ≡ nearest first last a
         let y : d < 65536 = omega arith in
         fits-64 far d x y
 
-    -- and the two ends, raised, how far they lie apart and how much of that is moved
-    module _ (b e far m : ℕ) (moved : m ≡ roundedDown (far * d) w) where
+    -- and the two ends, raised, how far they lie apart and how much of that a fair rounding moves
+    module _ {ρ : ℕ → ℕ → ℕ} (fair : Fair ρ) (b e far m : ℕ) (moved : m ≡ ρ (far * d) w) where
+      moved-le : m ≤ far
+      moved-le = let h : ρ (far * d) w ≤ far = share-le fair far d w d-le in omega arith
+
       pub rise-fits : b ≤ e → e < 131072 → far ≡ e - b → Fits w64 (b + m)
       rise-fits p q is =
-          let h : roundedDown (far * d) w ≤ far = share-le rounded-down-fair far d w d-le in
+          let h : m ≤ far = moved-le in
           record { fits = omega arith }
 
       pub fall-fits : e < b → far ≡ b - e → m ≤ b
-      fall-fits p is = let h : roundedDown (far * d) w ≤ far = share-le rounded-down-fair far d w d-le in omega arith
+      fall-fits p is = let h : m ≤ far = moved-le in omega arith
 
       module _ (begin end : ℤ) (is-b : whole b ≡ begin) (is-e : whole e ≡ end) where
-        pub slide-rises : b ≤ e → far ≡ e - b → whole (b + m) ≡ slidTo roundedDown begin end first last at
+        pub slide-rises : b ≤ e → far ≡ e - b → whole (b + m) ≡ slidTo ρ begin end first last at
         unfolding slidTo whole
-        slide-rises p is =
-            rw (← is-b, ← is-e, ← is-w, ← is-near, ← is-d, slid-rise roundedDown 98304 b e d w p, moved, is)
+        slide-rises p is = rw (← is-b, ← is-e, ← is-w, ← is-near, ← is-d, slid-rise ρ raisedBy b e d w p, moved, is)
 
-        pub slide-falls : e < b → far ≡ b - e → whole (b - m) ≡ slidTo roundedDown begin end first last at
+        pub slide-falls : e < b → far ≡ b - e → whole (b - m) ≡ slidTo ρ begin end first last at
         unfolding slidTo whole
         slide-falls p is =
-            let k : m ≡ roundedDown ((b - e) * d) w = moved ∙ ap (λ (n : ℕ). roundedDown (n * d) w) is in
-            let l : roundedDown ((b - e) * d) w ≤ b = subst (λ (n : ℕ). n ≤ b) k (fall-fits p is) in
-            rw (← is-b, ← is-e, ← is-w, ← is-near, ← is-d, slid-fall roundedDown 98304 b e d w p l, moved, is)
+            let k : m ≡ ρ ((b - e) * d) w = moved ∙ ap (λ (n : ℕ). ρ (n * d) w) is in
+            let l : ρ ((b - e) * d) w ≤ b = subst (λ (n : ℕ). n ≤ b) k (fall-fits p is) in
+            rw (← is-b, ← is-e, ← is-w, ← is-near, ← is-d, slid-fall ρ raisedBy b e d w p l, moved, is)
 
-pub ruleset sliding =
-    (needs, near-before, near-behind, near-inside, rounds-nothing, rounds, product-fits, rise-fits, fall-fits, slide-rises, slide-falls)
+pub ruleset sliding = (
+  needs,
+  near-before,
+  near-behind,
+  near-inside,
+  rounds-nothing,
+  rounds,
+  rounded-down-fair,
+  product-fits,
+  rise-fits,
+  fall-fits,
+  slide-rises,
+  slide-falls,
+)

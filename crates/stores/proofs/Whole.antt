@@ -8,34 +8,34 @@ use lib.IntN.{ℤ, pos, _+ℤ_, _-ℤ_}
 use lib.Signed.{leZ, ltZ}
 use borrow.Author.Tests.{ltb-true, ltb-false}
 use Rattle.stores.specs.Store.{signed, wordOf}
-use Rattle.stores.specs.Raised.{whole}
+use Rattle.stores.specs.Raised.{raisedBy, whole}
 use Rattle.stores.proofs.Differences.{Side, under, over, side, sub-below, sub-above, sub-le, sub-lt, sub-add, sub-sub}
 
 pub whole-le : (a b : ℕ) → leZ (whole a) (whole b) ≡ leb a b
 unfolding whole
-whole-le a b = sub-le 98304 a b
+whole-le a b = sub-le raisedBy a b
 
 pub whole-lt : (a b : ℕ) → ltZ (whole a) (whole b) ≡ ltb a b
 unfolding whole
-whole-lt a b = sub-lt 98304 a b
+whole-lt a b = sub-lt raisedBy a b
 
 pub whole-add : (a n : ℕ) → whole a +ℤ pos n ≡ whole (a + n)
 unfolding whole
-whole-add a n = sub-add 98304 a n
+whole-add a n = sub-add raisedBy a n
 
 pub whole-sub : (a n : ℕ) → n ≤ a → whole a -ℤ pos n ≡ whole (a - n)
 unfolding whole
-whole-sub a n h = sub-sub 98304 a n h
+whole-sub a n h = sub-sub raisedBy a n h
 
-pub whole-over : (n : ℕ) → whole (98304 + n) ≡ pos n
+pub whole-over : (n : ℕ) → whole (raisedBy + n) ≡ pos n
 unfolding whole
-whole-over n = sub-above (98304 + n) 98304 n refl
+whole-over n = sub-above (raisedBy + n) raisedBy n refl
 
 pub whole-word : (n : ℕ) → (n % 65536 + 32768) % 65536 ≡ wordOf (whole n)
 unfolding wordOf whole
-whole-word n = go (side 98304 n)
+whole-word n = go (side raisedBy n)
   where
-    go : Side 98304 n → (n % 65536 + 32768) % 65536 ≡ wordOf (whole n)
+    go : Side raisedBy n → (n % 65536 + 32768) % 65536 ≡ wordOf (whole n)
     go (under k e p) = rw p (omega arith)
     go (over k e p) = rw p (omega arith)
 
@@ -44,5 +44,5 @@ unfolding signed whole
 whole-signed w h = go (ltb w 32768) refl
   where
     go : (t : Bool) → ltb w 32768 ≡ t → whole ((w + 32768) % 65536 + 65536) ≡ signed w
-    go true t = let l : w < 32768 = ltb-true w 32768 t in rw t (sub-above ((w + 32768) % 65536 + 65536) 98304 w (omega arith))
-    go false t = let l : 32768 ≤ w = ltb-false w 32768 t in rw t (sub-below ((w + 32768) % 65536 + 65536) 98304 (65535 - w) (omega arith))
+    go true t = let l : w < 32768 = ltb-true w 32768 t in rw t (sub-above ((w + 32768) % 65536 + 65536) raisedBy w (omega arith))
+    go false t = let l : 32768 ≤ w = ltb-false w 32768 t in rw t (sub-below ((w + 32768) % 65536 + 65536) raisedBy (65535 - w) (omega arith))

@@ -1,7 +1,11 @@
--- How the code holds whole numbers from −98,304 on: raised by 98,304, so that differences and comparisons are those of 01.
+-- What the private functions of the code are held against; no public contract cites any of this. They hold whole numbers from −98,304 on
+-- raised by 98,304, so that differences and comparisons are those of 01.
 use Prim.Native.Nat.{ℕ}
 use lib.IntN.{ℤ, subℕ}
 
+abbrev pub raisedBy : ℕ
+raisedBy = 98304
+
 -- the whole number that a raised one stands for
 unfoldable pub whole : ℕ → ℤ
-whole n = subℕ n 98304
+whole n = subℕ n raisedBy

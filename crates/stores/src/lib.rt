@@ -9,6 +9,9 @@ ghost use Rattle.stores.specs.Slider.{nearest, roundedDown, slidTo, slid
 
 // ---- Numbers in words
 
+// By how much whole numbers are raised, so that any step taken from any word's number stays above 0.
+const RAISED_BY: u64 = 98304;
+
 // A word as a number that holds sums and products of words.
 fn wide(w: u16) -> u64
     ensures { λ r. ⌜ r ≡ w ⌝ }
@@ -16,7 +19,7 @@ fn wide(w: u16) -> u64
     w as u64
 }
 
-// A word's signed number, raised by 98,304, so that a step taken from it stays above 0.
+// A word's signed number, raised.
 fn raise(w: u16) -> u64
     ensures { λ r. ⌜ (whole r ≡ signed w) × ((65536 ≤ r) × (r < 131072)) ⌝ }
 {
@@ -45,9 +48,9 @@ fn value_in(mode: u8, w: u16) -> u64
         return raise(w);
     }
     if mode == 1 {
-        return 98304 + wide(wire::wide(wire::high_byte(w)));
+        return RAISED_BY + wide(wire::wide(wire::high_byte(w)));
     }
-    98304 + wide(wire::wide(wire::low_byte(w)))
+    RAISED_BY + wide(wire::wide(wire::low_byte(w)))
 }
 
 // What a mode makes of the old word and the new one.
@@ -171,7 +174,8 @@ fn slide(begin: u16, end: u16, first: u16, last: u16, at: u16) -> u64
     }
 }
 
-// The word after a slider acted on it: begin and end stand at the first and the last edge, and the point lies at a place along the axis.
+// The word after a slider acted on it, rounding down: begin and end stand at the first and the last edge, and the point lies at a
+// place along the axis.
 pub fn slider_stores(
     mode: u8,
     old: u16,
@@ -181,7 +185,7 @@ pub fn slider_stores(
     last: u16,
     at: u16,
 ) -> u16
-    ensures { λ r. ⌜ r ≡ sliderStores mode old begin end first last at ⌝ }
+    ensures { λ r. ⌜ r ≡ sliderStores roundedDown mode old begin end first last at ⌝ }
 {
     let stands = slide(begin, end, first, last, at);
     place(mode, old, lower(stands))

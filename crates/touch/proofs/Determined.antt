@@ -1,27 +1,27 @@
 -- One answer fits each public function.
 use Rattle.wire.proofs.OneAnswer.{OneAnswer}
-use Rattle.touch.proofs.good_setup.Reads as good-setup
-use Rattle.touch.proofs.good_setup.Kinds as good-setup-kinds
-use Rattle.touch.proofs.checking.Reads as checking
-use Rattle.touch.proofs.checking.Kinds as checking-kinds
-use Rattle.touch.proofs.acknowledging.Reads as acknowledging
-use Rattle.touch.proofs.acknowledging.Kinds as acknowledging-kinds
-use Rattle.touch.proofs.record_of.Reads as record-of
-use Rattle.touch.proofs.record_of.Kinds as record-of-kinds
-use Rattle.touch.proofs.no_next.Reads as no-next
-use Rattle.touch.proofs.no_next.Kinds as no-next-kinds
-use Rattle.touch.proofs.is_slider.Reads as is-slider
-use Rattle.touch.proofs.is_slider.Kinds as is-slider-kinds
-use Rattle.touch.proofs.good_record.Reads as good-record
-use Rattle.touch.proofs.good_record.Kinds as good-record-kinds
-use Rattle.touch.proofs.judge.Reads as judge
-use Rattle.touch.proofs.judge.Kinds as judge-kinds
-use Rattle.touch.proofs.find.Reads as find
-use Rattle.touch.proofs.find.Kinds as find-kinds
-use Rattle.touch.proofs.acted.Reads as acted
-use Rattle.touch.proofs.acted.Kinds as acted-kinds
-use Rattle.touch.proofs.dragged.Reads as dragged
-use Rattle.touch.proofs.dragged.Kinds as dragged-kinds
+use Rattle.touch.proofs.setups.good_setup.Reads as good-setup
+use Rattle.touch.proofs.setups.good_setup.Kinds as good-setup-kinds
+use Rattle.touch.proofs.setups.checking.Reads as checking
+use Rattle.touch.proofs.setups.checking.Kinds as checking-kinds
+use Rattle.touch.proofs.setups.acknowledging.Reads as acknowledging
+use Rattle.touch.proofs.setups.acknowledging.Kinds as acknowledging-kinds
+use Rattle.touch.proofs.records.record_of.Reads as record-of
+use Rattle.touch.proofs.records.record_of.Kinds as record-of-kinds
+use Rattle.touch.proofs.records.no_next.Reads as no-next
+use Rattle.touch.proofs.records.no_next.Kinds as no-next-kinds
+use Rattle.touch.proofs.records.is_slider.Reads as is-slider
+use Rattle.touch.proofs.records.is_slider.Kinds as is-slider-kinds
+use Rattle.touch.proofs.judging.good_record.Reads as good-record
+use Rattle.touch.proofs.judging.good_record.Kinds as good-record-kinds
+use Rattle.touch.proofs.judging.judge.Reads as judge
+use Rattle.touch.proofs.judging.judge.Kinds as judge-kinds
+use Rattle.touch.proofs.finding.find.Reads as find
+use Rattle.touch.proofs.finding.find.Kinds as find-kinds
+use Rattle.touch.proofs.acting.acted.Reads as acted
+use Rattle.touch.proofs.acting.acted.Kinds as acted-kinds
+use Rattle.touch.proofs.acting.dragged.Reads as dragged
+use Rattle.touch.proofs.acting.dragged.Kinds as dragged-kinds
 
 pub good-setup-determined : OneAnswer 0 good-setup-kinds.ps good-setup-kinds.r good-setup.Post
 good-setup-determined κs a x y s t p q = cc

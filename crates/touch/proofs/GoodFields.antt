@@ -4,6 +4,7 @@ use mathlib.Core.Bool.{Bool, true, false, _&&_, _||_}
 use Prim.Native.Nat.{_<_, _%_}
 use lib.Dec.{ltb, eqb}
 use borrow.Author.Tests.{ltb-true}
+use Rattle.wire.specs.Addresses.{wordCount}
 use Rattle.stores.specs.Store.{goodEnd}
 use Rattle.touch.specs.declared.Setup.{Setup}
 use Rattle.touch.specs.declared.SliderFields.{SliderFields}
@@ -29,7 +30,7 @@ module _ (s : Setup) (r : Record) where
   pages = ltb (r .page) (s .pages) && goodArea s (r .area) && (noNext r || ltb (r .next) (s .pages))
 
   fields : Bool
-  fields = pages && eqb (r .fe) 0xFE && ltb (r .word) 0x7000
+  fields = pages && eqb (r .fe) 0xFE && ltb (r .word) wordCount
 
   module _ (good : goodRecord s r ≡ true) where
     fields-good : fields ≡ true
@@ -39,7 +40,7 @@ module _ (s : Setup) (r : Record) where
     pages-good : pages ≡ true
     unfolding pages fields
     pages-good =
-        left pages (eqb (r .fe) 0xFE) (left (pages && eqb (r .fe) 0xFE) (ltb (r .word) 0x7000) fields-good)
+        left pages (eqb (r .fe) 0xFE) (left (pages && eqb (r .fe) 0xFE) (ltb (r .word) wordCount) fields-good)
 
     -- the tests of its kind
     pub good-kind : goodKind r (r .kind) ≡ true
@@ -47,9 +48,9 @@ module _ (s : Setup) (r : Record) where
     good-kind = right fields (goodKind r (r .kind)) good
 
     -- "the word below 0x7000"
-    pub good-word : r .word < 0x7000
+    pub good-word : r .word < wordCount
     unfolding pages fields
-    good-word = ltb-true (r .word) 0x7000 (right (pages && eqb (r .fe) 0xFE) (ltb (r .word) 0x7000) fields-good)
+    good-word = ltb-true (r .word) wordCount (right (pages && eqb (r .fe) 0xFE) (ltb (r .word) wordCount) fields-good)
 
     -- "Page and next page lie below P"
     pub good-page : r .page < s .pages

@@ -2,6 +2,7 @@
 pub mod Tables
 pub mod GoodFields
 pub mod Points
+pub mod Rounding
 pub mod Acts
 -- the laws that the functions' proofs cite
 pub mod ByCode

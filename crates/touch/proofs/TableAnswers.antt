@@ -15,16 +15,16 @@ use Rattle.touch.specs.declared.Verdict.the-variants.{Good, NotRecords, 
 use Rattle.touch.specs.declared.Found.{Found}
 use Rattle.touch.specs.declared.Found.the-variants.{Nothing, At}
 use Rattle.touch.specs.Record.{recordOf}
-use Rattle.touch.specs.Table.{recordAt, recordsFrom, recordsOf, firstOf}
+use Rattle.touch.specs.Table.{endPage, recordBytes, recordAt, recordsFrom, recordsOf, firstOf}
 use Rattle.touch.specs.Judge.{goodRecord, wrong, namedWrong, firstWrong, notRecords, judged}
 use Rattle.touch.specs.Find.{holds, found}
 
--- the part that `record_at` lends is the record's 32 bytes
-pub record-at-is : (table : List ℕ) (i : ℕ) (r : Record) → r ≡ recordOf (take (i * 32 + 32 - i * 32) (drop (i * 32) table))
-    → r ≡ recordAt table i
+-- the part that `record_at` lends is the record's bytes
+pub record-at-is : (table : List ℕ) (i : ℕ) (r : Record)
+    → r ≡ recordOf (take (i * recordBytes + recordBytes - i * recordBytes) (drop (i * recordBytes) table)) → r ≡ recordAt table i
 record-at-is table i r p =
-    let e : i * 32 + 32 - i * 32 ≡ 32 = omega arith in
-    p ∙ ap (λ (n : ℕ). recordOf (take n (drop (i * 32) table))) e
+    let e : i * recordBytes + recordBytes - i * recordBytes ≡ recordBytes = omega arith in
+    p ∙ ap (λ (n : ℕ). recordOf (take n (drop (i * recordBytes) table))) e
 
 -- what a test picks from record i on, where n records stand in the table
 abbrev pub picked : (Record → Bool) → List ℕ → (i n : ℕ) → Found
@@ -42,18 +42,18 @@ module _ (picks : Record → Bool) (table : List ℕ) (i n : ℕ) where
     next : n - i ≡ suc (n - (i + 1))
     next = omega arith
 
-    picked-ends : r .page ≡ 0xFFFF → picked picks table i n ≡ Nothing
+    picked-ends : r .page ≡ endPage → picked picks table i n ≡ Nothing
     unfolding firstOf recordsFrom
-    picked-ends e = rw (next, ← is, eq-eqb (r .page) 0xFFFF e)
+    picked-ends e = rw (next, ← is, eq-eqb (r .page) endPage e)
 
-    module _ (goes : r .page ≡ 0xFFFF → ⊥) where
+    module _ (goes : r .page ≡ endPage → ⊥) where
       picked-here : picks r ≡ true → picked picks table i n ≡ At i r
       unfolding firstOf recordsFrom
-      picked-here e = rw (next, ← is, ne-eqb (r .page) 0xFFFF goes, e)
+      picked-here e = rw (next, ← is, ne-eqb (r .page) endPage goes, e)
 
       picked-on : picks r ≡ false → picked picks table i n ≡ picked picks table (i + 1) n
       unfolding firstOf recordsFrom
-      picked-on e = rw (next, ← is, ne-eqb (r .page) 0xFFFF goes, e)
+      picked-on e = rw (next, ← is, ne-eqb (r .page) endPage goes, e)
 
 -- `first_wrong`: the first record that is not good
 is-wrong : (s : Setup) (r : Record) (b : Bool) → b ≡ goodRecord s r → b ≡ false → wrong s r ≡ true
@@ -64,18 +64,18 @@ is-not-wrong : (s : Setup) (r : Record) (b : Bool) → b ≡ goodRecord s r → 
 unfolding wrong
 is-not-wrong s r b told e = ap not (sym told ∙ e)
 
-pub wrong-start : (s : Setup) (table : List ℕ) → firstOf (wrong s) 0 (recordsOf table) ≡ picked (wrong s) table 0 (length table / 32)
-wrong-start s table = picked-start (wrong s) table (length table / 32)
+pub wrong-start : (s : Setup) (table : List ℕ) → firstOf (wrong s) 0 (recordsOf table) ≡ picked (wrong s) table 0 (length table / recordBytes)
+wrong-start s table = picked-start (wrong s) table (length table / recordBytes)
 
 module _ (s : Setup) (table : List ℕ) (i n : ℕ) (F : Found) (left : F ≡ picked (wrong s) table i n) where
   pub none-wrong : n ≤ i → Good ≡ namedWrong F
   none-wrong h = sym (ap namedWrong (left ∙ picked-done (wrong s) table i n h))
 
   module _ (r : Record) (more : i < n) (is : r ≡ recordAt table i) where
-    pub ends-good : r .page ≡ 0xFFFF → Good ≡ namedWrong F
+    pub ends-good : r .page ≡ endPage → Good ≡ namedWrong F
     ends-good e = sym (ap namedWrong (left ∙ picked-ends (wrong s) table i n r more is e))
 
-    module _ (goes : r .page ≡ 0xFFFF → ⊥) (b : Bool) (told : b ≡ goodRecord s r) where
+    module _ (goes : r .page ≡ endPage → ⊥) (b : Bool) (told : b ≡ goodRecord s r) where
       pub first-wrong-here : b ≡ false → Wrong i ≡ namedWrong F
       first-wrong-here e =
           let p : wrong s r ≡ true = is-wrong s r b told e in
@@ -92,19 +92,19 @@ module _ (page x y : ℕ) (table : List ℕ) (i n : ℕ) (F : Found) (left : F �
   none-found h = sym (left ∙ picked-done (holds page x y) table i n h)
 
   module _ (r : Record) (more : i < n) (is : r ≡ recordAt table i) where
-    pub ends-unfound : r .page ≡ 0xFFFF → Nothing ≡ F
+    pub ends-unfound : r .page ≡ endPage → Nothing ≡ F
     ends-unfound e = sym (left ∙ picked-ends (holds page x y) table i n r more is e)
 
-    module _ (goes : r .page ≡ 0xFFFF → ⊥) (b : Bool) (told : b ≡ holds page x y r) where
+    module _ (goes : r .page ≡ endPage → ⊥) (b : Bool) (told : b ≡ holds page x y r) where
       pub found-here : b ≡ true → At i r ≡ F
       found-here e = sym (left ∙ picked-here (holds page x y) table i n r more is goes (sym told ∙ e))
 
       pub found-on : b ≡ false → F ≡ picked (holds page x y) table (i + 1) n
       found-on e = left ∙ picked-on (holds page x y) table i n r more is goes (sym told ∙ e)
 
-pub found-start : (page x y : ℕ) (table : List ℕ) → found table page x y ≡ picked (holds page x y) table 0 (length table / 32)
+pub found-start : (page x y : ℕ) (table : List ℕ) → found table page x y ≡ picked (holds page x y) table 0 (length table / recordBytes)
 unfolding found
-found-start page x y table = picked-start (holds page x y) table (length table / 32)
+found-start page x y table = picked-start (holds page x y) table (length table / recordBytes)
 
 -- `judge`
 pub judged-12 : (s : Setup) (table : List ℕ) → notRecords table ≡ true → NotRecords ≡ judged s table

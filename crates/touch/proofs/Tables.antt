@@ -13,7 +13,7 @@ use Rattle.touch.specs.declared.Record.{Record}
 use Rattle.touch.specs.declared.Verdict.the-variants.{Good, NotRecords, Wrong}
 use Rattle.touch.specs.declared.Found.{Found}
 use Rattle.touch.specs.declared.Found.the-variants.{Nothing, At}
-use Rattle.touch.specs.Table.{ends, recordAt, recordsFrom, recordsOf, firstOf}
+use Rattle.touch.specs.Table.{recordBytes, ends, recordAt, recordsFrom, recordsOf, firstOf}
 use Rattle.touch.specs.Judge.{goodRecord, wrong, namedWrong, notRecords, judged}
 use Rattle.touch.specs.Find.{holds, found}
 
@@ -91,10 +91,10 @@ unfolding found
 found-holds table page x y i r e = picked-passes (holds page x y) (recordsOf table) 0 i r e
 
 pub found-stands : (table : List ℕ) (page x y i : ℕ) (r : Record) → found table page x y ≡ At i r
-    → (r ≡ recordAt table i) × ((i < length table / 32) × ((k : ℕ) → k < i → holds page x y (recordAt table k) ≡ false))
+    → (r ≡ recordAt table i) × ((i < length table / recordBytes) × ((k : ℕ) → k < i → holds page x y (recordAt table k) ≡ false))
 unfolding found Stands
 found-stands table page x y i r e =
-    let s = picked-stands (holds page x y) table (length table / 32) 0 i r e in
+    let s = picked-stands (holds page x y) table (length table / recordBytes) 0 i r e in
     (s .0, (omega arith, λ k h. s .1 .1 .1 k (omega arith) h))
 
 none-wrong-if-good : (s : Setup) (table : List ℕ) → judged s table ≡ Good → firstOf (wrong s) 0 (recordsOf table) ≡ Nothing
@@ -123,15 +123,15 @@ only-twelve s table e = go (notRecords table) (firstOf (wrong s) 0 (recordsOf ta
 -- "13 a record is wrong; the first wrong one is named"
 pub thirteen-names-first : (s : Setup) (table : List ℕ) (i : ℕ) → judged s table ≡ Wrong i
     → (goodRecord s (recordAt table i) ≡ false)
-    × ((i < length table / 32) × ((k : ℕ) → k < i → goodRecord s (recordAt table k) ≡ true))
+    × ((i < length table / recordBytes) × ((k : ℕ) → k < i → goodRecord s (recordAt table k) ≡ true))
 unfolding judged wrong Stands
 thirteen-names-first s table i e = go (notRecords table) (firstOf (wrong s) 0 (recordsOf table)) refl e
   where
     named : (r : Record) → firstOf (wrong s) 0 (recordsOf table) ≡ At i r
         → (goodRecord s (recordAt table i) ≡ false)
-        × ((i < length table / 32) × ((k : ℕ) → k < i → goodRecord s (recordAt table k) ≡ true))
+        × ((i < length table / recordBytes) × ((k : ℕ) → k < i → goodRecord s (recordAt table k) ≡ true))
     named r f =
-        let stands = picked-stands (wrong s) table (length table / 32) 0 i r f in
+        let stands = picked-stands (wrong s) table (length table / recordBytes) 0 i r f in
         let is = picked-passes (wrong s) (recordsOf table) 0 i r f in (
           ap (goodRecord s) (sym (stands .0)) ∙ not-true (goodRecord s r) is,
           (omega arith, λ k h. not-false (goodRecord s (recordAt table k)) (stands .1 .1 .1 k (omega arith) h)),
@@ -139,7 +139,7 @@ thirteen-names-first s table i e = go (notRecords table) (firstOf (wrong s) 0 (r
 
     go : (b : Bool) (f : Found) → firstOf (wrong s) 0 (recordsOf table) ≡ f → cond b NotRecords (namedWrong f) ≡ Wrong i
         → (goodRecord s (recordAt table i) ≡ false)
-        × ((i < length table / 32) × ((k : ℕ) → k < i → goodRecord s (recordAt table k) ≡ true))
+        × ((i < length table / recordBytes) × ((k : ℕ) → k < i → goodRecord s (recordAt table k) ≡ true))
     go true f q e = no (cc)
     go false Nothing q e = no (cc)
     go false (At j r) q e = let same : j ≡ i = cc in named r (q ∙ ap (λ (k : ℕ). At k r) same)

@@ -16,6 +16,7 @@ use Rattle.touch.specs.declared.Verdict.{Verdict}
 use Rattle.touch.specs.declared.Verdict.the-variants.{Good, NotRecords, Wrong}
 use Rattle.touch.specs.declared.Found.{Found}
 use Rattle.touch.specs.declared.Found.the-variants.{Nothing, At}
+use Rattle.wire.specs.Addresses.{wordCount}
 use Rattle.stores.specs.Store.{signed, goodEnd}
 use Rattle.touch.specs.Record.{noNext, digitMode, firstEdge, lastEdge}
 use Rattle.touch.specs.Table.{firstOf, recordsOf, recordBytes, mostRecords}
@@ -65,7 +66,7 @@ goodRecord s r =
     && goodArea s (r .area)
     && (noNext r || ltb (r .next) (s .pages))
     && eqb (r .fe) 0xFE
-    && ltb (r .word) 0x7000
+    && ltb (r .word) wordCount
     && goodKind r (r .kind)
 
 -- "13 a record is wrong; the first wrong one is named"

@@ -1,4 +1,5 @@
 pub mod Setup
+pub mod Rounding
 pub mod Record
 pub mod Table
 pub mod Judge

@@ -21,8 +21,11 @@ abbrev pub recordAt : List ℕ → ℕ → Record
 recordAt table i = recordOf (take recordBytes (drop (i * recordBytes) table))
 
 -- "A record with page FFFF ends it"
+abbrev pub endPage : ℕ
+endPage = 0xFFFF
+
 abbrev pub ends : Record → Bool
-ends r = eqb (r .page) 0xFFFF
+ends r = eqb (r .page) endPage
 
 -- the records from number i on, n of them unless the table ends before: "later bytes are ignored"
 unfoldable pub recordsFrom : List ℕ → (i n : ℕ) → List Record

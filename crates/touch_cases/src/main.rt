@@ -82,8 +82,8 @@ fn answer(head: &[u8], table: &[u8]) {
         0 => say_setup(s),
         1 => say_verdict(touch::judge(s, table)),
         2 => say_found(touch::find(table, page, x, y)),
-        3 => say_word(touch::acted(touch::record_of(table), old, x, y)),
-        _ => say_word(touch::dragged(touch::record_of(table), old, x, y)),
+        3 => say_word(touch::acted(s, touch::record_of(table), old, x, y)),
+        _ => say_word(touch::dragged(s, touch::record_of(table), old, x, y)),
     }
 }
 
