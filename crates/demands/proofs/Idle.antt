@@ -5,48 +5,27 @@ use mathlib.Core.List.{List, [], _∷_, _++_, map}
 use Prim.Native.Nat.{ℕ, _≤_, _<_}
 use native.Mathlib.Omega.{arith}
 use lib.ListN.{getD, replicate}
-use Rattle.check_value.specs.CheckValue.{polynomial, bitStep, bitSteps, byteStep, checkFrom, checkValue}
-use Rattle.frame.specs.Frame.{headerBytes, checkLength, checkBytes, lengthByte, enclosed, framed, frameOf, leastLength, mostData, contentOf, rightCheck}
-use Rattle.frame.specs.Writer.{leastRoom, frameLaid}
-use Rattle.wire.specs.Room.{over, laid, laidAt}
-use Rattle.reading.specs.Place.{Rules, Report, acceptedFrame, cutShort, judged, afterHeader, behind, look}
+use Rattle.reading.specs.Place.{Rules, Report, acceptedFrame}
 use Rattle.reading.specs.Line as Line
-use Rattle.reading.specs.Moves.{isPass, isReport, passes, stillClosed, settled, waiting, withByte, withMark}
 use Rattle.reading.specs.Demand3.{none, next, joined, BeginsNone, acceptedOf, reportOfFrame, checked}
 use Rattle.reading.proofs.ByteLists.{allBytes, tested-bytes}
 use Rattle.reading.proofs.Stable.{never}
-use Rattle.line.specs.State.{padded}
-use Rattle.line.specs.Methods as line
-use Rattle.line.specs.Methods.{givenByte, givenMark, givenBytes}
 use Rattle.registers.specs.declared.Registers.{Registers}
-use Rattle.registers.specs.Table.{startRegisters, registerAt, registerRun, writable}
-use Rattle.registers.specs.Run as Run
-use Rattle.registers.specs.Run.{covers, allWritable, halfPage, unwritableRun, wrongValue, written}
-use Rattle.wire.specs.Addresses.{registerCount, wordCount}
-use Rattle.words.specs.Words.{wordAtAddress, wordsOf, bytesOf, wordRun, wordsWritten}
-use Rattle.commands.specs.Outcome as Outcome
-use Rattle.commands.specs.Outcome.{replyTooLong, writeRegistersOutcome, readRegistersOutcome, writeWordsOutcome, readWordsOutcome}
-use Rattle.commands.specs.Effect.{replying, registersReplying, wordsReplying, registersWritten, wordsWriting}
-use Rattle.commands.specs.Reply.{registersReply}
-use Rattle.commands.specs.Perform.{performance}
+use Rattle.registers.specs.Table.{registerAt}
+use Rattle.words.specs.Words.{wordAtAddress}
 use Rattle.touch.specs.declared.Setup.{Setup}
-use Rattle.touch.specs.Judge as Judge
-use Rattle.touch.specs.Table.{recordsFrom, firstOf}
-use Rattle.panel.specs.Start.{newPanel, startJudged, started}
-use Rattle.panel.specs.Inputs.{fedBytes, fedMark}
-use Rattle.panel.specs.Reporting.{lent, acknowledged, accepting, handing, reporting}
+use Rattle.panel.specs.Start.{started}
 use Rattle.panel.specs.declared.StartAnswer.the-variants as start
-use Rattle.panel.specs.Numbers.{reportNumber}
-use Rattle.demands.specs.Calls.{Moment, Call, bytes, mark, ask, begun, after, afterAll, numberGiven, reportHanded, handedOver, handedOverAll, Typed, AllTyped, Arises, from-start, by-call}
-use Rattle.demands.specs.Reports.{reportWaits, acknowledgementOf}
-use Rattle.demands.specs.Given.{unlessRefused, given, givenAll}
+use Rattle.demands.specs.Calls.{Moment, Call, bytes, mark, ask, begun, after, afterAll, numberGiven, handedOver, handedOverAll, Typed, AllTyped, Arises, from-start, by-call}
+use Rattle.demands.specs.Demand2.{leaving}
+use Rattle.demands.specs.Given.{givenAll}
 use Rattle.demands.specs.Demand3.{HandsOver, Ready, AllAskedFor, BehindAMark}
-use Rattle.demands.specs.Demand2.{leaving, afterWrite, afterRead, afterStore, afterFetch}
+use Rattle.demands.specs.Story.{version, new}
+use Rattle.demands.specs.Idle.{RefusesEveryFrame, ReadsFirstFrameOnly, ReadsFirstStretchOnly, Leaves, asked, DoesCommands, RefusesEveryCommand, RepliesAlike, StoresNoRegister, StoresNoWord, NotIdle}
+use Rattle.demands.proofs.Computed.{computingStart, computingCalls}
 use Rattle.demands.proofs.Demand2.{writes-registers, reads-registers, writes-words, reads-words}
 use Rattle.demands.proofs.Demand3.{demand3-closed}
-use Rattle.demands.specs.Story.{version, new}
 use Rattle.demands.proofs.Story.{copies-below, new-arises, new-ready, version-good, version-bytes}
-use Rattle.demands.specs.Idle.{RefusesEveryFrame, ReadsFirstFrameOnly, ReadsFirstStretchOnly, Leaves, asked, DoesCommands, RefusesEveryCommand, RepliesAlike, StoresNoRegister, StoresNoWord, NotIdle}
 
 -- the same once a mark has come
 abbrev marked : Moment
@@ -78,15 +57,15 @@ record Gives (now : Moment) (calls : List Call) (frames : List (List ℕ)) : Typ
   all-asked : AllAskedFor now calls
 
 one-gives : Gives new one (version ∷ [])
-unfolding started startJudged Judge.judged recordsFrom firstOf newPanel fedBytes fedMark givenMark givenBytes givenByte line.asked padded headerBytes checkLength leastLength contentOf rightCheck look behind afterHeader judged cutShort isPass isReport passes stillClosed settled waiting withByte withMark checkValue checkFrom byteStep bitSteps bitStep polynomial reporting lent handing accepting acknowledged performance registersReplying replying readRegistersOutcome replyTooLong registersReply registerRun registerAt startRegisters frameLaid mostData frameOf framed enclosed lengthByte checkBytes laid over reportWaits given givenAll after afterAll unlessRefused joined
+unfolding computingCalls
 one-gives = record { ready = new-ready; given-is = refl; all-asked = refl }
 
 two-gives : Gives new two (version ∷ version ∷ [])
-unfolding started startJudged Judge.judged recordsFrom firstOf newPanel fedBytes fedMark givenMark givenBytes givenByte line.asked padded headerBytes checkLength leastLength contentOf rightCheck look behind afterHeader judged cutShort isPass isReport passes stillClosed settled waiting withByte withMark checkValue checkFrom byteStep bitSteps bitStep polynomial reporting lent handing accepting acknowledged performance registersReplying replying readRegistersOutcome replyTooLong registersReply registerRun registerAt startRegisters frameLaid mostData frameOf framed enclosed lengthByte checkBytes laid over reportWaits given givenAll after afterAll unlessRefused joined
+unfolding computingCalls
 two-gives = record { ready = new-ready; given-is = refl; all-asked = refl }
 
 behind-gives : Gives marked one (version ∷ [])
-unfolding Typed started startJudged Judge.judged recordsFrom firstOf newPanel fedBytes fedMark givenMark givenBytes givenByte line.asked padded headerBytes checkLength leastLength contentOf rightCheck look behind afterHeader judged cutShort isPass isReport passes stillClosed settled waiting withByte withMark checkValue checkFrom byteStep bitSteps bitStep polynomial reporting lent handing accepting acknowledged performance registersReplying replying readRegistersOutcome replyTooLong registersReply registerRun registerAt startRegisters frameLaid mostData frameOf framed enclosed lengthByte checkBytes laid over reportWaits given givenAll after afterAll unlessRefused joined
+unfolding computingCalls Typed
 behind-gives =
     record {
       ready = record { arises = by-call new mark tt new-arises; checking-on = refl; nothing = (refl, refl) };
@@ -95,7 +74,7 @@ behind-gives =
     }
 
 mark-given : givenAll new (mark ∷ []) ≡ [] ++ (Line.mark ∷ [])
-unfolding started startJudged Judge.judged recordsFrom firstOf newPanel fedBytes fedMark givenMark givenBytes givenByte line.asked padded headerBytes checkLength leastLength contentOf rightCheck look behind afterHeader judged cutShort isPass isReport passes stillClosed settled waiting withByte withMark checkValue checkFrom byteStep bitSteps bitStep polynomial reporting lent handing accepting acknowledged performance registersReplying replying readRegistersOutcome replyTooLong registersReply registerRun registerAt startRegisters frameLaid mostData frameOf framed enclosed lengthByte checkBytes laid over reportWaits given givenAll after afterAll unlessRefused joined
+unfolding computingCalls
 mark-given = refl
 
 some-is-not-none : {report : Report} {reports : List Report} → report ∷ reports ≡ [] → ⊥
@@ -110,19 +89,19 @@ module _ (handsOver : HandsOver) (demand : BehindAMark handsOver) where
   read = reportOfFrame (checked 0x5A 0xA5) version
 
   one-accepted : acceptedOf (handsOver new one) ≡ read ∷ []
-  unfolding started startJudged Judge.judged recordsFrom firstOf newPanel headerBytes
+  unfolding computingStart
   one-accepted =
       demand new (one-gives .ready) one one-typed [] (version ∷ []) (next version-good none) (one-gives .given-is)
       (no-damage (checked 0x5A 0xA5) (joined (version ∷ []))) (one-gives .all-asked)
 
   two-accepted : acceptedOf (handsOver new two) ≡ read ∷ read ∷ []
-  unfolding started startJudged Judge.judged recordsFrom firstOf newPanel headerBytes
+  unfolding computingStart
   two-accepted =
       demand new (two-gives .ready) two two-typed [] (version ∷ version ∷ []) (next version-good (next version-good none)) (two-gives .given-is)
       (no-damage (checked 0x5A 0xA5) (joined (version ∷ version ∷ []))) (two-gives .all-asked)
 
   behind-accepted : acceptedOf (handsOver marked one) ≡ read ∷ []
-  unfolding started startJudged Judge.judged recordsFrom firstOf newPanel headerBytes afterAll after fedMark
+  unfolding computingCalls
   behind-accepted =
       demand marked (behind-gives .ready) one one-typed [] (version ∷ []) (next version-good none) (behind-gives .given-is)
       (no-damage (checked 0x5A 0xA5) (joined (version ∷ []))) (behind-gives .all-asked)
@@ -180,7 +159,7 @@ abbrev readLight : List ℕ
 readLight = 0x5A ∷ 0xA5 ∷ 0x03 ∷ 0x81 ∷ 0x01 ∷ 0x01 ∷ []
 
 plain-started : started plain [] .answer ≡ start.Started
-unfolding started startJudged Judge.judged recordsFrom firstOf
+unfolding computingStart
 plain-started = refl
 
 fed-arises : (w : ℕ) (frame : List ℕ) → w < 65536 → allBytes frame ≡ true → Arises (fed (replicate 28672 w) frame)
@@ -203,7 +182,7 @@ record AllDone : Type 0 where
   reading-light : Done zeros readLight 0x81 (0x01 ∷ 0x01 ∷ [])
 
 all-done : AllDone
-unfolding handedOver reportHanded numberGiven reportNumber Outcome.numberOf wordsWriting writeWordsOutcome wordsOf wordsReplying readWordsOutcome registersWritten writeRegistersOutcome unwritableRun allWritable writable halfPage covers wrongValue Run.given registersReplying replying readRegistersOutcome replyTooLong started startJudged Judge.judged recordsFrom firstOf newPanel fedBytes givenBytes givenByte line.asked padded headerBytes checkLength leastLength contentOf rightCheck look behind afterHeader judged cutShort isPass passes stillClosed settled withByte reporting lent handing accepting acknowledged performance after
+unfolding computingCalls
 all-done =
     record {
       storing = record { hands = refl; done = refl };
@@ -217,13 +196,13 @@ all-done =
 -- what is left, of any build
 module _ (leaves : Leaves) (demand : DoesCommands leaves) where
   word-is-500 : wordAtAddress (leaves (fed zeros store) .words) 0x0010 ≡ 500
-  unfolding allBytes afterStore leaving wordAtAddress wordsWritten wordsOf laidAt after
+  unfolding computingCalls allBytes
   word-is-500 =
       ap (λ (m : Moment). wordAtAddress (m .words) 0x0010)
       (demand .stores (fed zeros store) (fed-arises 0 store (omega arith) refl) (0x00 ∷ 0x10 ∷ 0x01 ∷ 0xF4 ∷ []) (all-done .storing .done) (all-done .storing .hands))
 
   word-was-0 : wordAtAddress (fed zeros store .words) 0x0010 ≡ 0
-  unfolding wordAtAddress after
+  unfolding computingCalls
   word-was-0 = refl
 
   -- "taking frames without storing", against demand 2 (`writes-words`)
@@ -241,12 +220,12 @@ module _ (leaves : Leaves) (demand : DoesCommands leaves) where
       omega arith
 
   register-is-1 : registerAt (leaves (fed zeros write) .panel .registers) 0x02 ≡ 1
-  unfolding allBytes afterWrite leaving registerAt startRegisters written laidAt started startJudged Judge.judged recordsFrom firstOf newPanel after fedBytes headerBytes
+  unfolding computingCalls allBytes
   register-is-1 =
       ap (λ (m : Moment). registerAt (m .panel .registers) 0x02) (demand .writes (fed zeros write) (fed-arises 0 write (omega arith) refl) (0x02 ∷ 0x01 ∷ []) (all-done .writing .done) (all-done .writing .hands))
 
   register-was-0 : registerAt (fed zeros write .panel .registers) 0x02 ≡ 0
-  unfolding registerAt startRegisters started startJudged Judge.judged recordsFrom firstOf newPanel after fedBytes headerBytes
+  unfolding computingCalls
   register-was-0 = refl
 
   -- "taking frames without storing", of registers, against demand 2 (`writes-registers`)
@@ -257,11 +236,11 @@ module _ (leaves : Leaves) (demand : DoesCommands leaves) where
 
   -- the replies: byte 8 of the one is the word's low byte, byte 6 of the other the register
   replied-0 : getD (leaves (fed zeros fetch) .room) 8 0 ≡ 0
-  unfolding allBytes afterFetch leaving bytesOf wordRun frameOf framed enclosed lengthByte checkLength checkBytes over acknowledgementOf started startJudged Judge.judged recordsFrom firstOf newPanel after fedBytes headerBytes
+  unfolding computingCalls allBytes
   replied-0 = ap (λ (m : Moment). getD (m .room) 8 0) (demand .fetches (fed zeros fetch) (fed-arises 0 fetch (omega arith) refl) (0x00 ∷ 0x10 ∷ 0x01 ∷ []) (all-done .fetching-0 .done) (all-done .fetching-0 .hands))
 
   replied-1 : getD (leaves (fed ones fetch) .room) 8 0 ≡ 1
-  unfolding allBytes afterFetch leaving bytesOf wordRun frameOf framed enclosed lengthByte checkLength checkBytes over acknowledgementOf started startJudged Judge.judged recordsFrom firstOf newPanel after fedBytes headerBytes
+  unfolding computingCalls allBytes
   replied-1 = ap (λ (m : Moment). getD (m .room) 8 0) (demand .fetches (fed ones fetch) (fed-arises 1 fetch (omega arith) refl) (0x00 ∷ 0x10 ∷ 0x01 ∷ []) (all-done .fetching-1 .done) (all-done .fetching-1 .hands))
 
   -- "replying alike to all reads", against demand 2 (`reads-words`)
@@ -273,11 +252,11 @@ module _ (leaves : Leaves) (demand : DoesCommands leaves) where
       omega arith
 
   replied-version : getD (leaves (fed zeros readVersion) .room) 6 0 ≡ 0x10
-  unfolding allBytes afterRead leaving registerRun registerAt startRegisters frameOf framed enclosed lengthByte checkLength checkBytes over acknowledgementOf started startJudged Judge.judged recordsFrom firstOf newPanel after fedBytes headerBytes
+  unfolding computingCalls allBytes
   replied-version = ap (λ (m : Moment). getD (m .room) 6 0) (demand .reads (fed zeros readVersion) (fed-arises 0 readVersion (omega arith) refl) (0x00 ∷ 0x01 ∷ []) (all-done .reading-version .done) (all-done .reading-version .hands))
 
   replied-light : getD (leaves (fed zeros readLight) .room) 6 0 ≡ 0x3F
-  unfolding allBytes afterRead leaving registerRun registerAt startRegisters frameOf framed enclosed lengthByte checkLength checkBytes over acknowledgementOf started startJudged Judge.judged recordsFrom firstOf newPanel after fedBytes headerBytes
+  unfolding computingCalls allBytes
   replied-light = ap (λ (m : Moment). getD (m .room) 6 0) (demand .reads (fed zeros readLight) (fed-arises 0 readLight (omega arith) refl) (0x01 ∷ 0x01 ∷ []) (all-done .reading-light .done) (all-done .reading-light .hands))
 
   -- the same of registers, against demand 2 (`reads-registers`)
