@@ -11,7 +11,7 @@ use lib.Seq.{drop-drop}
 use Rattle.wire.specs.Room.{over, Laid, lays}
 use Rattle.wire.specs.ByteOrder.{byteAt, wordAt}
 use Rattle.wire.proofs.Over.{over-nil, take-over, drop-over, length-over}
-use Rattle.frame.specs.Frame.{headerBytes, mostData, frameOf}
+use Rattle.frame.specs.Frame.{headerBytes, mostData, frameOf, mostPayload}
 use Rattle.frame.specs.Writer.{leastRoom}
 use Rattle.frame.proofs.Writers.{length-frameOf, length-most, frame-laid}
 use Rattle.reading.specs.Place.{badCheck, acceptedFrame}
@@ -55,8 +55,8 @@ use Rattle.demands.proofs.Rooms.{acknowledged-laid, acknowledgement-sho
 
 -- what is known where an accepted frame is handed over
 pub record Asks (now : Moment) (command : ℕ) (content : List ℕ) : Type 0 where
-  pub whole : length (now .words) ≡ 28672
-  pub large : 265 ≤ length (now .room)
+  pub whole : length (now .words) ≡ wordCount
+  pub large : leastRoom ≤ length (now .room)
   pub count : ℕ
   pub told : asked (now .panel .reader) .report ≡ line.Accepted command count
   pub given : take count (asked (now .panel .reader) .payload) ≡ content
@@ -74,7 +74,7 @@ handed-asks now command content = go (lent (length (now .words)) (length (now .r
     done : Bool → Report → Reporting
     done l told =
         cond l (handing a told panel (now .words) (now .room))
-        (reports (record { handed = handed.NotLent; payload = padded 254 []; panel = panel }) (now .words) (now .room))
+        (reports (record { handed = handed.NotLent; payload = padded mostPayload []; panel = panel }) (now .words) (now .room))
 
     go : (l : Bool) → lent (length (now .words)) (length (now .room)) ≡ l → (told : Report) → a .report ≡ told
         → reportHanded (done l told .reported .handed) (done l told .reported .payload) ≡ acceptedFrame command content ∷ []
@@ -85,8 +85,8 @@ handed-asks now command content = go (lent (length (now .words)) (length (now .r
     go true is (line.Accepted c n) tells hands =
         let same : c ≡ command = cc in
         record {
-          whole = eqb-true (length (now .words)) 28672 (and-left (eqb (length (now .words)) 28672) (leb 265 (length (now .room))) is);
-          large = leb-true 265 (length (now .room)) (and-right (eqb (length (now .words)) 28672) (leb 265 (length (now .room))) is);
+          whole = eqb-true (length (now .words)) wordCount (and-left (eqb (length (now .words)) wordCount) (leb leastRoom (length (now .room))) is);
+          large = leb-true leastRoom (length (now .room)) (and-right (eqb (length (now .words)) wordCount) (leb leastRoom (length (now .room))) is);
           count = n;
           told = tells ∙ ap (λ (k : ℕ). line.Accepted k n) same;
           given = cc;
@@ -132,7 +132,7 @@ module _ (now : Moment) (sound : Sound (now .panel)) (command : ℕ) (content : 
       ∙ ap (λ (answered : Laid). left content answered (a .reader)) (acknowledged-laid setup command true (now .room) (asks .large))
       ∙ ap (left content (lays (length answer) (over answer (now .room)))) (asked-reader (now .panel) sound)
 
-  pub done-number : numberGiven now ask ≡ Outcome.numberOf (outcome (setup .pages) 28672 (checkingOf setup) command content)
+  pub done-number : numberGiven now ask ≡ Outcome.numberOf (outcome (setup .pages) wordCount (checkingOf setup) command content)
   unfolding numberGiven handing reportNumber accepting
   done-number =
       let a = asked (now .panel .reader) in
@@ -143,7 +143,7 @@ module _ (now : Moment) (sound : Sound (now .panel)) (command : ℕ) (content : 
       ∙ ap Outcome.numberOf
       (performs-outcome (now .panel .registers) (setup .pages) (checkingOf setup) (headerOf setup) command given (now .words) (drop (answered .count) (answered .room)))
       ∙ ap (λ (n : ℕ). Outcome.numberOf (outcome (setup .pages) n (checkingOf setup) command given)) (asks .whole)
-      ∙ ap (λ (c : List ℕ). Outcome.numberOf (outcome (setup .pages) 28672 (checkingOf setup) command c)) (asks .given)
+      ∙ ap (λ (c : List ℕ). Outcome.numberOf (outcome (setup .pages) wordCount (checkingOf setup) command c)) (asks .given)
 
   -- a command that does this to registers, page, words and room leaves this
   pub leaves : (registers : Registers) (paged : Bool) (words reply : List ℕ) (o : Outcome) (count : ℕ)
@@ -205,9 +205,9 @@ module _ (now : Moment) (reached : Reachable (now .panel)) (content : List ℕ) 
   sound = reachable-sound (now .panel) reached
 
   pub is-done : (command : ℕ) → Asks now command content
-      → isDone (outcome (now .panel .setup .pages) 28672 (checkingOf (now .panel .setup)) command content) ≡ true
+      → isDone (outcome (now .panel .setup .pages) wordCount (checkingOf (now .panel .setup)) command content) ≡ true
   is-done command asks =
-      zero-done (outcome (now .panel .setup .pages) 28672 (checkingOf (now .panel .setup)) command content)
+      zero-done (outcome (now .panel .setup .pages) wordCount (checkingOf (now .panel .setup)) command content)
       (sym (done-number now sound command content asks) ∙ done)
 
   -- "0x80, address (1), one or more bytes: write registers."
@@ -279,7 +279,7 @@ module _ (now : Moment) where
   abbrev reported : Bool → Report → Reporting
   reported l told =
       cond l (handing a told (now .panel) (now .words) (now .room))
-      (reports (record { handed = handed.NotLent; payload = padded 254 []; panel = now .panel }) (now .words) (now .room))
+      (reports (record { handed = handed.NotLent; payload = padded mostPayload []; panel = now .panel }) (now .words) (now .room))
 
   abbrev momentOf : Reporting → Moment
   momentOf r = record { panel = r .reported .panel; words = r .words; room = r .room }
@@ -296,7 +296,7 @@ module _ (now : Moment) where
       go true is (line.Accepted c n) hands = never (cc)
       go true is (line.BadCheck c) hands =
           let same : c ≡ command = cc in
-          let large = leb-true 265 (length (now .room)) (and-right (eqb (length (now .words)) wordCount) (leb 265 (length (now .room))) is) in
+          let large = leb-true leastRoom (length (now .room)) (and-right (eqb (length (now .words)) wordCount) (leb leastRoom (length (now .room))) is) in
           ap (λ (k : ℕ). record {
             panel = withReader (now .panel) (a .reader);
             words = now .words;

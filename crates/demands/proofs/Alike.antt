@@ -4,6 +4,7 @@ use mathlib.Core.Bool.{Bool, true, false, cond}
 use mathlib.Core.List.{List, [], _∷_, map}
 use Prim.Native.Nat.{ℕ}
 use lib.ListN.{length, take}
+use Rattle.frame.specs.Frame.{mostPayload}
 use Rattle.reading.specs.Place as Place
 use Rattle.reading.specs.Line as Line
 use Rattle.line.specs.declared.Reader.{Reader}
@@ -38,7 +39,7 @@ module _ (panel : Panel) (words room : List ℕ) where
   abbrev result : Bool → Asked → Reporting.Reporting
   result b a =
       cond b (Reporting.handing a (a .report) panel words room)
-      (Reporting.reports (record { handed = handed.NotLent; payload = padded 254 []; panel = panel }) words room)
+      (Reporting.reports (record { handed = handed.NotLent; payload = padded mostPayload []; panel = panel }) words room)
 
   handing-told : (a : Asked) (report : Report)
       → (reportHanded (Reporting.handing a report panel words room .reported .handed) (Reporting.handing a report panel words room .reported .payload) ≡ told report (a .payload))

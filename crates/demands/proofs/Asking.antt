@@ -7,6 +7,7 @@ use Prim.Native.Nat.{ℕ}
 use native.Mathlib.Omega.{arith}
 use borrow.Author.Tests.{eqb-true, ltb-true, ltb-false}
 use lib.Dec.{eqb, ltb}
+use Rattle.wire.specs.Addresses.{wordCount}
 use Rattle.reading.specs.Place as Place
 use Rattle.reading.specs.Place.{badCheck, acceptedFrame}
 use Rattle.line.specs.declared.Report.{Report}
@@ -55,7 +56,7 @@ module _ (now : Moment) (reached : Reachable (now .panel)) (command : ℕ) (cont
   known a b c d =
       let setup = now .panel .setup in
       let number = done-number now (reachable-sound (now .panel) reached) command content (handed-asks now command content hands) in
-      let unknown : Outcome.numberOf (outcome (setup .pages) 28672 (checkingOf setup) command content) ≡ 2 = rw (a, b, c, d) in
+      let unknown : Outcome.numberOf (outcome (setup .pages) wordCount (checkingOf setup) command content) ≡ 2 = rw (a, b, c, d) in
       omega arith
 
   frame-done : AskLeaves now

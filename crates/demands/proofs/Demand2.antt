@@ -8,12 +8,13 @@ use lib.ListN.{length, getD, take, drop}
 use lib.Bits.{bitAnd, bitXor}
 use Rattle.wire.specs.Bytes.{Bytes}
 use Rattle.wire.specs.ByteOrder.{byteAt, wordAt}
+use Rattle.wire.specs.Addresses.{wordCount}
 use Rattle.check_value.specs.CheckValue.{bitSteps}
 use Rattle.check_value.specs.Tables.{lowTable, highTable}
 use Rattle.check_value.proofs.PrintedTables.{by-tables}
 use Rattle.frame.specs.declared.Written.the-variants.{Frame}
 use Rattle.frame.specs.Frame.{frameOf, mostData, GoodFrame}
-use Rattle.frame.specs.Writer.{writing}
+use Rattle.frame.specs.Writer.{writing, leastRoom}
 use Rattle.frame.proofs.GoodFrames.{frameOf-good, good-is-frameOf}
 use Rattle.reading.specs.Place.{badCheck, acceptedFrame}
 use Rattle.reading.specs.Demand3.{NothingHeldOrWaiting}
@@ -145,7 +146,7 @@ dragged-slider-stores = Caught.dragged-slider-stores
 -- "What our frame writer writes, our reader reads back as the same command and data.": what it wrote into any room, under the header and the choice that
 -- are set up, given to the panel while nothing is held or waiting
 pub writer-reads-back : (now : Moment) → Arises now → NothingHeldOrWaiting (rulesOf (now .panel)) (keptOf (now .panel .reader))
-    → length (now .words) ≡ 28672 → 265 ≤ length (now .room) → (command : ℕ) (payload room : List ℕ) (n : ℕ)
+    → length (now .words) ≡ wordCount → leastRoom ≤ length (now .room) → (command : ℕ) (payload room : List ℕ) (n : ℕ)
     → writing (checkingOf (now .panel .setup)) (headerOf (now .panel .setup)) command payload room .answer ≡ Frame n
     → ReadsBack now (take n (writing (checkingOf (now .panel .setup)) (headerOf (now .panel .setup)) command payload room .room)) command payload
 writer-reads-back now arises = ReadBack.writer-reads-back now (arises-reachable now arises)

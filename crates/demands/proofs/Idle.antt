@@ -5,6 +5,8 @@ use mathlib.Core.List.{List, [], _∷_, _++_, map}
 use Prim.Native.Nat.{ℕ, _≤_, _<_}
 use native.Mathlib.Omega.{arith}
 use lib.ListN.{getD, replicate}
+use Rattle.wire.specs.Addresses.{wordCount}
+use Rattle.frame.specs.Writer.{leastRoom}
 use Rattle.reading.specs.Place.{Rules, Report, acceptedFrame}
 use Rattle.reading.specs.Line as Line
 use Rattle.reading.specs.Demand3.{none, next, joined, BeginsNone, acceptedOf, reportOfFrame, checked}
@@ -133,13 +135,13 @@ abbrev plain : Setup
 plain = record { h1 = 0x5A; h2 = 0xA5; flags = 0; pages = 2; width = 800; height = 480 }
 
 abbrev fed : (words frame : List ℕ) → Moment
-fed words frame = after (begun plain [] words (replicate 265 0)) (bytes frame)
+fed words frame = after (begun plain [] words (replicate leastRoom 0)) (bytes frame)
 
 abbrev zeros : List ℕ
-zeros = replicate 28672 0
+zeros = replicate wordCount 0
 
 abbrev ones : List ℕ
-ones = replicate 28672 1
+ones = replicate wordCount 1
 
 -- 82 sets word 0010 to 500; 83 reads it, where it is 0 and where it is 1
 abbrev store : List ℕ
@@ -162,11 +164,11 @@ plain-started : started plain [] .answer ≡ start.Started
 unfolding computingStart
 plain-started = refl
 
-fed-arises : (w : ℕ) (frame : List ℕ) → w < 65536 → allBytes frame ≡ true → Arises (fed (replicate 28672 w) frame)
+fed-arises : (w : ℕ) (frame : List ℕ) → w < 65536 → allBytes frame ≡ true → Arises (fed (replicate wordCount w) frame)
 unfolding Typed
 fed-arises w frame below are =
-    by-call (begun plain [] (replicate 28672 w) (replicate 265 0)) (bytes frame) (tested-bytes frame are)
-    (from-start plain [] (replicate 28672 w) (replicate 265 0) (omega arith) (omega arith) (λ k. copies-below 28672 w k below) plain-started)
+    by-call (begun plain [] (replicate wordCount w) (replicate leastRoom 0)) (bytes frame) (tested-bytes frame are)
+    (from-start plain [] (replicate wordCount w) (replicate leastRoom 0) (omega arith) (omega arith) (λ k. copies-below wordCount w k below) plain-started)
 
 -- such a frame is handed over and its command is done
 record Done (words frame : List ℕ) (command : ℕ) (content : List ℕ) : Type 0 where

@@ -8,6 +8,7 @@ use borrow.Author.Tests.{eqb-true, eqb-false}
 use lib.Dec.{eqb}
 use lib.ListN.{length, take, drop}
 use Rattle.wire.specs.ByteOrder.{byteAt, wordAt}
+use Rattle.wire.specs.Addresses.{registerCount}
 use Rattle.reading.specs.Place.{acceptedFrame}
 use Rattle.line.specs.declared.Report.the-variants as line
 use Rattle.line.specs.Methods.{asked}
@@ -161,7 +162,7 @@ record WrittenRegister (address : ℕ) (r : Reporting) : Type 0 where
   from : byteAt content 0 ≤ address
   below : address < byteAt content 0 + length (drop 1 content)
 
-asked-register : (panel : Panel) → length (panel .registers .bytes) ≡ 256 → (words room : List ℕ) (address : ℕ)
+asked-register : (panel : Panel) → length (panel .registers .bytes) ≡ registerCount → (words room : List ℕ) (address : ℕ)
     → (panelRegister (reporting panel words room .reported .panel) address ≡ panelRegister panel address) ⊎ WrittenRegister address (reporting panel words room)
 unfolding handing accepting outcome
 asked-register panel whole words room address =
@@ -181,7 +182,7 @@ asked-register panel whole words room address =
     (Command.register-named (panel .registers) (setup .pages) (checkingOf setup) (headerOf setup) content words (drop (answer .count) (answer .room)) command whole address))
 
 -- a register over a contact
-contacted-register : (now : Moment) → length (now .panel .registers .bytes) ≡ 256 → (table : List ℕ) (x y address : ℕ)
+contacted-register : (now : Moment) → length (now .panel .registers .bytes) ≡ registerCount → (table : List ℕ) (x y address : ℕ)
     → (panelRegister (contacting (now .panel) table (now .words) x y .contacted .panel) address ≡ panelRegister (now .panel) address)
     ⊎ NamesRegister now address (contact table x y)
 unfolding numberGiven contactNumber
@@ -200,7 +201,7 @@ contacted-register now whole table x y address =
     by-touch done (Registers.page i r up is next at) = by-page table x y i r done up is next at
 
 -- a register over a lift
-lifted-register : (now : Moment) → length (now .panel .registers .bytes) ≡ 256 → (address : ℕ)
+lifted-register : (now : Moment) → length (now .panel .registers .bytes) ≡ registerCount → (address : ℕ)
     → (panelRegister (lifting (now .panel) .panel) address ≡ panelRegister (now .panel) address) ⊎ NamesRegister now address lift
 unfolding numberGiven liftNumber
 lifted-register now whole address =
@@ -215,7 +216,7 @@ lifted-register now whole address =
     status-or-stays false is = inl (Touch.lift-only-status (padOf (now .panel)) whole address (eqb-false address 0x06 is))
 
 -- a register over any call: it stays, or the call names it
-pub call-names-register : (now : Moment) → length (now .panel .registers .bytes) ≡ 256 → (call : Call) (address : ℕ)
+pub call-names-register : (now : Moment) → length (now .panel .registers .bytes) ≡ registerCount → (call : Call) (address : ℕ)
     → (panelRegister (after now call .panel) address ≡ panelRegister (now .panel) address) ⊎ NamesRegister now address call
 unfolding after numberGiven handedOver fedByte fedMark fedBytes
 call-names-register now whole (lend words room) address = inl refl

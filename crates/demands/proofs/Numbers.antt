@@ -10,7 +10,7 @@ use lib.ListN.{length, take, drop}
 use Rattle.wire.specs.Bytes.{Bytes}
 use Rattle.wire.specs.ByteOrder.{byteAt, wordAt}
 use Rattle.wire.specs.Room.{over}
-use Rattle.frame.specs.Frame.{frameOf, mostData}
+use Rattle.frame.specs.Frame.{frameOf, mostData, mostPayload}
 use Rattle.frame.specs.declared.Written.the-variants.{Frame, DataTooLong, RoomTooSmall}
 use Rattle.frame.specs.Writer as Writer
 use Rattle.frame.specs.Writer.{leastRoom, answers, writing}
@@ -95,7 +95,7 @@ module _ (setup : Setup) (command : ℕ) (content : List ℕ) where
   unfolding writeRegistersOutcome Outcome.numberOf firstNumber notCommand byCommand wrongData passesEnd touchesUnwritable valueWrong replyPasses
   write-numbers is =
       rw is
-      (go (ltb (length content) 2) (ltb 256 (byteAt content 0 + length (drop 1 content))) (unwritableRun (byteAt content 0) (length (drop 1 content)))
+      (go (ltb (length content) 2) (ltb registerCount (byteAt content 0 + length (drop 1 content))) (unwritableRun (byteAt content 0) (length (drop 1 content)))
       (wrongValue (byteAt content 0) (drop 1 content) (setup .pages)))
     where
       go : (a b c d : Bool) → Outcome.numberOf (cond a WrongData (cond b PastEnd (cond c Unwritable (cond d WrongValue Done))))
@@ -110,19 +110,19 @@ module _ (setup : Setup) (command : ℕ) (content : List ℕ) where
   unfolding readRegistersOutcome Outcome.numberOf firstNumber notCommand byCommand wrongData passesEnd touchesUnwritable valueWrong replyPasses
   read-numbers is =
       rw is
-      (three (not (eqb (length content) 2)) (ltb 256 (byteAt content 0 + byteAt content 1)) (replyTooLong (checkingOf setup) (2 + byteAt content 1)))
+      (three (not (eqb (length content) 2)) (ltb registerCount (byteAt content 0 + byteAt content 1)) (replyTooLong (checkingOf setup) (2 + byteAt content 1)))
 
-  store-numbers : command ≡ 0x82 → Outcome.numberOf (writeWordsOutcome 28672 content) ≡ firstNumber frameNumbers
+  store-numbers : command ≡ 0x82 → Outcome.numberOf (writeWordsOutcome wordCount content) ≡ firstNumber frameNumbers
   unfolding writeWordsOutcome Outcome.numberOf firstNumber notCommand byCommand wrongData passesEnd touchesUnwritable valueWrong replyPasses
   store-numbers is =
       rw is
-      (two (ltb (length content) 4 || eqb (length content % 2) 1) (ltb 28672 (wordAt content 0 + length (wordsOf (drop 2 content)))))
+      (two (ltb (length content) 4 || eqb (length content % 2) 1) (ltb wordCount (wordAt content 0 + length (wordsOf (drop 2 content)))))
 
-  fetch-numbers : command ≡ 0x83 → Outcome.numberOf (readWordsOutcome 28672 (checkingOf setup) content) ≡ firstNumber frameNumbers
+  fetch-numbers : command ≡ 0x83 → Outcome.numberOf (readWordsOutcome wordCount (checkingOf setup) content) ≡ firstNumber frameNumbers
   unfolding readWordsOutcome Outcome.numberOf firstNumber notCommand byCommand wrongData passesEnd touchesUnwritable valueWrong replyPasses
   fetch-numbers is =
       rw is
-      (three (not (eqb (length content) 3)) (ltb 28672 (wordAt content 0 + byteAt content 2))
+      (three (not (eqb (length content) 3)) (ltb wordCount (wordAt content 0 + byteAt content 2))
       (replyTooLong (checkingOf setup) (3 + (byteAt content 2 + byteAt content 2))))
 
   unknown : (command ≡ 0x80 → ⊥) → (command ≡ 0x81 → ⊥) → (command ≡ 0x82 → ⊥) → (command ≡ 0x83 → ⊥) → notCommand command content ≡ true
@@ -137,7 +137,7 @@ module _ (setup : Setup) (command : ℕ) (content : List ℕ) where
           lt-ltb 0x83 command above
 
   -- "then 2 to 7 in turn"
-  pub frame-numbers : Outcome.numberOf (outcome (setup .pages) 28672 (checkingOf setup) command content) ≡ firstNumber frameNumbers
+  pub frame-numbers : Outcome.numberOf (outcome (setup .pages) wordCount (checkingOf setup) command content) ≡ firstNumber frameNumbers
   unfolding outcome Outcome.numberOf firstNumber
   frame-numbers = go (eqb command 0x80) refl (eqb command 0x81) refl (eqb command 0x82) refl (eqb command 0x83) refl
     where
@@ -149,7 +149,7 @@ module _ (setup : Setup) (command : ℕ) (content : List ℕ) where
           → Outcome.numberOf
           (cond a (writeRegistersOutcome (setup .pages) content)
           (cond b (readRegistersOutcome (checkingOf setup) content)
-          (cond c (writeWordsOutcome 28672 content) (cond d (readWordsOutcome 28672 (checkingOf setup) content) UnknownCommand))))
+          (cond c (writeWordsOutcome wordCount content) (cond d (readWordsOutcome wordCount (checkingOf setup) content) UnknownCommand))))
           ≡ firstNumber frameNumbers
       go true is b p c q d r = write-numbers (eqb-true command 0x80 is)
       go false is true p c q d r = read-numbers (eqb-true command 0x81 p)
@@ -169,7 +169,7 @@ waitingNumbers setup report =
     ∷ (7 when ofFrame report (replyPasses (checkingOf setup)))
     ∷ []
 
-accepted-number : (panel : Panel) (words room : List ℕ) → length words ≡ 28672 → (command : ℕ) (content : List ℕ)
+accepted-number : (panel : Panel) (words room : List ℕ) → length words ≡ wordCount → (command : ℕ) (content : List ℕ)
     → Outcome.numberOf (accepting (panel .setup) (panel .registers) command content words room .effected .performed .outcome)
     ≡ firstNumber (frameNumbers (panel .setup) command content)
 unfolding accepting
@@ -181,7 +181,7 @@ accepted-number panel words room whole command content =
     ∙ ap (λ (n : ℕ). Outcome.numberOf (outcome (setup .pages) n (checkingOf setup) command content)) whole
     ∙ frame-numbers setup command content
 
-handing-numbers : (panel : Panel) (words room : List ℕ) → length words ≡ 28672 → (a : Asked) (told : Told) (report : List Report) → told ≡ reportAs report
+handing-numbers : (panel : Panel) (words room : List ℕ) → length words ≡ wordCount → (a : Asked) (told : Told) (report : List Report) → told ≡ reportAs report
     → a .payload ≡ payloadAs report
     → reportNumber (handing a told panel words room .reported .handed) ≡ firstNumber (waitingNumbers (panel .setup) report)
 unfolding handing reportNumber reportAs payloadAs ofFrame firstNumber
@@ -189,12 +189,12 @@ handing-numbers panel words room whole a told [] is payload = rw is
 handing-numbers panel words room whole a told (badCheck command ∷ rest) is payload = rw is
 handing-numbers panel words room whole a told (acceptedFrame command content ∷ rest) is payload =
     let same : take (length content) (a .payload) ≡ content =
-    ap (take (length content)) payload ∙ take-padded 254 (length content) content refl in
+    ap (take (length content)) payload ∙ take-padded mostPayload (length content) content refl in
     rw (is, same) (accepted-number panel words room whole command content)
 
 ask-number : (now : Moment) → Sound (now .panel) → numberGiven now ask ≡ firstNumber (printed now ask)
 unfolding numberGiven printed reporting reportNumber lent wordsNotLent roomTooSmall firstNumber
-ask-number now sound = go (eqb (length (now .words)) 28672) refl (leb 265 (length (now .room))) refl
+ask-number now sound = go (eqb (length (now .words)) wordCount) refl (leb leastRoom (length (now .room))) refl
   where
     panel : Panel
     panel = now .panel
@@ -202,14 +202,14 @@ ask-number now sound = go (eqb (length (now .words)) 28672) refl (leb 265 (lengt
     a : Asked
     a = asked (panel .reader)
 
-    go : (w : Bool) → eqb (length (now .words)) 28672 ≡ w → (r : Bool) → leb 265 (length (now .room)) ≡ r
+    go : (w : Bool) → eqb (length (now .words)) wordCount ≡ w → (r : Bool) → leb leastRoom (length (now .room)) ≡ r
         → reportNumber (reporting panel (now .words) (now .room) .reported .handed)
-        ≡ cond (not w || ltb (length (now .room)) 265) 14 (firstNumber (waitingNumbers (panel .setup) (waitingReport panel)))
+        ≡ cond (not w || ltb (length (now .room)) leastRoom) 14 (firstNumber (waitingNumbers (panel .setup) (waitingReport panel)))
     go true w true r =
-        rw (w, r, le-ltb (length (now .room)) 265 (leb-true 265 (length (now .room)) r))
-        (handing-numbers panel (now .words) (now .room) (eqb-true (length (now .words)) 28672 w) a (a .report) (waitingReport panel) (asked-report panel sound)
+        rw (w, r, le-ltb (length (now .room)) leastRoom (leb-true leastRoom (length (now .room)) r))
+        (handing-numbers panel (now .words) (now .room) (eqb-true (length (now .words)) wordCount w) a (a .report) (waitingReport panel) (asked-report panel sound)
         (asked-payload panel sound))
-    go true w false r = rw (w, r, lt-ltb (length (now .room)) 265 (leb-false 265 (length (now .room)) r))
+    go true w false r = rw (w, r, lt-ltb (length (now .room)) leastRoom (leb-false leastRoom (length (now .room)) r))
     go false w r s = rw w
 
 abbrev given : Answer → Reader → Given
@@ -311,7 +311,7 @@ module _ (panel : Panel) (table words : List ℕ) (x y : ℕ) where
 contact-number : (now : Moment) → Sound (now .panel) → (table : List ℕ) (x y : ℕ)
     → numberGiven now (contact table x y) ≡ firstNumber (printed now (contact table x y))
 unfolding numberGiven printed contacting contactNumber wordsNotLent firstNumber
-contact-number now sound table x y = rw (← busy-waits (now .panel) sound) (go (not (eqb (length (now .words)) 28672)) (busy (now .panel .reader)))
+contact-number now sound table x y = rw (← busy-waits (now .panel) sound) (go (not (eqb (length (now .words)) wordCount)) (busy (now .panel .reader)))
   where
     panel : Panel
     panel = now .panel
@@ -369,7 +369,7 @@ start-as-printed setup table =
 pub writer-as-printed : (checking : Bool) (header : List ℕ) (command : ℕ) (payload room : List ℕ)
     → Writer.numberOf (writing checking header command payload room .answer) ≡ firstNumber (printedWriter checking payload room)
 unfolding writing Writer.numberOf printedWriter roomTooSmall firstNumber
-writer-as-printed checking header command payload room = go (ltb (length room) 265) (ltb (mostData checking) (length payload))
+writer-as-printed checking header command payload room = go (ltb (length room) leastRoom) (ltb (mostData checking) (length payload))
   where
     frame : List ℕ
     frame = frameOf checking header command payload

@@ -6,7 +6,7 @@ use Prim.Native.Nat.{ℕ, suc, _+_, _<_}
 use native.Mathlib.Omega.{arith}
 use lib.ListN.{length, getD, take, drop}
 use Rattle.wire.specs.Bytes.{Bytes}
-use Rattle.frame.specs.Frame.{contentOf}
+use Rattle.frame.specs.Frame.{contentOf, mostPayload}
 use Rattle.reading.specs.Place.{Rules, Seen, pass, wait, bad, accepted, Report, acceptedFrame, look, reportOf}
 use Rattle.reading.specs.Line as Line
 use Rattle.reading.specs.Line.{Input}
@@ -153,7 +153,7 @@ module _ (line : Declared.Line) (panel : Panel) (kept : Kept) (reached : Reached
   hands-as (bad body) is reads = (refl, refl)
   hands-as (accepted body) is reads =
       let content = drop 1 (contentOf (line .checking) body) in
-      (ap (λ (l : List ℕ). acceptedFrame (getD body 0 0) l ∷ []) (take-padded 254 (length content) content refl), refl)
+      (ap (λ (l : List ℕ). acceptedFrame (getD body 0 0) l ∷ []) (take-padded mostPayload (length content) content refl), refl)
 
   -- asking with words and room as they must be moves the reader as the reading's ask does
   pub ask-moves : panel .reader ≡ readerOf line kept → lent (length words) (length room) ≡ true
@@ -177,7 +177,7 @@ module _ (line : Declared.Line) (panel : Panel) (kept : Kept) (reached : Reached
       result : Bool → Asked → Reporting.Reporting
       result b a =
           cond b (Reporting.handing a (a .report) panel words room)
-          (Reporting.reports (record { handed = handed.NotLent; payload = padded 254 []; panel = panel }) words room)
+          (Reporting.reports (record { handed = handed.NotLent; payload = padded mostPayload []; panel = panel }) words room)
 
       go : (b : Bool) → Carries line kept [] (reportHanded (result b (asked (panel .reader)) .reported .handed) (result b (asked (panel .reader)) .reported .payload))
           (result b (asked (panel .reader)) .reported .panel .reader)

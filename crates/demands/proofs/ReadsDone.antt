@@ -11,7 +11,7 @@ use Rattle.wire.specs.ByteOrder.{byteAt, wordAt}
 use Rattle.frame.specs.Frame.{checkLength}
 use Rattle.reading.specs.Place.{acceptedFrame}
 use Rattle.line.proofs.Truths.{never, and-left, and-right}
-use Rattle.wire.specs.Addresses.{registerCount}
+use Rattle.wire.specs.Addresses.{registerCount, wordCount}
 use Rattle.registers.specs.Table.{writable}
 use Rattle.registers.specs.Run.{allWritable, halfPage, unwritableRun}
 use Rattle.registers.proofs.Allowed.{neither}
@@ -64,12 +64,12 @@ unfolding readRegistersOutcome replyTooLong Outcome.numberOf
 registers-answer checking address n fits few =
     rw (le-ltb registerCount (address + n) fits, le-ltb 255 (1 + (2 + n) + checkLength checking) (omega (arith, check-short checking)))
 
-words-answer : (checking : Bool) (high low n : ℕ) → wordAt (high ∷ low ∷ n ∷ []) 0 + n ≤ 28672 → n ≤ 124
-    → Outcome.numberOf (readWordsOutcome 28672 checking (high ∷ low ∷ n ∷ [])) ≡ 0
+words-answer : (checking : Bool) (high low n : ℕ) → wordAt (high ∷ low ∷ n ∷ []) 0 + n ≤ wordCount → n ≤ 124
+    → Outcome.numberOf (readWordsOutcome wordCount checking (high ∷ low ∷ n ∷ [])) ≡ 0
 unfolding readWordsOutcome replyTooLong Outcome.numberOf
 words-answer checking high low n fits few =
     rw (
-      le-ltb 28672 (wordAt (high ∷ low ∷ n ∷ []) 0 + n) fits,
+      le-ltb wordCount (wordAt (high ∷ low ∷ n ∷ []) 0 + n) fits,
       le-ltb 255 (1 + (3 + (n + n)) + checkLength checking) (omega (arith, check-short checking)),
     )
 
@@ -91,7 +91,7 @@ pub fetch-of-stored-is-done : (now : Moment) → Reachable (now .panel) → (con
     → handedOver then ask ≡ acceptedFrame 0x83 (byteAt content 0 ∷ byteAt content 1 ∷ length (wordsOf (drop 2 content)) ∷ []) ∷ [] → numberGiven then ask ≡ 0
 unfolding outcome
 fetch-of-stored-is-done now reached content writes done few then there reads =
-    let passed = words-passed 28672 content (is-done now reached content done 0x82 (handed-asks now 0x82 content writes)) in
+    let passed = words-passed wordCount content (is-done now reached content done 0x82 (handed-asks now 0x82 content writes)) in
     let n = length (wordsOf (drop 2 content)) in
     let question = byteAt content 0 ∷ byteAt content 1 ∷ n ∷ [] in
     done-number then (reachable-sound (then .panel) there) 0x83 question (handed-asks then 0x83 question reads)

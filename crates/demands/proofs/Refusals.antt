@@ -10,6 +10,7 @@ use lib.ListN.{length, take, drop}
 use Rattle.wire.specs.Bytes.{Bytes}
 use Rattle.wire.specs.Room.{over}
 use Rattle.wire.proofs.Over.{over-nil}
+use Rattle.wire.specs.Addresses.{wordCount}
 use Rattle.reading.specs.Place.{acceptedFrame}
 use Rattle.line.specs.declared.Reader.{Reader}
 use Rattle.line.specs.declared.Given.{Given}
@@ -72,7 +73,7 @@ pub refused-frame : (now : Moment) → Sound (now .panel) → (command : ℕ) (c
     → FrameRefused now command
 refused-frame now sound command content asks above =
     let setup = now .panel .setup in
-    let o = outcome (setup .pages) 28672 (checkingOf setup) command content in
+    let o = outcome (setup .pages) wordCount (checkingOf setup) command content in
     let number : numberGiven now ask ≡ Outcome.numberOf o = done-number now sound command content asks in
     let given : 0 < Outcome.numberOf o = omega arith in
     let answer = acknowledgementOf setup command true in

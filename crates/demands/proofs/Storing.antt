@@ -48,14 +48,14 @@ use Rattle.touch.specs.Table.{recordAt}
 pub start-bytes : (h1 h2 : ℕ) (checking acknowledging : Bool) → h1 < 256 → h2 < 256 → Bytes (startRegisters h1 h2 checking acknowledging .bytes)
 unfolding startRegisters
 start-bytes h1 h2 checking acknowledging one two =
-    let zeros : List ℕ = replicate 256 0 in
+    let zeros : List ℕ = replicate registerCount 0 in
     let version = set zeros 0x00 0x10 in
     let light = set version 0x01 0x3F in
     let enable = set light 0x0B 0xFF in
     let checks = set enable 0x12 (cond checking 0x10 0x00) in
     let first = set checks 0x13 h1 in
     let second = set first 0x1A h2 in
-    let a = sets zeros 0x00 0x10 (below-zeros 256 byte-some 256) (omega arith) in
+    let a = sets zeros 0x00 0x10 (below-zeros 256 byte-some registerCount) (omega arith) in
     let b = sets version 0x01 0x3F a (omega arith) in
     let c = sets light 0x0B 0xFF b (omega arith) in
     let d = sets enable 0x12 (cond checking 0x10 0x00) c (either checking 0x10 (omega arith)) in

@@ -6,6 +6,8 @@ use native.Mathlib.Omega.{arith}
 use lib.Dec.{lit≤}
 use lib.ListN.{length, getD, replicate}
 use Rattle.wire.specs.Bytes.{Bytes}
+use Rattle.wire.specs.Addresses.{wordCount}
+use Rattle.frame.specs.Writer.{leastRoom}
 use Rattle.reading.specs.Line as Line
 use Rattle.reading.specs.Demand3.{Good, GoodFrames, none, next, joined, Cut, BeginsNone, acceptedOf, checked}
 use Rattle.reading.proofs.ByteLists.{allBytes, tested-bytes}
@@ -23,12 +25,12 @@ copies-below zero w k below = omega arith
 copies-below (suc n) w zero below = below
 copies-below (suc n) w (suc k) below = copies-below n w k below
 
-pub zeros-16-bit : Halfwords (replicate 28672 0)
-zeros-16-bit k = copies-below 28672 0 k (omega arith)
+pub zeros-16-bit : Halfwords (replicate wordCount 0)
+zeros-16-bit k = copies-below wordCount 0 k (omega arith)
 
 pub new-arises : Arises new
 unfolding computingStart
-new-arises = from-start setup [] (replicate 28672 0) (replicate 265 0) (omega arith) (omega arith) zeros-16-bit refl
+new-arises = from-start setup [] (replicate wordCount 0) (replicate leastRoom 0) (omega arith) (omega arith) zeros-16-bit refl
 
 pub new-ready : Ready new
 unfolding computingCalls

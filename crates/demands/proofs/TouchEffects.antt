@@ -53,7 +53,7 @@ use Rattle.demands.proofs.Storing.{word-below, record-bytes}
 
 -- a contact that is done had all words, no report waiting, a good table, touch on and a point on the screen
 pub record Touched (panel : Panel) (table words : List ℕ) (x y : ℕ) : Type 0 where
-  pub whole : length words ≡ 28672
+  pub whole : length words ≡ wordCount
   pub good : judged (panel .setup) table ≡ Good
   pub leaves : contacting panel table words x y
       ≡ contacts contact-answer.Done (withPad panel (touched (padOf panel) table words x y .pad)) (touched (padOf panel) table words x y .words)
@@ -75,12 +75,12 @@ module _ (panel : Panel) (table words : List ℕ) (x y : ℕ) where
 
   pub contact-done : contactNumber (contacting panel table words x y .contacted .answer) ≡ 0 → Touched panel table words x y
   unfolding contacting contactJudged contactNumber
-  contact-done = go (eqb (length words) 28672) refl (busy (panel .reader)) refl (judged (panel .setup) table) refl
+  contact-done = go (eqb (length words) wordCount) refl (busy (panel .reader)) refl (judged (panel .setup) table) refl
     where
       judging : Verdict → Contacting
       judging v = contactJudged v panel table words x y
 
-      go : (a : Bool) → eqb (length words) 28672 ≡ a → (b : Bool) → busy (panel .reader) ≡ b → (v : Verdict) → judged (panel .setup) table ≡ v
+      go : (a : Bool) → eqb (length words) wordCount ≡ a → (b : Bool) → busy (panel .reader) ≡ b → (v : Verdict) → judged (panel .setup) table ≡ v
           → contactNumber (cond (not a) (contacts contact-answer.NotLent panel words) (cond b (contacts contact-answer.Waits panel words) (judging v)) .contacted .answer) ≡ 0
           → Touched panel table words x y
       go false p b q v r is = absurd (omega arith)
@@ -89,7 +89,7 @@ module _ (panel : Panel) (table words : List ℕ) (x y : ℕ) where
       go true p false q (Wrong i) r is = absurd (omega arith)
       go true p false q Good r is =
           record {
-            whole = eqb-true (length words) 28672 p;
+            whole = eqb-true (length words) wordCount p;
             good = r;
             leaves = rw (p, q, r) (on-done is);
           }

@@ -8,6 +8,7 @@ use native.Mathlib.Omega.{arith}
 use borrow.Author.Tests.{eqb-true, eqb-false, ltb-true, ltb-false}
 use lib.Dec.{eqb, ltb}
 use lib.ListN.{length}
+use Rattle.wire.specs.Addresses.{registerCount}
 use Rattle.registers.specs.declared.Registers.{Registers}
 use Rattle.registers.specs.Table.{registerAt}
 use Rattle.registers.specs.Touched.{pageOf, withPage, isDown, withStatus, withPlace}
@@ -57,7 +58,7 @@ lies address = go (ltb address 0x03) refl (eqb address 0x03) refl (eqb address 0
         at-place (inr (omega arith, below))
 
 -- status, flag and place
-module _ (registers : Registers) (whole : length (registers .bytes) ≡ 256) (status x y address : ℕ) where
+module _ (registers : Registers) (whole : length (registers .bytes) ≡ registerCount) (status x y address : ℕ) where
   abbrev marked : Registers
   marked = withPlace (withStatus registers status) x y
 
@@ -73,7 +74,7 @@ module _ (registers : Registers) (whole : length (registers .bytes) ≡ 256) (st
       place-only (withStatus registers status) (length-withStatus registers whole status) x y address flag out
       ∙ status-only registers whole status address other
 
-module _ (pad : Pad) (whole : length (pad .registers .bytes) ≡ 256) (table : List ℕ) (x y address : ℕ) where
+module _ (pad : Pad) (whole : length (pad .registers .bytes) ≡ registerCount) (table : List ℕ) (x y address : ℕ) where
   marked-register : (mark : ℕ) → (registerAt (marked (pad .registers) whole mark x y address) address ≡ registerAt (pad .registers) address) ⊎ Touches pad table x y address
   marked-register mark = go (lies address)
     where
@@ -102,7 +103,7 @@ module _ (pad : Pad) (whole : length (pad .registers .bytes) ≡ 256) (table : L
 
   -- "then its next page is shown"
   shown-register : (i : ℕ) (r : Record) → isDown (pad .registers) ≡ false → found table (pageOf (pad .registers)) x y ≡ At i r → (registers : Registers)
-      → length (registers .bytes) ≡ 256 → (catch : Catch)
+      → length (registers .bytes) ≡ registerCount → (catch : Catch)
       → (registerAt (showing r registers catch .registers) address ≡ registerAt registers address) ⊎ Touches pad table x y address
   unfolding showing
   shown-register i r up is registers long catch = go (noNext r) refl
@@ -131,7 +132,7 @@ module _ (pad : Pad) (whole : length (pad .registers .bytes) ≡ 256) (table : L
       now : Registers
       now = withPlace (withStatus (pad .registers) 0x01) x y
 
-      long : length (now .bytes) ≡ 256
+      long : length (now .bytes) ≡ registerCount
       long = length-withPlace (withStatus (pad .registers) 0x01) (length-withStatus (pad .registers) whole 0x01) x y
 
       behind : (f : Found) → found table (pageOf (pad .registers)) x y ≡ f → isDown (pad .registers) ≡ false

@@ -11,6 +11,7 @@ use lib.Seq.{ext-getD, getD-drop, getD-take}
 use Rattle.wire.specs.Bytes.{Bytes}
 use Rattle.wire.specs.ByteOrder.{highByte, lowByte, byteAt, wordAt}
 use Rattle.wire.specs.Room.{over}
+use Rattle.wire.specs.Addresses.{registerCount, wordCount}
 use Rattle.frame.specs.Frame.{frameOf}
 use Rattle.reading.specs.Place.{acceptedFrame}
 use Rattle.reading.proofs.ByteLists.{bytes-drop}
@@ -59,7 +60,7 @@ not-named (inr b) none = absurd (none b)
 module _ (now : Moment) (reached : Reachable (now .panel)) (content : List ℕ) (writes : handedOver now ask ≡ acceptedFrame 0x80 content ∷ [])
     (done : numberGiven now ask ≡ 0) (calls : List Call) (typed : AllTyped calls)
     (none : (i : ℕ) → i < length (drop 1 content) → Some (λ then call. NamesRegister then (byteAt content 0 + i) call) (after now ask) calls → ⊥) where
-  fits-registers : byteAt content 0 + length (drop 1 content) ≤ 256
+  fits-registers : byteAt content 0 + length (drop 1 content) ≤ registerCount
   unfolding outcome
   fits-registers = registers-passed (now .panel .setup .pages) content (is-done now reached content done 0x80 (handed-asks now 0x80 content writes)) .fits
 
@@ -114,9 +115,9 @@ module _ (now : Moment) (reached : Reachable (now .panel)) (content : List ℕ) 
   abbrev then : Moment
   then = afterAll (after now ask) calls
 
-  passed : WordsPassed 28672 content
+  passed : WordsPassed wordCount content
   unfolding outcome
-  passed = words-passed 28672 content (is-done now reached content done 0x82 (handed-asks now 0x82 content writes))
+  passed = words-passed wordCount content (is-done now reached content done 0x82 (handed-asks now 0x82 content writes))
 
   fits-words : wordAt content 0 + n ≤ length (now .words)
   fits-words = let whole = handed-asks now 0x82 content writes .whole in omega (arith, passed .fits)
@@ -125,7 +126,7 @@ module _ (now : Moment) (reached : Reachable (now .panel)) (content : List ℕ) 
   unfolding afterStore leaving
   words-now = ap (λ (m : Moment). m .words) (stores-words now reached content done writes)
 
-  words-still : length (then .words) ≡ 28672 → wordRun (then .words) (wordAt content 0) n ≡ wordsOf (drop 2 content)
+  words-still : length (then .words) ≡ wordCount → wordRun (then .words) (wordAt content 0) n ≡ wordsOf (drop 2 content)
   words-still whole =
       let long : length (after now ask .words) ≡ length (now .words) =
       ap length words-now ∙ still-as-many (now .words) (drop 2 content) (wordAt content 0) fits-words in

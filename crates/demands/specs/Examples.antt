@@ -6,8 +6,10 @@ use mathlib.Core.Bool.{Bool, true, false}
 use mathlib.Core.List.{List, [], _∷_, _++_, map}
 use lib.IntN.{ℤ, pos, negℤ}
 use lib.ListN.{replicate}
+use Rattle.wire.specs.Addresses.{wordCount}
 use Rattle.check_value.specs.CheckValue.{checkValue}
 use Rattle.frame.specs.Acknowledgement.{acknowledgement}
+use Rattle.frame.specs.Writer.{leastRoom}
 use Rattle.reading.specs.Place.{Report, acceptedFrame}
 use Rattle.reading.specs.Line.{byte, mark, lineReports}
 use Rattle.reading.specs.Demand3.{checked}
@@ -52,7 +54,7 @@ startedWith flags = started (record { h1 = 0x5A; h2 = 0xA5; flags = flags; pages
 
 -- asking it for a report, lent 28,672 words of 0 and a reply room of 265 bytes
 abbrev pub ask : Panel → Reporting
-ask panel = reporting panel (replicate 28672 0) (replicate 265 0)
+ask panel = reporting panel (replicate wordCount 0) (replicate leastRoom 0)
 
 -- e, to a panel: the bytes and the mark are given, then two reports are asked for
 abbrev pub noiseAndRead : List ℕ
