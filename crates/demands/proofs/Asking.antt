@@ -10,7 +10,6 @@ use lib.Dec.{eqb, ltb}
 use Rattle.wire.specs.Addresses.{wordCount}
 use Rattle.reading.specs.Place as Place
 use Rattle.reading.specs.Place.{badCheck, acceptedFrame}
-use Rattle.line.specs.declared.Report.{Report}
 use Rattle.line.proofs.Truths.{never}
 use Rattle.commands.specs.Outcome as Outcome
 use Rattle.commands.specs.Outcome.{outcome}
@@ -18,7 +17,7 @@ use Rattle.touch.specs.Setup.{checkingOf}
 use Rattle.panel.specs.declared.Handed.{Handed}
 use Rattle.panel.specs.declared.Handed.the-variants as handed
 use Rattle.panel.specs.Numbers.{reportNumber}
-use Rattle.panel.specs.Reporting.{Reporting, reports, reporting}
+use Rattle.panel.specs.Reporting.{Reporting, reporting}
 use Rattle.panel.specs.Reachable.{Reachable}
 use Rattle.panel.proofs.Invariant.{reachable-sound}
 use Rattle.demands.specs.Calls.{Moment, ask, numberGiven, reportHanded, handedOver}

@@ -2,7 +2,7 @@
 use mathlib.Core.Path.{_≡_, refl, sym, ap, _∙_}
 use mathlib.Core.Bool.{false}
 use mathlib.Core.List.{List, [], _∷_, _++_, map, append-nil}
-use Prim.Native.Nat.{ℕ, _+_}
+use Prim.Native.Nat.{ℕ}
 use Rattle.wire.specs.Bytes.{Bytes}
 use Rattle.frame.specs.Frame.{headerBytes}
 use Rattle.reading.specs.Place.{Rules}
@@ -21,7 +21,7 @@ use Rattle.panel.specs.Start.{newPanel}
 use Rattle.panel.specs.Sound.{lineOf}
 use Rattle.panel.specs.Reachable.{by-start}
 use Rattle.panel.proofs.Invariant.{reachable-sound}
-use Rattle.demands.specs.Calls.{Moment, byte, bytes, mark, begun, afterAll, handedOverAll}
+use Rattle.demands.specs.Calls.{Moment, begun, afterAll, handedOverAll}
 use Rattle.demands.specs.Reports.{reportWaits}
 use Rattle.demands.specs.Demand3.{Ready, OnAnOpenLine, BehindAMark, AfterAMark, ReadyAgain}
 use Rattle.demands.proofs.Calls.{calls-arise, arises-reachable}

@@ -12,7 +12,7 @@ use Rattle.reading.specs.Line as Line
 use Rattle.reading.specs.Line.{Input}
 use Rattle.reading.specs.Moves.{Kept, waiting, withByte, handed, afterReport, isReport}
 use Rattle.reading.specs.Run as Run
-use Rattle.reading.specs.Run.{Event, handing, withInput, run}
+use Rattle.reading.specs.Run.{Event, withInput, run}
 use Rattle.reading.proofs.Moves.{nothing-changes}
 use Rattle.reading.proofs.Run.{run-append}
 use Rattle.line.specs.declared.Line as Declared
