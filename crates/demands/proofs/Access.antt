@@ -59,7 +59,7 @@ pub record Asks (now : Moment) (command : ℕ) (content : List ℕ) : Type 0 whe
   pub large : leastRoom ≤ length (now .room)
   pub count : ℕ
   pub told : asked (now .panel .reader) .report ≡ line.Accepted command count
-  pub given : take count (asked (now .panel .reader) .payload) ≡ content
+  pub content-is : take count (asked (now .panel .reader) .payload) ≡ content
 
 pub handed-asks : (now : Moment) (command : ℕ) (content : List ℕ) → handedOver now ask ≡ acceptedFrame command content ∷ [] → Asks now command content
 unfolding handedOver reporting handing reportHanded lent
@@ -89,7 +89,7 @@ handed-asks now command content = go (lent (length (now .words)) (length (now .r
           large = leb-true leastRoom (length (now .room)) (and-right (eqb (length (now .words)) wordCount) (leb leastRoom (length (now .room))) is);
           count = n;
           told = tells ∙ ap (λ (k : ℕ). line.Accepted k n) same;
-          given = cc;
+          content-is = cc;
         }
 
 -- a reply right behind an acknowledgement
@@ -107,10 +107,10 @@ module _ (now : Moment) (sound : Sound (now .panel)) (command : ℕ) (content : 
   answer = acknowledgementOf setup command true
 
   -- by the data, the acknowledgement as laid and the reader behind the frame
-  left : List ℕ → Laid → Reader → Moment
-  left given answered reader =
+  leftWith : List ℕ → Laid → Reader → Moment
+  leftWith came answered reader =
       let done =
-      performance (now .panel .registers) (setup .pages) (checkingOf setup) (headerOf setup) command given (now .words) (drop (answered .count) (answered .room)) in
+      performance (now .panel .registers) (setup .pages) (checkingOf setup) (headerOf setup) command came (now .words) (drop (answered .count) (answered .room)) in
       record {
         panel = record {
           setup = setup;
@@ -122,37 +122,37 @@ module _ (now : Moment) (sound : Sound (now .panel)) (command : ℕ) (content : 
         room = take (answered .count) (answered .room) ++ done .room;
       }
 
-  after-frame : after now ask ≡ left content (lays (length answer) (over answer (now .room))) (readBehind (now .panel) .reader)
-  unfolding after handing accepting left readBehind
+  after-frame : after now ask ≡ leftWith content (lays (length answer) (over answer (now .room))) (readBehind (now .panel) .reader)
+  unfolding after handing accepting leftWith readBehind
   after-frame =
       let a = asked (now .panel .reader) in
       ap (λ (r : Reporting). record { panel = r .reported .panel; words = r .words; room = r .room })
       (frame-reporting (now .panel) (now .words) (now .room) (asks .whole) (asks .large) command (asks .count) (asks .told))
-      ∙ ap (λ (given : List ℕ). left given (acknowledged setup command true (now .room)) (a .reader)) (asks .given)
-      ∙ ap (λ (answered : Laid). left content answered (a .reader)) (acknowledged-laid setup command true (now .room) (asks .large))
-      ∙ ap (left content (lays (length answer) (over answer (now .room)))) (asked-reader (now .panel) sound)
+      ∙ ap (λ (came : List ℕ). leftWith came (acknowledged setup command true (now .room)) (a .reader)) (asks .content-is)
+      ∙ ap (λ (answered : Laid). leftWith content answered (a .reader)) (acknowledged-laid setup command true (now .room) (asks .large))
+      ∙ ap (leftWith content (lays (length answer) (over answer (now .room)))) (asked-reader (now .panel) sound)
 
   pub done-number : numberGiven now ask ≡ Outcome.numberOf (outcome (setup .pages) wordCount (checkingOf setup) command content)
   unfolding numberGiven handing reportNumber accepting
   done-number =
       let a = asked (now .panel .reader) in
-      let given = take (asks .count) (a .payload) in
+      let came = take (asks .count) (a .payload) in
       let answered = acknowledged setup command true (now .room) in
       ap (λ (r : Reporting). reportNumber (r .reported .handed))
       (frame-reporting (now .panel) (now .words) (now .room) (asks .whole) (asks .large) command (asks .count) (asks .told))
       ∙ ap Outcome.numberOf
-      (performs-outcome (now .panel .registers) (setup .pages) (checkingOf setup) (headerOf setup) command given (now .words) (drop (answered .count) (answered .room)))
-      ∙ ap (λ (n : ℕ). Outcome.numberOf (outcome (setup .pages) n (checkingOf setup) command given)) (asks .whole)
-      ∙ ap (λ (c : List ℕ). Outcome.numberOf (outcome (setup .pages) wordCount (checkingOf setup) command c)) (asks .given)
+      (performs-outcome (now .panel .registers) (setup .pages) (checkingOf setup) (headerOf setup) command came (now .words) (drop (answered .count) (answered .room)))
+      ∙ ap (λ (n : ℕ). Outcome.numberOf (outcome (setup .pages) n (checkingOf setup) command came)) (asks .whole)
+      ∙ ap (λ (c : List ℕ). Outcome.numberOf (outcome (setup .pages) wordCount (checkingOf setup) command c)) (asks .content-is)
 
   -- a command that does this to registers, page, words and room leaves this
-  pub leaves : (registers : Registers) (paged : Bool) (words reply : List ℕ) (o : Outcome) (count : ℕ)
+  pub performance-leaves : (registers : Registers) (paged : Bool) (words reply : List ℕ) (o : Outcome) (count : ℕ)
       → performance (now .panel .registers) (setup .pages) (checkingOf setup) (headerOf setup) command content (now .words)
       (drop (length answer) (over answer (now .room)))
       ≡ performs (record { outcome = o; registers = registers; paged = paged; count = count }) words (over reply (drop (length answer) (over answer (now .room))))
       → after now ask ≡ leaving now command registers (cond paged Free (now .panel .catch)) words reply
-  unfolding leaving left
-  leaves registers paged words reply o count does =
+  unfolding leaving leftWith
+  performance-leaves registers paged words reply o count does =
       after-frame
       ∙ ap (λ (d : Performance). record {
         panel = record {
@@ -217,19 +217,19 @@ module _ (now : Moment) (reached : Reachable (now .panel)) (content : List ℕ) 
       let setup = now .panel .setup in
       let asks = handed-asks now 0x80 content hands in
       let part = drop (length (acknowledgementOf setup 0x80 true)) (over (acknowledgementOf setup 0x80 true) (now .room)) in
-      leaves now sound 0x80 content asks (written (now .panel .registers) (byteAt content 0) (drop 1 content))
+      performance-leaves now sound 0x80 content asks (written (now .panel .registers) (byteAt content 0) (drop 1 content))
       (covers (byteAt content 0) (length (drop 1 content)) 0x03) (now .words) [] (writeRegistersOutcome (setup .pages) content) 0
       (rw (is-done 0x80 asks, over-nil part))
 
   -- "0x82, address (2), one or more words: write variables."
-  pub stores-words : handedOver now ask ≡ acceptedFrame 0x82 content ∷ [] → after now ask ≡ afterStore now content
+  pub writes-words : handedOver now ask ≡ acceptedFrame 0x82 content ∷ [] → after now ask ≡ afterStore now content
   unfolding afterStore outcome performance wordsWriting
-  stores-words hands =
+  writes-words hands =
       let setup = now .panel .setup in
       let asks = handed-asks now 0x82 content hands in
       let part = drop (length (acknowledgementOf setup 0x82 true)) (over (acknowledgementOf setup 0x82 true) (now .room)) in
       let stored : isDone (writeWordsOutcome (length (now .words)) content) ≡ true = rw (asks .whole) (is-done 0x82 asks) in
-      leaves now sound 0x82 content asks (now .panel .registers) false (wordsWritten (now .words) (wordAt content 0) (drop 2 content)) []
+      performance-leaves now sound 0x82 content asks (now .panel .registers) false (wordsWritten (now .words) (wordAt content 0) (drop 2 content)) []
       (writeWordsOutcome (length (now .words)) content) 0
       (rw (stored, over-nil part))
 
@@ -247,14 +247,14 @@ module _ (now : Moment) (reached : Reachable (now .panel)) (content : List ℕ) 
       let long = length-registersReply (now .panel .registers) (byteAt content 0) (byteAt content 1) in
       let short = registers-short checking content (readRegistersOutcome checking content) true refl (sym read) (byteAt content 0) (byteAt content 1) refl refl refl in
       let within : length payload ≤ mostData checking = rw long short in
-      leaves now sound 0x81 content asks (now .panel .registers) false (now .words) (frameOf checking (headerOf setup) 0x81 payload) (readRegistersOutcome checking content)
+      performance-leaves now sound 0x81 content asks (now .panel .registers) false (now .words) (frameOf checking (headerOf setup) 0x81 payload) (readRegistersOutcome checking content)
       (length (frameOf checking (headerOf setup) 0x81 payload))
       (rw (read, frame-laid checking (headerOf setup) 0x81 payload part within (part-holds now sound 0x81 content asks payload 0x81 within)))
 
   -- "0x83, address (2), count (1): read variables. Reply 0x83, address, count, words."
-  pub fetches-words : handedOver now ask ≡ acceptedFrame 0x83 content ∷ [] → after now ask ≡ afterFetch now content
+  pub reads-words : handedOver now ask ≡ acceptedFrame 0x83 content ∷ [] → after now ask ≡ afterFetch now content
   unfolding afterFetch outcome performance wordsReplying replying wordsReply
-  fetches-words hands =
+  reads-words hands =
       let setup = now .panel .setup in
       let checking = checkingOf setup in
       let asks = handed-asks now 0x83 content hands in
@@ -267,7 +267,7 @@ module _ (now : Moment) (reached : Reachable (now .panel)) (content : List ℕ) 
       let long = length-wordsReply (now .words) (wordAt content 0) (byteAt content 2) inside in
       let short = words-short (now .words) checking content o true refl (sym read) (wordAt content 0) (byteAt content 2) refl refl refl in
       let within : length payload ≤ mostData checking = rw long short in
-      leaves now sound 0x83 content asks (now .panel .registers) false (now .words) (frameOf checking (headerOf setup) 0x83 payload) o
+      performance-leaves now sound 0x83 content asks (now .panel .registers) false (now .words) (frameOf checking (headerOf setup) 0x83 payload) o
       (length (frameOf checking (headerOf setup) 0x83 payload))
       (rw (read, frame-laid checking (headerOf setup) 0x83 payload part within (part-holds now sound 0x83 content asks payload 0x83 within)))
 

@@ -15,10 +15,10 @@ use Rattle.panel.specs.Sound.{Sound}
 use Rattle.panel.proofs.Invariant.{reachable-sound}
 use Rattle.panel.proofs.Refusals.{refused-start-gives-none}
 use Rattle.demands.specs.Calls.{Moment, Call, numberGiven, Typed, Arises}
-use Rattle.demands.specs.Demand1.{firstNumber, GivenUnder, printed, printedStart, printedWriter, NamesFirstWrong, Leaves}
+use Rattle.demands.specs.Demand1.{firstNumber, GivenUnder, printed, printedStart, printedWriter, NamesFirstWrong, RefusalLeaves}
 use Rattle.demands.proofs.Calls.{arises-reachable}
 use Rattle.demands.proofs.Numbers as Numbers
-use Rattle.demands.proofs.Refusals.{refused-leaves}
+use Rattle.demands.proofs.Refusals.{call-refused}
 
 -- "No sequence of line bytes, quiet marks, contacts, lifts, tables or lent buffers can put the panel into an undefined act or an unending one.": the
 -- checker takes no function that it has not proved to be safe and to end on every input. What every panel keeps besides, whatever the sequence:
@@ -41,8 +41,8 @@ writer-answers-as-listed = Numbers.writer-as-printed
 -- one of those printed for the call, and it is given wherever that is so
 module _ (now : Moment) (arises : Arises now) (call : Call) (fits : Typed call) (n : ℕ) where
   pub given-only-as-printed : 0 < n → numberGiven now call ≡ n → GivenUnder (printed now call) n
-  given-only-as-printed above gives =
-      let same : firstNumber (printed now call) ≡ n = sym (answers-as-listed now arises call fits) ∙ gives in
+  given-only-as-printed above is =
+      let same : firstNumber (printed now call) ≡ n = sym (answers-as-listed now arises call fits) ∙ is in
       rw same at (Numbers.first-given (printed now call) (rw same above))
 
   pub given-wherever-printed : GivenUnder (printed now call) n → numberGiven now call ≡ n
@@ -59,8 +59,8 @@ start-names-first-wrong = Numbers.start-names-first-wrong
 
 -- "A refused command is still handed over and acknowledged as printed; beyond that a refusal leaves the panel, the variable words and the reply room as
 -- they stood."
-pub refusal-leaves-all-else : (now : Moment) → Arises now → (call : Call) → Typed call → 0 < numberGiven now call → Leaves now call
-refusal-leaves-all-else now arises call fits = refused-leaves now (arises-reachable now arises) call fits
+pub refusal-leaves-all-else : (now : Moment) → Arises now → (call : Call) → Typed call → 0 < numberGiven now call → RefusalLeaves now call
+refusal-leaves-all-else now arises call fits = call-refused now (arises-reachable now arises) call fits
 
 -- "A refused start gives no panel."
 pub refused-start-gives-no-panel : (setup : Setup) (table : List ℕ) → 0 < startNumber (started setup table .answer) → started setup table .panel ≡ noPanel

@@ -34,21 +34,21 @@ use Rattle.panel.specs.Reachable.{Reachable}
 use Rattle.panel.proofs.Ways.{contact-ways, lift-ways, report-ways}
 use Rattle.panel.proofs.Invariant.{always-256-registers}
 use Rattle.demands.specs.Calls.{Moment, Call, lend, byte, bytes, mark, ask, contact, lift, after, afterAll, numberGiven, reportHanded, handedOver, AllTyped}
-use Rattle.demands.specs.Demand2.{NamesWord, by-store, by-acting, by-dragging, by-lending, NamesRegister, by-write, by-status, by-place, by-page, by-lift, Some, here, later}
+use Rattle.demands.specs.Demand2.{NamesWord, by-store, by-acting, by-dragging, by-lending, NamesRegister, by-write, by-status, by-place, by-page, by-lifting, Some, here, later}
 use Rattle.demands.proofs.Calls.{call-reached}
 use Rattle.demands.proofs.TouchedRegisters as Registers
 use Rattle.demands.proofs.TouchedRegisters.{Touches, touched-register}
 
 -- what is done has number 0
-done-number : (o : Outcome) → isDone o ≡ true → Outcome.numberOf o ≡ 0
+done-is-0 : (o : Outcome) → isDone o ≡ true → Outcome.numberOf o ≡ 0
 unfolding Outcome.numberOf
-done-number Done done = refl
-done-number UnknownCommand done = cc
-done-number WrongData done = cc
-done-number PastEnd done = cc
-done-number Unwritable done = cc
-done-number WrongValue done = cc
-done-number ReplyTooLong done = cc
+done-is-0 Done done = refl
+done-is-0 UnknownCommand done = cc
+done-is-0 WrongData done = cc
+done-is-0 PastEnd done = cc
+done-is-0 Unwritable done = cc
+done-is-0 WrongValue done = cc
+done-is-0 ReplyTooLong done = cc
 
 -- an ask that hands over this command with this data, and is done
 record Handing (command : ℕ) (content : List ℕ) (r : Reporting) : Type 0 where
@@ -74,7 +74,7 @@ module _ (panel : Panel) (words room : List ℕ) (command count : ℕ) where
             ap Outcome.numberOf
             (performs-outcome (panel .registers) (setup .pages) (checkingOf setup) (headerOf setup) command content words (drop (answer .count) (answer .room)))
             ∙ ap (λ (c : ℕ). Outcome.numberOf (outcome (setup .pages) (length words) (checkingOf setup) c content)) is
-            ∙ done-number (outcome (setup .pages) (length words) (checkingOf setup) known content) done;
+            ∙ done-is-0 (outcome (setup .pages) (length words) (checkingOf setup) known content) done;
       }
 
 -- a word over an ask
@@ -205,7 +205,7 @@ lifted-register : (now : Moment) → length (now .panel .registers .bytes) ≡ r
     → (panelRegister (lifting (now .panel) .panel) address ≡ panelRegister (now .panel) address) ⊎ NamesRegister now address lift
 unfolding numberGiven liftNumber
 lifted-register now whole address =
-    ⊎-elim inl (λ named. inr (by-lift (named .0) (named .1)))
+    ⊎-elim inl (λ named. inr (by-lifting (named .0) (named .1)))
     (lift-ways (now .panel)
     (λ l. (panelRegister (l .panel) address ≡ panelRegister (now .panel) address) ⊎ ((liftNumber (l .answer) ≡ 0) × (address ≡ 0x06)))
     (inl refl) (inl refl) (status-or-stays (eqb address 0x06) refl))

@@ -28,7 +28,7 @@ use Rattle.demands.specs.Reports.{rulesOf, reportWaits, waitingReport}
 use Rattle.demands.specs.AsRead.{AlwaysUntilNothing}
 use Rattle.demands.proofs.Calls.{calls-reached, arises-reachable}
 use Rattle.demands.proofs.Waits.{busy-waits, sound-ask-hands}
-use Rattle.demands.proofs.Lent.{reported-words, reported-room}
+use Rattle.demands.proofs.Lent.{reported-words-long, reported-room-long}
 use Rattle.demands.proofs.Reading.{ask-moves}
 
 is-lent : (now : Moment) → length (now .words) ≡ wordCount → leastRoom ≤ length (now .room) → lent (length (now .words)) (length (now .room)) ≡ true
@@ -44,8 +44,8 @@ unfolding afterAll after run asks
 asks-move line zero now kept reached reads whole large = (reads, reached)
 asks-move line (suc n) now kept reached reads whole large =
     let next = after now ask in
-    let same-words : length (next .words) ≡ wordCount = reported-words (now .panel) (now .words) (now .room) ∙ whole in
-    let same-room : length (next .room) ≡ length (now .room) = reported-room (now .panel) (now .words) (now .room) in
+    let same-words : length (next .words) ≡ wordCount = reported-words-long (now .panel) (now .words) (now .room) ∙ whole in
+    let same-room : length (next .room) ≡ length (now .room) = reported-room-long (now .panel) (now .words) (now .room) in
     let same-large : leastRoom ≤ length (next .room) = rw same-room large in
     asks-move line n next (afterReport (rulesFor line) kept) (reached-report line kept reached)
     (ask-moves line (now .panel) kept reached (now .words) (now .room) reads (is-lent now whole large)) same-words same-large

@@ -16,9 +16,7 @@ use Rattle.frame.specs.Writer as Writer
 use Rattle.frame.specs.Writer.{leastRoom, answers, writing}
 use Rattle.reading.specs.Place.{Report, badCheck, acceptedFrame}
 use Rattle.line.specs.declared.Reader.{Reader}
-use Rattle.line.specs.declared.Given.{Given}
 use Rattle.line.specs.declared.Gave.{Gave}
-use Rattle.line.specs.declared.Answer.{Answer}
 use Rattle.line.specs.declared.Answer.the-variants as line-answer
 use Rattle.line.specs.declared.Report.{Report as Told}
 use Rattle.line.specs.declared.Asked.{Asked}
@@ -63,20 +61,20 @@ use Rattle.panel.proofs.Invariant.{reachable-sound}
 use Rattle.demands.specs.Calls.{Moment, Call, lend, byte, bytes, mark, ask, contact, lift, numberGiven, Typed}
 use Rattle.demands.specs.Reports.{waitingReport}
 use Rattle.demands.specs.Demand1.{Condition, _when_, firstNumber, noneHolds, GivenUnder, NamesFirstWrong, oneComesWhileWaiting, ofFrame, notCommand, byCommand, wrongData, passesEnd, touchesUnwritable, valueWrong, replyPasses, wordsNotLent, roomTooSmall, notWholeRecords, oneWrong, offScreen, printed, printedStart, printedWriter}
-use Rattle.demands.proofs.Waits.{busy-waits, asked-report, asked-payload}
+use Rattle.demands.proofs.Waits.{gives, busy-waits, asked-report, asked-payload}
 
-two : (a b : Bool) → Outcome.numberOf (cond a WrongData (cond b PastEnd Done)) ≡ cond a 3 (cond b 4 0)
+two-tests : (a b : Bool) → Outcome.numberOf (cond a WrongData (cond b PastEnd Done)) ≡ cond a 3 (cond b 4 0)
 unfolding Outcome.numberOf
-two true b = refl
-two false true = refl
-two false false = refl
+two-tests true b = refl
+two-tests false true = refl
+two-tests false false = refl
 
-three : (a b c : Bool) → Outcome.numberOf (cond a WrongData (cond b PastEnd (cond c ReplyTooLong Done))) ≡ cond a 3 (cond b 4 (cond c 7 0))
+three-tests : (a b c : Bool) → Outcome.numberOf (cond a WrongData (cond b PastEnd (cond c ReplyTooLong Done))) ≡ cond a 3 (cond b 4 (cond c 7 0))
 unfolding Outcome.numberOf
-three true b c = refl
-three false true c = refl
-three false false true = refl
-three false false false = refl
+three-tests true b c = refl
+three-tests false true c = refl
+three-tests false false true = refl
+three-tests false false false = refl
 
 -- the numbers of a command, by the command: what commands/specs/Outcome says is 01's list
 module _ (setup : Setup) (command : ℕ) (content : List ℕ) where
@@ -110,19 +108,19 @@ module _ (setup : Setup) (command : ℕ) (content : List ℕ) where
   unfolding readRegistersOutcome Outcome.numberOf firstNumber notCommand byCommand wrongData passesEnd touchesUnwritable valueWrong replyPasses
   read-numbers is =
       rw is
-      (three (not (eqb (length content) 2)) (ltb registerCount (byteAt content 0 + byteAt content 1)) (replyTooLong (checkingOf setup) (2 + byteAt content 1)))
+      (three-tests (not (eqb (length content) 2)) (ltb registerCount (byteAt content 0 + byteAt content 1)) (replyTooLong (checkingOf setup) (2 + byteAt content 1)))
 
   store-numbers : command ≡ 0x82 → Outcome.numberOf (writeWordsOutcome wordCount content) ≡ firstNumber frameNumbers
   unfolding writeWordsOutcome Outcome.numberOf firstNumber notCommand byCommand wrongData passesEnd touchesUnwritable valueWrong replyPasses
   store-numbers is =
       rw is
-      (two (ltb (length content) 4 || eqb (length content % 2) 1) (ltb wordCount (wordAt content 0 + length (wordsOf (drop 2 content)))))
+      (two-tests (ltb (length content) 4 || eqb (length content % 2) 1) (ltb wordCount (wordAt content 0 + length (wordsOf (drop 2 content)))))
 
   fetch-numbers : command ≡ 0x83 → Outcome.numberOf (readWordsOutcome wordCount (checkingOf setup) content) ≡ firstNumber frameNumbers
   unfolding readWordsOutcome Outcome.numberOf firstNumber notCommand byCommand wrongData passesEnd touchesUnwritable valueWrong replyPasses
   fetch-numbers is =
       rw is
-      (three (not (eqb (length content) 3)) (ltb wordCount (wordAt content 0 + byteAt content 2))
+      (three-tests (not (eqb (length content) 3)) (ltb wordCount (wordAt content 0 + byteAt content 2))
       (replyTooLong (checkingOf setup) (3 + (byteAt content 2 + byteAt content 2))))
 
   unknown : (command ≡ 0x80 → ⊥) → (command ≡ 0x81 → ⊥) → (command ≡ 0x82 → ⊥) → (command ≡ 0x83 → ⊥) → notCommand command content ≡ true
@@ -212,12 +210,9 @@ ask-number now sound = go (eqb (length (now .words)) wordCount) refl (leb leastR
     go true w false r = rw (w, r, lt-ltb (length (now .room)) leastRoom (leb-false leastRoom (length (now .room)) r))
     go false w r s = rw w
 
-abbrev given : Answer → Reader → Given
-given answer reader = record { answer = answer; reader = reader }
-
 -- a byte, a mark: "byte or mark 1"
 fed-number : (waits : Bool) (r s : Reader)
-    → Line.numberOf (cond waits (given line-answer.Waits r) (given line-answer.Done s) .answer) ≡ cond waits 1 0
+    → Line.numberOf (cond waits (gives line-answer.Waits r) (gives line-answer.Done s) .answer) ≡ cond waits 1 0
 unfolding Line.numberOf
 fed-number true r s = refl
 fed-number false r s = refl
@@ -412,10 +407,10 @@ skipped (c ∷ before) rest none =
 
 pub given-is-first : (cs : List Condition) (n : ℕ) → GivenUnder cs n → firstNumber cs ≡ n
 unfolding firstNumber
-given-is-first cs n given =
-    ap firstNumber (given .place)
-    ∙ skipped (given .before) (given .condition ∷ given .behind) (given .none-before)
-    ∙ rw (given .holds) (given .number)
+given-is-first cs n under =
+    ap firstNumber (under .place)
+    ∙ skipped (under .before) (under .condition ∷ under .behind) (under .none-before)
+    ∙ rw (under .holds) (under .number)
 
 -- 13: "the first wrong one is named"
 picked-within : (picks : Record → Bool) (rs : List Record) (i j : ℕ) (r : Record) → firstOf picks i rs ≡ At j r → j < i + length rs

@@ -137,11 +137,11 @@ module _ (line : Declared.Line) (panel : Panel) (kept : Kept) (reached : Reached
   abbrev rules : Rules
   rules = rulesFor line
 
-  abbrev told : Seen → Asked
-  told seen = record { report = reportAs (reportOf rules seen); payload = payloadAs (reportOf rules seen); reader = readerOf line (afterReport rules kept) }
+  abbrev askedAt : Seen → Asked
+  askedAt seen = record { report = reportAs (reportOf rules seen); payload = payloadAs (reportOf rules seen); reader = readerOf line (afterReport rules kept) }
 
   abbrev handedFor : Seen → Reporting.Reporting
-  handedFor seen = Reporting.handing (told seen) (told seen .report) panel words room
+  handedFor seen = Reporting.handing (askedAt seen) (askedAt seen .report) panel words room
 
   -- what is handed over is the reading's report, and the reader goes on as the reading says
   hands-as : (seen : Seen) → look rules (kept .closed) (kept .bytes) ≡ seen → panel .reader ≡ readerOf line kept
@@ -171,7 +171,7 @@ module _ (line : Declared.Line) (panel : Panel) (kept : Kept) (reached : Reached
       seen : Seen
       seen = look rules (kept .closed) (kept .bytes)
 
-      is : asked (panel .reader) ≡ told seen
+      is : asked (panel .reader) ≡ askedAt seen
       is = ap asked reads ∙ ask-carried line kept (reached .few)
 
       result : Bool → Asked → Reporting.Reporting

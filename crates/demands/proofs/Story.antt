@@ -15,7 +15,7 @@ use Rattle.reading.proofs.Damage.{isAccepted, noneAccepted, tested-begins-none}
 use Rattle.demands.specs.Calls.{Call, bytes, ask, handedOverAll, Halfwords, Typed, AllTyped, Arises, from-start}
 use Rattle.demands.specs.Given.{givenAll}
 use Rattle.demands.specs.Demand3.{Ready, AllAskedFor}
-use Rattle.demands.specs.Story.{version, readVersion, setup, new, noise, times, story}
+use Rattle.demands.specs.Story.{version, readVersion, storySetup, new, noise, times, story}
 use Rattle.demands.proofs.Computed.{computingFrames, computingReading, computingStart, computingCalls}
 use Rattle.demands.proofs.Demand3.{demand3-open}
 
@@ -30,7 +30,7 @@ zeros-16-bit k = copies-below wordCount 0 k (omega arith)
 
 pub new-arises : Arises new
 unfolding computingStart
-new-arises = from-start setup [] (replicate wordCount 0) (replicate leastRoom 0) (omega arith) (omega arith) zeros-16-bit refl
+new-arises = from-start storySetup [] (replicate wordCount 0) (replicate leastRoom 0) (omega arith) (omega arith) zeros-16-bit refl
 
 pub new-ready : Ready new
 unfolding computingCalls

@@ -55,7 +55,7 @@ use Rattle.demands.proofs.Storing.{word-below, record-bytes}
 pub record Touched (panel : Panel) (table words : List ℕ) (x y : ℕ) : Type 0 where
   pub whole : length words ≡ wordCount
   pub good : judged (panel .setup) table ≡ Good
-  pub leaves : contacting panel table words x y
+  pub touches : contacting panel table words x y
       ≡ contacts contact-answer.Done (withPad panel (touched (padOf panel) table words x y .pad)) (touched (padOf panel) table words x y .words)
 
 module _ (panel : Panel) (table words : List ℕ) (x y : ℕ) where
@@ -91,7 +91,7 @@ module _ (panel : Panel) (table words : List ℕ) (x y : ℕ) where
           record {
             whole = eqb-true (length words) wordCount p;
             good = r;
-            leaves = rw (p, q, r) (on-done is);
+            touches = rw (p, q, r) (on-done is);
           }
 
 -- "Contact while up: ..", "Contact while down: .."
@@ -99,7 +99,7 @@ pub contact-leaves : (now : Moment) (table : List ℕ) (x y : ℕ) → numberGiv
 unfolding numberGiven after afterContact
 contact-leaves now table x y is =
     ap (λ (c : Contacting). record { panel = c .contacted .panel; words = c .words; room = now .room })
-    (contact-done (now .panel) table (now .words) x y is .leaves)
+    (contact-done (now .panel) table (now .words) x y is .touches)
 
 -- "Lift: status 02, the catch is dropped."
 pub lift-leaves : (now : Moment) → numberGiven now lift ≡ 0 → after now lift ≡ afterLift now

@@ -22,7 +22,8 @@ use Rattle.touch.specs.Find.{found}
 use Rattle.contact.specs.declared.Catch.{Catch}
 use Rattle.contact.specs.declared.Catch.the-variants.{Free}
 use Rattle.contact.specs.declared.Pad.{Pad}
-use Rattle.contact.specs.Contact.{padOf, showing, catching, acting, pressed, kept, touched}
+use Rattle.contact.specs.Contact as Contact
+use Rattle.contact.specs.Contact.{showing, catching, acting, pressed, touched}
 
 pub data Touches (pad : Pad) (table : List ℕ) (x y address : ℕ) : Type 0 where
   status : address ≡ 0x06 → Touches pad table x y address
@@ -118,7 +119,7 @@ module _ (pad : Pad) (whole : length (pad .registers .bytes) ≡ registerCount) 
       paged next (elsewhere (inr at)) = inl (page-only registers long (r .next) address (inr (omega arith)))
 
       go : (b : Bool) → noNext r ≡ b
-          → (registerAt (cond b (padOf registers catch) (padOf (withPage registers (r .next)) Free) .registers) address ≡ registerAt registers address)
+          → (registerAt (cond b (Contact.padOf registers catch) (Contact.padOf (withPage registers (r .next)) Free) .registers) address ≡ registerAt registers address)
           ⊎ Touches pad table x y address
       go true next = inl refl
       go false next = paged next (lies address)
@@ -126,7 +127,7 @@ module _ (pad : Pad) (whole : length (pad .registers .bytes) ≡ registerCount) 
   -- a contact that is done: a register stays, or is one of those that the rule names
   pub touched-register : (words : List ℕ)
       → (registerAt (touched pad table words x y .pad .registers) address ≡ registerAt (pad .registers) address) ⊎ Touches pad table x y address
-  unfolding touched kept pressed acting
+  unfolding touched Contact.kept pressed acting
   touched-register words = go (isDown (pad .registers)) refl
     where
       now : Registers
@@ -141,7 +142,7 @@ module _ (pad : Pad) (whole : length (pad .registers .bytes) ≡ registerCount) 
       behind (At i r) is up = shown-register i r up is now long (catching r (pad .catch))
 
       go : (b : Bool) → isDown (pad .registers) ≡ b
-          → (registerAt (cond b (kept pad words x y) (pressed pad table words x y) .pad .registers) address ≡ registerAt (pad .registers) address)
+          → (registerAt (cond b (Contact.kept pad words x y) (pressed pad table words x y) .pad .registers) address ≡ registerAt (pad .registers) address)
           ⊎ Touches pad table x y address
       go true down = marked-register 0x03
       go false up =

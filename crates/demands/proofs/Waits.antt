@@ -10,6 +10,8 @@ use Rattle.frame.specs.Writer.{leastRoom}
 use Rattle.reading.specs.Place.{Rules, Seen, pass, wait, bad, accepted, look, reportOf}
 use Rattle.reading.specs.Moves.{Kept, waiting, handed, afterReport}
 use Rattle.line.specs.declared.Reader.{Reader}
+use Rattle.line.specs.declared.Given.{Given}
+use Rattle.line.specs.declared.Answer.{Answer}
 use Rattle.line.specs.declared.Report.{Report}
 use Rattle.line.specs.declared.Report.the-variants as line
 use Rattle.line.specs.declared.Asked.{Asked}
@@ -24,6 +26,10 @@ use Rattle.panel.specs.Reporting.{lent, Reporting, handing, reporting}
 use Rattle.panel.specs.Sound.{lineOf, Sound}
 use Rattle.demands.specs.Calls.{Moment, ask, after, reportHanded, handedOver}
 use Rattle.demands.specs.Reports.{rulesOf, reportWaits, waitingReport}
+
+-- what the reader answers an input, and the reader that this leaves
+abbrev pub gives : Answer → Reader → Given
+gives answer reader = record { answer = answer; reader = reader }
 
 module _ (panel : Panel) (sound : Sound panel) where
   -- what the reader keeps is what the reading keeps
@@ -40,25 +46,25 @@ module _ (panel : Panel) (sound : Sound panel) where
       ∙ waiting-is (lineOf (panel .setup)) (sound .reads .kept) (sound .reads .reached)
       ∙ ap (λ (k : Kept). waiting (rulesOf panel) k) (sym kept-same)
 
-  carried : asked (panel .reader) ≡ record {
+  asked-carried : asked (panel .reader) ≡ record {
     report = reportAs (handed (rulesOf panel) (sound .reads .kept));
     payload = payloadAs (handed (rulesOf panel) (sound .reads .kept));
     reader = readerOf (lineOf (panel .setup)) (afterReport (rulesOf panel) (sound .reads .kept));
   }
-  carried =
+  asked-carried =
       ap (λ (r : Reader). asked r) (sound .reads .is) ∙ ask-carried (lineOf (panel .setup)) (sound .reads .kept) (sound .reads .reached .few)
 
   pub asked-report : asked (panel .reader) .report ≡ reportAs (waitingReport panel)
   unfolding waitingReport
-  asked-report = ap (λ (a : Asked). a .report) carried ∙ ap (λ (k : Kept). reportAs (handed (rulesOf panel) k)) (sym kept-same)
+  asked-report = ap (λ (a : Asked). a .report) asked-carried ∙ ap (λ (k : Kept). reportAs (handed (rulesOf panel) k)) (sym kept-same)
 
   pub asked-payload : asked (panel .reader) .payload ≡ payloadAs (waitingReport panel)
   unfolding waitingReport
-  asked-payload = ap (λ (a : Asked). a .payload) carried ∙ ap (λ (k : Kept). payloadAs (handed (rulesOf panel) k)) (sym kept-same)
+  asked-payload = ap (λ (a : Asked). a .payload) asked-carried ∙ ap (λ (k : Kept). payloadAs (handed (rulesOf panel) k)) (sym kept-same)
 
   pub asked-reader : asked (panel .reader) .reader ≡ readerOf (lineOf (panel .setup)) (afterReport (rulesOf panel) (keptOf (panel .reader)))
   asked-reader =
-      ap (λ (a : Asked). a .reader) carried
+      ap (λ (a : Asked). a .reader) asked-carried
       ∙ ap (λ (k : Kept). readerOf (lineOf (panel .setup)) (afterReport (rulesOf panel) k)) (sym kept-same)
 
 -- what asking hands over is the report that waits

@@ -31,12 +31,12 @@ use Rattle.panel.specs.Reachable.{Reachable, by-report}
 use Rattle.panel.proofs.Invariant.{always-256-registers}
 use Rattle.demands.specs.Calls.{Moment, Call, ask, after, afterAll, numberGiven, handedOver, AllTyped}
 use Rattle.demands.specs.Reports.{acknowledgementOf}
-use Rattle.demands.specs.Demand2.{NamesWord, NamesRegister, Some, replied, leaving, afterWrite, afterRead, afterStore, afterFetch}
+use Rattle.demands.specs.Demand2.{NamesWord, NamesRegister, Some, withReply, leaving, afterWrite, afterRead, afterStore, afterFetch}
 use Rattle.demands.proofs.Calls.{calls-reached}
 use Rattle.demands.proofs.ReadsDone.{read-of-written-is-done, fetch-of-stored-is-done}
 use Rattle.demands.proofs.Contents.{content-bytes}
 use Rattle.demands.proofs.Named.{word-stays-or-is-named, register-stays-or-is-named}
-use Rattle.demands.proofs.Access.{handed-asks, is-done, writes-registers, stores-words, reads-registers, fetches-words}
+use Rattle.demands.proofs.Access.{handed-asks, is-done, writes-registers, writes-words, reads-registers, reads-words}
 
 -- registers that agree over a run read alike
 same-run : (a b : Registers) (n address : ℕ) → ((i : ℕ) → i < n → registerAt a (address + i) ≡ registerAt b (address + i))
@@ -83,7 +83,7 @@ module _ (now : Moment) (reached : Reachable (now .panel)) (content : List ℕ) 
   pub what-80-wrote-81-replies :
       handedOver (afterAll (after now ask) calls) ask ≡ acceptedFrame 0x81 (byteAt content 0 ∷ length (drop 1 content) ∷ []) ∷ []
       → after (afterAll (after now ask) calls) ask .room
-      ≡ replied (afterAll (after now ask) calls) 0x81 (byteAt content 0 ∷ length (drop 1 content) ∷ drop 1 content)
+      ≡ withReply (afterAll (after now ask) calls) 0x81 (byteAt content 0 ∷ length (drop 1 content) ∷ drop 1 content)
   unfolding afterRead leaving
   what-80-wrote-81-replies reads =
       let then = afterAll (after now ask) calls in
@@ -124,7 +124,7 @@ module _ (now : Moment) (reached : Reachable (now .panel)) (content : List ℕ) 
 
   words-now : after now ask .words ≡ wordsWritten (now .words) (wordAt content 0) (drop 2 content)
   unfolding afterStore leaving
-  words-now = ap (λ (m : Moment). m .words) (stores-words now reached content done writes)
+  words-now = ap (λ (m : Moment). m .words) (writes-words now reached content done writes)
 
   words-still : length (then .words) ≡ wordCount → wordRun (then .words) (wordAt content 0) n ≡ wordsOf (drop 2 content)
   words-still whole =
@@ -141,7 +141,7 @@ module _ (now : Moment) (reached : Reachable (now .panel)) (content : List ℕ) 
       ≡ acceptedFrame 0x83 (byteAt content 0 ∷ byteAt content 1 ∷ length (wordsOf (drop 2 content)) ∷ []) ∷ []
       → length (wordsOf (drop 2 content)) ≤ 124
       → after (afterAll (after now ask) calls) ask .room
-      ≡ replied (afterAll (after now ask) calls) 0x83 (byteAt content 0 ∷ byteAt content 1 ∷ length (wordsOf (drop 2 content)) ∷ drop 2 content)
+      ≡ withReply (afterAll (after now ask) calls) 0x83 (byteAt content 0 ∷ byteAt content 1 ∷ length (wordsOf (drop 2 content)) ∷ drop 2 content)
   unfolding afterFetch leaving after
   what-82-wrote-83-replies reads few =
       let setup = then .panel .setup in
@@ -156,6 +156,6 @@ module _ (now : Moment) (reached : Reachable (now .panel)) (content : List ℕ) 
       let even : length (drop 2 content) % 2 ≡ 0 = simp length-drop (omega (arith, passed .even, passed .long)) in
       let run : bytesOf (wordRun (then .words) (wordAt content 0) n) ≡ drop 2 content =
       ap bytesOf (words-still (handed-asks then 0x83 question reads .whole)) ∙ bytesOf-wordsOf (drop 2 content) rest even in
-      ap (λ (m : Moment). m .room) (fetches-words then there question answered reads)
+      ap (λ (m : Moment). m .room) (reads-words then there question answered reads)
       ∙ ap (λ (data′ : List ℕ). over (acknowledgementOf setup 0x83 true ++ frameOf (checkingOf setup) (headerOf setup) 0x83 data′) (then .room))
       (rw (first, second, run))

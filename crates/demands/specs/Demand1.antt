@@ -188,11 +188,11 @@ pub record OnlyHandedOver (now later : Moment) : Type 0 where
   pub only-acknowledged : later .room ≡ over (acknowledgementOf (now .panel .setup) command true) (now .room)
 
 -- what a refused call leaves, by its number
-pub data Leaves (now : Moment) : Call → Type 0 where
+pub data RefusalLeaves (now : Moment) : Call → Type 0 where
   -- 2 to 7: "answers beside a frame's report, which counts as handed over, and its acknowledgement is written"
-  only-handed-over : 2 ≤ numberGiven now ask → numberGiven now ask ≤ 7 → OnlyHandedOver now (after now ask) → Leaves now ask
+  only-handed-over : 2 ≤ numberGiven now ask → numberGiven now ask ≤ 7 → OnlyHandedOver now (after now ask) → RefusalLeaves now ask
   -- "otherwise a refusal changes nothing"
-  as-it-stood : (call : Call) → (numberGiven now call ≡ 1) ⊎ (8 ≤ numberGiven now call) → after now call ≡ now → Leaves now call
+  as-it-stood : (call : Call) → (numberGiven now call ≡ 1) ⊎ (8 ≤ numberGiven now call) → after now call ≡ now → RefusalLeaves now call
   -- of bytes one after the other, those in front were taken one by one, and the next comes while a report waits
   as-those-taken : (bs taken : List ℕ) (b : ℕ) (rest : List ℕ) → bs ≡ taken ++ (b ∷ rest) → after now (bytes bs) ≡ afterAll now (map byte taken)
-      → reportWaits (after now (bytes bs) .panel) ≡ true → Leaves now (bytes bs)
+      → reportWaits (after now (bytes bs) .panel) ≡ true → RefusalLeaves now (bytes bs)
