@@ -22,7 +22,8 @@ use Rattle.panel.specs.Reachable.{Reachable}
 use Rattle.panel.proofs.Invariant.{reachable-sound}
 use Rattle.demands.specs.Calls.{Moment, ask, numberGiven, reportHanded, handedOver}
 use Rattle.demands.specs.Demand2.{afterCommand, AskLeaves, hands-nothing, hands-bad-check, refuses-command, does-command}
-use Rattle.demands.proofs.Access.{handed-asks, done-number, writes-registers, reads-registers, writes-words, reads-words, answers-bad-check, nothing-changes-nothing}
+use Rattle.demands.proofs.FrameAsked.{handed-asks, done-number}
+use Rattle.demands.proofs.Access.{writes-registers, reads-registers, writes-words, reads-words, answers-bad-check, nothing-changes-nothing}
 use Rattle.demands.proofs.Refusals.{command-refused}
 
 -- one report at most, and its number where it is none or a bad check

@@ -23,7 +23,8 @@ use Rattle.touch.specs.Setup.{checkingOf}
 use Rattle.panel.specs.Reachable.{Reachable}
 use Rattle.panel.proofs.Invariant.{reachable-sound}
 use Rattle.demands.specs.Calls.{Moment, ask, numberGiven, handedOver}
-use Rattle.demands.proofs.Access.{handed-asks, done-number, is-done}
+use Rattle.demands.proofs.FrameAsked.{handed-asks, done-number}
+use Rattle.demands.proofs.Access.{is-done}
 
 -- 06, the touch status, is not writable: a run from before it that may be written ends before it
 before-status : (n address : ℕ) → allWritable address n ≡ true → address ≤ 0x06 → address + n ≤ 0x06

@@ -48,7 +48,7 @@ use Rattle.demands.specs.Demand1.{RefusalLeaves, as-it-stood, only-hande
 use Rattle.demands.specs.Demand2.{leaving}
 use Rattle.demands.proofs.Waits.{gives, busy-waits}
 use Rattle.demands.proofs.Numbers.{one-more}
-use Rattle.demands.proofs.Access.{Asks, handed-asks, done-number, performance-leaves}
+use Rattle.demands.proofs.FrameAsked.{Asks, handed-asks, done-number, performance-leaves}
 
 -- the numbers of a refused command
 refused-numbers : (o : Outcome) → 0 < Outcome.numberOf o → 2 ≤ Outcome.numberOf o

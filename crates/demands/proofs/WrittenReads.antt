@@ -36,7 +36,8 @@ use Rattle.demands.proofs.Calls.{calls-reached}
 use Rattle.demands.proofs.ReadsDone.{read-of-written-is-done, fetch-of-stored-is-done}
 use Rattle.demands.proofs.Contents.{content-bytes}
 use Rattle.demands.proofs.Named.{word-stays-or-is-named, register-stays-or-is-named}
-use Rattle.demands.proofs.Access.{handed-asks, is-done, writes-registers, writes-words, reads-registers, reads-words}
+use Rattle.demands.proofs.FrameAsked.{handed-asks}
+use Rattle.demands.proofs.Access.{is-done, writes-registers, writes-words, reads-registers, reads-words}
 
 -- registers that agree over a run read alike
 same-run : (a b : Registers) (n address : ℕ) → ((i : ℕ) → i < n → registerAt a (address + i) ≡ registerAt b (address + i))
