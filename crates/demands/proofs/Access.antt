@@ -1,6 +1,6 @@
 -- All that asking leaves: where the frame it hands over is done, after a bad check, and where nothing is handed over.
 use mathlib.Core.Path.{_≡_, refl, sym, ap, _∙_}
-use mathlib.Core.Bool.{Bool, true, false, cond}
+use mathlib.Core.Bool.{Bool, true, false}
 use mathlib.Core.List.{List, [], _∷_}
 use Prim.Native.Nat.{ℕ, _≤_}
 use native.Mathlib.Omega.{arith}
@@ -10,7 +10,7 @@ use lib.ListN.{length, drop}
 use Rattle.wire.specs.Room.{over, Laid}
 use Rattle.wire.specs.ByteOrder.{byteAt, wordAt}
 use Rattle.wire.proofs.Over.{over-nil}
-use Rattle.frame.specs.Frame.{mostData, frameOf, mostPayload}
+use Rattle.frame.specs.Frame.{mostData, frameOf}
 use Rattle.frame.specs.Writer.{leastRoom}
 use Rattle.frame.proofs.Writers.{frame-laid}
 use Rattle.reading.specs.Place.{badCheck, acceptedFrame}
@@ -18,7 +18,6 @@ use Rattle.line.specs.declared.Reader.{Reader}
 use Rattle.line.specs.declared.Report.{Report}
 use Rattle.line.specs.declared.Report.the-variants as line
 use Rattle.line.specs.declared.Asked.{Asked}
-use Rattle.line.specs.State.{padded}
 use Rattle.line.specs.Methods.{asked}
 use Rattle.line.proofs.Truths.{never, and-right}
 use Rattle.wire.specs.Addresses.{wordCount}
@@ -36,13 +35,14 @@ use Rattle.commands.proofs.Replies.{length-registersReply, length-wordsReply}
 use Rattle.touch.specs.Setup.{checkingOf}
 use Rattle.panel.specs.declared.Handed.the-variants as handed
 use Rattle.panel.specs.State.{headerOf, withReader}
-use Rattle.panel.specs.Reporting.{lent, acknowledged, Reporting, reports, handing, reporting}
+use Rattle.panel.specs.Reporting.{lent, acknowledged, Reporting, handing, reporting}
 use Rattle.panel.specs.Sound.{Sound}
 use Rattle.panel.specs.Reachable.{Reachable}
 use Rattle.panel.proofs.Invariant.{reachable-sound}
 use Rattle.demands.specs.Calls.{Moment, ask, after, numberGiven, reportHanded, handedOver}
 use Rattle.demands.specs.Reports.{readBehind, acknowledgementOf}
 use Rattle.demands.specs.Demand2.{afterWrite, afterRead, afterStore, afterFetch, afterBadCheck}
+use Rattle.demands.proofs.Answers.{reportedBy, momentAsked}
 use Rattle.demands.proofs.Waits.{asked-reader}
 use Rattle.demands.proofs.Rooms.{acknowledged-laid}
 use Rattle.demands.proofs.FrameAsked.{Asks, handed-asks, done-number, performance-leaves, part-holds}
@@ -135,12 +135,7 @@ module _ (now : Moment) where
   a = asked (now .panel .reader)
 
   abbrev reported : Bool → Report → Reporting
-  reported l told =
-      cond l (handing a told (now .panel) (now .words) (now .room))
-      (reports (record { handed = handed.NotLent; payload = padded mostPayload []; panel = now .panel }) (now .words) (now .room))
-
-  abbrev momentOf : Reporting → Moment
-  momentOf r = record { panel = r .reported .panel; words = r .words; room = r .room }
+  reported enough told = reportedBy (now .panel) (now .words) (now .room) enough a told
 
   pub answers-bad-check : Reachable (now .panel) → (command : ℕ) → handedOver now ask ≡ badCheck command ∷ [] → after now ask ≡ afterBadCheck now command
   unfolding after handedOver reporting handing reportHanded lent afterBadCheck readBehind
@@ -148,7 +143,7 @@ module _ (now : Moment) where
     where
       go : (l : Bool) → lent (length (now .words)) (length (now .room)) ≡ l → (told : Report)
           → reportHanded (reported l told .reported .handed) (reported l told .reported .payload) ≡ badCheck command ∷ []
-          → momentOf (reported l told) ≡ afterBadCheck now command
+          → momentAsked (reported l told) ≡ afterBadCheck now command
       go false is told hands = never (cc)
       go true is line.Nothing hands = never (cc)
       go true is (line.Accepted c n) hands = never (cc)
@@ -173,7 +168,7 @@ module _ (now : Moment) where
   nothing-changes-nothing = go (lent (length (now .words)) (length (now .room))) (a .report)
     where
       go : (l : Bool) (told : Report) → reportHanded (reported l told .reported .handed) (reported l told .reported .payload) ≡ []
-          → momentOf (reported l told) ≡ now
+          → momentAsked (reported l told) ≡ now
       go false told hands = refl
       go true line.Nothing hands = refl
       go true (line.Accepted c n) hands = never (cc)

@@ -4,14 +4,12 @@ use mathlib.Core.Bool.{Bool, true, false, cond}
 use mathlib.Core.List.{List, [], _∷_, map}
 use Prim.Native.Nat.{ℕ}
 use lib.ListN.{length, take}
-use Rattle.frame.specs.Frame.{mostPayload}
 use Rattle.reading.specs.Place as Place
 use Rattle.reading.specs.Line as Line
 use Rattle.line.specs.declared.Reader.{Reader}
 use Rattle.line.specs.declared.Asked.{Asked}
 use Rattle.line.specs.declared.Report.{Report}
 use Rattle.line.specs.declared.Report.the-variants as line
-use Rattle.line.specs.State.{padded}
 use Rattle.line.specs.Methods.{givenByte, givenMark, givenBytes, asked}
 use Rattle.panel.specs.declared.Panel.{Panel}
 use Rattle.panel.specs.declared.Handed.the-variants as handed
@@ -21,6 +19,7 @@ use Rattle.panel.specs.Reporting.{lent, reporting}
 use Rattle.demands.specs.Calls.{Moment, Call, lend, byte, bytes, mark, ask, contact, lift, after, reportHanded, handedOver, handedOverAll}
 use Rattle.demands.specs.Given.{unlessRefused, given, givenAll}
 use Rattle.demands.specs.Demand3.{ReadAlike}
+use Rattle.demands.proofs.Answers.{reportedBy}
 use Rattle.demands.proofs.Lent.{reported-words-long, reported-room-long, contacted-words-long}
 use Rattle.demands.proofs.Reading.{contact-keeps-reader, lift-keeps-reader}
 
@@ -37,9 +36,7 @@ goneOn (line.Accepted command count) old next = next
 
 module _ (panel : Panel) (words room : List ℕ) where
   abbrev result : Bool → Asked → Reporting.Reporting
-  result b a =
-      cond b (Reporting.handing a (a .report) panel words room)
-      (Reporting.reports (record { handed = handed.NotLent; payload = padded mostPayload []; panel = panel }) words room)
+  result enough a = reportedBy panel words room enough a (a .report)
 
   handing-told : (a : Asked) (report : Report)
       → (reportHanded (Reporting.handing a report panel words room .reported .handed) (Reporting.handing a report panel words room .reported .payload) ≡ handedFrom report (a .payload))

@@ -10,7 +10,7 @@ use lib.ListN.{length, take, drop, length-append, length-drop}
 use lib.Seq.{drop-drop}
 use Rattle.wire.specs.Room.{over, Laid, lays}
 use Rattle.wire.proofs.Over.{take-over, drop-over, length-over}
-use Rattle.frame.specs.Frame.{headerBytes, mostData, frameOf, mostPayload}
+use Rattle.frame.specs.Frame.{headerBytes, mostData, frameOf}
 use Rattle.frame.specs.Writer.{leastRoom}
 use Rattle.frame.proofs.Writers.{length-frameOf, length-most}
 use Rattle.reading.specs.Place.{acceptedFrame}
@@ -18,7 +18,6 @@ use Rattle.line.specs.declared.Reader.{Reader}
 use Rattle.line.specs.declared.Report.{Report}
 use Rattle.line.specs.declared.Report.the-variants as line
 use Rattle.line.specs.declared.Asked.{Asked}
-use Rattle.line.specs.State.{padded}
 use Rattle.line.specs.Methods.{asked}
 use Rattle.line.proofs.Truths.{never, and-left, and-right}
 use Rattle.wire.specs.Addresses.{wordCount}
@@ -35,11 +34,12 @@ use Rattle.panel.specs.declared.Panel.{Panel}
 use Rattle.panel.specs.declared.Handed.the-variants as handed
 use Rattle.panel.specs.Numbers.{reportNumber}
 use Rattle.panel.specs.State.{headerOf}
-use Rattle.panel.specs.Reporting.{lent, acknowledged, accepting, catchAfter, Reporting, reports, handing, reporting}
+use Rattle.panel.specs.Reporting.{lent, acknowledged, accepting, catchAfter, Reporting, handing, reporting}
 use Rattle.panel.specs.Sound.{Sound}
 use Rattle.demands.specs.Calls.{Moment, ask, after, numberGiven, reportHanded, handedOver}
 use Rattle.demands.specs.Reports.{readBehind, acknowledgementOf}
 use Rattle.demands.specs.Demand2.{leaving}
+use Rattle.demands.proofs.Answers.{reportedBy, momentAsked}
 use Rattle.demands.proofs.Waits.{asked-reader, frame-reporting}
 use Rattle.demands.proofs.Rooms.{acknowledged-laid, acknowledgement-short}
 
@@ -62,9 +62,7 @@ handed-asks now command content = go (lent (length (now .words)) (length (now .r
     a = asked (panel .reader)
 
     done : Bool → Report → Reporting
-    done l told =
-        cond l (handing a told panel (now .words) (now .room))
-        (reports (record { handed = handed.NotLent; payload = padded mostPayload []; panel = panel }) (now .words) (now .room))
+    done enough told = reportedBy panel (now .words) (now .room) enough a told
 
     go : (l : Bool) → lent (length (now .words)) (length (now .room)) ≡ l → (told : Report) → a .report ≡ told
         → reportHanded (done l told .reported .handed) (done l told .reported .payload) ≡ acceptedFrame command content ∷ []
@@ -116,7 +114,7 @@ module _ (now : Moment) (sound : Sound (now .panel)) (command : ℕ) (content : 
   unfolding after handing accepting leftWith readBehind
   after-frame =
       let a = asked (now .panel .reader) in
-      ap (λ (r : Reporting). record { panel = r .reported .panel; words = r .words; room = r .room })
+      ap momentAsked
       (frame-reporting (now .panel) (now .words) (now .room) (asks .whole) (asks .large) command (asks .count) (asks .told))
       ∙ ap (λ (came : List ℕ). leftWith came (acknowledged setup command true (now .room)) (a .reader)) (asks .content-is)
       ∙ ap (λ (answered : Laid). leftWith content answered (a .reader)) (acknowledged-laid setup command true (now .room) (asks .large))

@@ -32,7 +32,8 @@ use Rattle.panel.proofs.Ways.{lifts}
 use Rattle.panel.proofs.Invariant.{reachable-sound}
 use Rattle.demands.specs.Calls.{Moment, Call, lend, byte, bytes, mark, ask, contact, lift, numberGiven, Typed}
 use Rattle.demands.specs.Demand1.{firstNumber, oneComesWhileWaiting, roomTooSmall, printed, printedWriter}
-use Rattle.demands.proofs.Waits.{gives, busy-waits}
+use Rattle.demands.proofs.Answers.{gives}
+use Rattle.demands.proofs.Waits.{busy-waits}
 use Rattle.demands.proofs.AskNumbers.{ask-number}
 use Rattle.demands.proofs.TableNumbers.{contact-number}
 

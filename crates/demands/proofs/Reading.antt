@@ -21,7 +21,7 @@ use Rattle.line.specs.declared.Given.{Given}
 use Rattle.line.specs.declared.Answer.{Answer}
 use Rattle.line.specs.declared.Answer.the-variants.{Done, Waits}
 use Rattle.line.specs.declared.Asked.{Asked}
-use Rattle.line.specs.State.{rulesFor, padded, readerOf}
+use Rattle.line.specs.State.{rulesFor, readerOf}
 use Rattle.line.specs.Methods.{busy, gave, plus, givenByte, givenMark, givenBytes, asked}
 use Rattle.line.specs.Reached.{Reached, reportAs, payloadAs}
 use Rattle.line.proofs.Padding.{take-padded}
@@ -35,6 +35,7 @@ use Rattle.panel.specs.Contacts.{contacting, lifting}
 use Rattle.panel.proofs.Ways.{contact-ways, lift-ways}
 use Rattle.demands.specs.Calls.{Moment, Call, lend, byte, bytes, mark, ask, contact, lift, after, afterAll, reportHanded, handedOver, handedOverAll, Typed, AllTyped}
 use Rattle.demands.specs.Given.{unlessRefused, given, givenAll}
+use Rattle.demands.proofs.Answers.{reportedBy}
 
 -- from what a reader keeps, events of the reading that give these inputs, hand over these reports and leave this reader
 pub record Carries (line : Declared.Line) (kept : Kept) (inputs : List Input) (reports : List Report) (reader : Reader) : Type 0 where
@@ -175,9 +176,7 @@ module _ (line : Declared.Line) (panel : Panel) (kept : Kept) (reached : Reached
       is = ap asked reads ∙ ask-carried line kept (reached .few)
 
       result : Bool → Asked → Reporting.Reporting
-      result b a =
-          cond b (Reporting.handing a (a .report) panel words room)
-          (Reporting.reports (record { handed = handed.NotLent; payload = padded mostPayload []; panel = panel }) words room)
+      result enough a = reportedBy panel words room enough a (a .report)
 
       go : (b : Bool) → Carries line kept [] (reportHanded (result b (asked (panel .reader)) .reported .handed) (result b (asked (panel .reader)) .reported .payload))
           (result b (asked (panel .reader)) .reported .panel .reader)

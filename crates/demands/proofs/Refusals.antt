@@ -36,8 +36,8 @@ use Rattle.panel.specs.declared.LiftAnswer.the-variants as lift-answer
 use Rattle.panel.specs.Numbers.{reportNumber, contactNumber, liftNumber}
 use Rattle.panel.specs.State.{headerOf, withReader}
 use Rattle.panel.specs.Inputs.{fedByte, fedMark, fedBytes}
-use Rattle.panel.specs.Reporting.{lent, Reporting, handing, reporting}
-use Rattle.panel.specs.Contacts.{Contacting, contacting, lifting}
+use Rattle.panel.specs.Reporting.{lent, handing, reporting}
+use Rattle.panel.specs.Contacts.{contacting, lifting}
 use Rattle.panel.specs.Sound.{Sound}
 use Rattle.panel.specs.Reachable.{Reachable, by-byte}
 use Rattle.panel.proofs.Refusals.{refused-report-14-changes-nothing, refused-contact-changes-nothing, refused-lift-changes-nothing}
@@ -46,7 +46,8 @@ use Rattle.demands.specs.Calls.{Moment, Call, lend, byte, bytes, mark, a
 use Rattle.demands.specs.Reports.{reportWaits, readBehind, acknowledgementOf}
 use Rattle.demands.specs.Demand1.{RefusalLeaves, as-it-stood, only-handed-over, as-those-taken}
 use Rattle.demands.specs.Demand2.{leaving}
-use Rattle.demands.proofs.Waits.{gives, busy-waits}
+use Rattle.demands.proofs.Answers.{gives, momentAsked, momentTouched}
+use Rattle.demands.proofs.Waits.{busy-waits}
 use Rattle.demands.proofs.Numbers.{one-more}
 use Rattle.demands.proofs.FrameAsked.{Asks, handed-asks, done-number, performance-leaves}
 
@@ -130,7 +131,7 @@ unfolding numberGiven after reporting reportNumber
 not-lent-refused now is =
     let number : numberGiven now ask ≡ 14 = rw is in
     as-it-stood ask (inr (omega arith))
-    (ap (λ (r : Reporting). record { panel = r .reported .panel; words = r .words; room = r .room })
+    (ap momentAsked
     (refused-report-14-changes-nothing (now .panel) (now .words) (now .room) is))
 
 -- the panel put back as it stood
@@ -186,7 +187,7 @@ contact-refused : (now : Moment) (table : List ℕ) (x y : ℕ) → 0 < numberGi
 unfolding numberGiven after
 contact-refused now table x y above =
     as-it-stood (contact table x y) (contact-numbers (contacting (now .panel) table (now .words) x y .contacted .answer) above)
-    (ap (λ (c : Contacting). record { panel = c .contacted .panel; words = c .words; room = now .room })
+    (ap (momentTouched now)
     (refused-contact-changes-nothing (now .panel) table (now .words) x y above))
 
 lift-refused : (now : Moment) → 0 < numberGiven now lift → RefusalLeaves now lift

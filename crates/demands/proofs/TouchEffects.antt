@@ -49,6 +49,7 @@ use Rattle.panel.specs.Contacts.{Contacting, contacts, contactOn, contactJudged
 use Rattle.panel.proofs.Ways.{lifts}
 use Rattle.demands.specs.Calls.{Moment, contact, lift, withPanel, after, numberGiven}
 use Rattle.demands.specs.Demand2.{afterContact, afterLift}
+use Rattle.demands.proofs.Answers.{momentTouched}
 use Rattle.demands.proofs.Storing.{word-below, record-bytes}
 
 -- a contact that is done had all words, no report waiting, a good table, touch on and a point on the screen
@@ -98,7 +99,7 @@ module _ (panel : Panel) (table words : List ℕ) (x y : ℕ) where
 pub contact-leaves : (now : Moment) (table : List ℕ) (x y : ℕ) → numberGiven now (contact table x y) ≡ 0 → after now (contact table x y) ≡ afterContact now table x y
 unfolding numberGiven after afterContact
 contact-leaves now table x y is =
-    ap (λ (c : Contacting). record { panel = c .contacted .panel; words = c .words; room = now .room })
+    ap (momentTouched now)
     (contact-done (now .panel) table (now .words) x y is .touches)
 
 -- "Lift: status 02, the catch is dropped."

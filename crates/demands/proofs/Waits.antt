@@ -10,8 +10,6 @@ use Rattle.frame.specs.Writer.{leastRoom}
 use Rattle.reading.specs.Place.{Rules, Seen, pass, wait, bad, accepted, look, reportOf}
 use Rattle.reading.specs.Moves.{Kept, waiting, handed, afterReport}
 use Rattle.line.specs.declared.Reader.{Reader}
-use Rattle.line.specs.declared.Given.{Given}
-use Rattle.line.specs.declared.Answer.{Answer}
 use Rattle.line.specs.declared.Report.{Report}
 use Rattle.line.specs.declared.Report.the-variants as line
 use Rattle.line.specs.declared.Asked.{Asked}
@@ -26,10 +24,6 @@ use Rattle.panel.specs.Reporting.{lent, Reporting, handing, reporting}
 use Rattle.panel.specs.Sound.{lineOf, Sound}
 use Rattle.demands.specs.Calls.{Moment, ask, after, reportHanded, handedOver}
 use Rattle.demands.specs.Reports.{rulesOf, reportWaits, waitingReport}
-
--- what the reader answers an input, and the reader that this leaves
-abbrev pub gives : Answer → Reader → Given
-gives answer reader = record { answer = answer; reader = reader }
 
 module _ (panel : Panel) (sound : Sound panel) where
   -- what the reader keeps is what the reading keeps
