@@ -33,7 +33,6 @@ use Rattle.commands.specs.Reply.{registersReply, wordsReply}
 use Rattle.commands.proofs.Reading.{registers-short, words-within, words-short}
 use Rattle.commands.proofs.Replies.{length-registersReply, length-wordsReply}
 use Rattle.touch.specs.Setup.{checkingOf}
-use Rattle.panel.specs.declared.Handed.the-variants as handed
 use Rattle.panel.specs.State.{headerOf, withReader}
 use Rattle.panel.specs.Reporting.{lent, acknowledged, Reporting, handing, reporting}
 use Rattle.panel.specs.Sound.{Sound}

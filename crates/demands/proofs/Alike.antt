@@ -12,7 +12,6 @@ use Rattle.line.specs.declared.Report.{Report}
 use Rattle.line.specs.declared.Report.the-variants as line
 use Rattle.line.specs.Methods.{givenByte, givenMark, givenBytes, asked}
 use Rattle.panel.specs.declared.Panel.{Panel}
-use Rattle.panel.specs.declared.Handed.the-variants as handed
 use Rattle.panel.specs.Inputs.{fedByte, fedMark, fedBytes}
 use Rattle.panel.specs.Reporting as Reporting
 use Rattle.panel.specs.Reporting.{lent, reporting}

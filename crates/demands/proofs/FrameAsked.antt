@@ -31,7 +31,6 @@ use Rattle.touch.specs.declared.Setup.{Setup}
 use Rattle.touch.specs.Setup.{checkingOf}
 use Rattle.contact.specs.declared.Catch.the-variants.{Free}
 use Rattle.panel.specs.declared.Panel.{Panel}
-use Rattle.panel.specs.declared.Handed.the-variants as handed
 use Rattle.panel.specs.Numbers.{reportNumber}
 use Rattle.panel.specs.State.{headerOf}
 use Rattle.panel.specs.Reporting.{lent, acknowledged, accepting, catchAfter, Reporting, handing, reporting}

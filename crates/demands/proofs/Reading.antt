@@ -27,7 +27,6 @@ use Rattle.line.specs.Reached.{Reached, reportAs, payloadAs}
 use Rattle.line.proofs.Padding.{take-padded}
 use Rattle.line.proofs.Carried.{waiting-is, byte-carried, mark-carried, ask-carried, reached-byte, reached-mark, reached-report}
 use Rattle.panel.specs.declared.Panel.{Panel}
-use Rattle.panel.specs.declared.Handed.the-variants as handed
 use Rattle.panel.specs.Inputs.{fedByte, fedMark, fedBytes}
 use Rattle.panel.specs.Reporting as Reporting
 use Rattle.panel.specs.Reporting.{lent, reporting}
