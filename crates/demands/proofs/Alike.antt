@@ -10,24 +10,23 @@ use Rattle.line.specs.declared.Reader.{Reader}
 use Rattle.line.specs.declared.Asked.{Asked}
 use Rattle.line.specs.declared.Report.{Report}
 use Rattle.line.specs.declared.Report.the-variants as line
-use Rattle.line.specs.State.{padded}
 use Rattle.line.specs.Methods.{givenByte, givenMark, givenBytes, asked}
 use Rattle.panel.specs.declared.Panel.{Panel}
-use Rattle.panel.specs.declared.Handed.the-variants as handed
 use Rattle.panel.specs.Inputs.{fedByte, fedMark, fedBytes}
 use Rattle.panel.specs.Reporting as Reporting
 use Rattle.panel.specs.Reporting.{lent, reporting}
 use Rattle.demands.specs.Calls.{Moment, Call, lend, byte, bytes, mark, ask, contact, lift, after, reportHanded, handedOver, handedOverAll}
 use Rattle.demands.specs.Given.{unlessRefused, given, givenAll}
 use Rattle.demands.specs.Demand3.{ReadAlike}
-use Rattle.demands.proofs.Lent.{reported-words, reported-room, contacted-words}
+use Rattle.demands.proofs.Answers.{reportedBy}
+use Rattle.demands.proofs.Lent.{reported-words-long, reported-room-long, contacted-words-long}
 use Rattle.demands.proofs.Reading.{contact-keeps-reader, lift-keeps-reader}
 
 -- what an ask hands over and the reader that it leaves, by the reader alone and whether enough is lent
-abbrev told : Report → (payload : List ℕ) → List Place.Report
-told line.Nothing payload = []
-told (line.BadCheck command) payload = Place.badCheck command ∷ []
-told (line.Accepted command count) payload = Place.acceptedFrame command (take count payload) ∷ []
+abbrev handedFrom : Report → (payload : List ℕ) → List Place.Report
+handedFrom line.Nothing payload = []
+handedFrom (line.BadCheck command) payload = Place.badCheck command ∷ []
+handedFrom (line.Accepted command count) payload = Place.acceptedFrame command (take count payload) ∷ []
 
 abbrev goneOn : Report → (old next : Reader) → Reader
 goneOn line.Nothing old next = old
@@ -36,12 +35,10 @@ goneOn (line.Accepted command count) old next = next
 
 module _ (panel : Panel) (words room : List ℕ) where
   abbrev result : Bool → Asked → Reporting.Reporting
-  result b a =
-      cond b (Reporting.handing a (a .report) panel words room)
-      (Reporting.reports (record { handed = handed.NotLent; payload = padded 254 []; panel = panel }) words room)
+  result enough a = reportedBy panel words room enough a (a .report)
 
   handing-told : (a : Asked) (report : Report)
-      → (reportHanded (Reporting.handing a report panel words room .reported .handed) (Reporting.handing a report panel words room .reported .payload) ≡ told report (a .payload))
+      → (reportHanded (Reporting.handing a report panel words room .reported .handed) (Reporting.handing a report panel words room .reported .payload) ≡ handedFrom report (a .payload))
       × (Reporting.handing a report panel words room .reported .panel .reader ≡ goneOn report (panel .reader) (a .reader))
   unfolding Reporting.handing reportHanded
   handing-told a line.Nothing = (refl, refl)
@@ -49,7 +46,7 @@ module _ (panel : Panel) (words room : List ℕ) where
   handing-told a (line.Accepted command count) = (refl, refl)
 
   ask-told : (reportHanded (reporting panel words room .reported .handed) (reporting panel words room .reported .payload)
-      ≡ cond (lent (length words) (length room)) (told (asked (panel .reader) .report) (asked (panel .reader) .payload)) [])
+      ≡ cond (lent (length words) (length room)) (handedFrom (asked (panel .reader) .report) (asked (panel .reader) .payload)) [])
       × (reporting panel words room .reported .panel .reader
       ≡ cond (lent (length words) (length room)) (goneOn (asked (panel .reader) .report) (panel .reader) (asked (panel .reader) .reader)) (panel .reader))
   unfolding reporting reportHanded
@@ -58,7 +55,7 @@ module _ (panel : Panel) (words room : List ℕ) where
       a : Asked
       a = asked (panel .reader)
 
-      go : (b : Bool) → (reportHanded (result b a .reported .handed) (result b a .reported .payload) ≡ cond b (told (a .report) (a .payload)) [])
+      go : (b : Bool) → (reportHanded (result b a .reported .handed) (result b a .reported .payload) ≡ cond b (handedFrom (a .report) (a .payload)) [])
           × (result b a .reported .panel .reader ≡ cond b (goneOn (a .report) (panel .reader) (a .reader)) (panel .reader))
       go true = handing-told a (a .report)
       go false = (refl, refl)
@@ -102,8 +99,8 @@ module _ (one other : Moment) (same : Shared one other) where
         reader =
             rw (ask-told (one .panel) (one .words) (one .room) .1, ask-told (other .panel) (other .words) (other .room) .1, same .reader, same .words, same .room);
         words =
-            reported-words (one .panel) (one .words) (one .room) ∙ same .words ∙ sym (reported-words (other .panel) (other .words) (other .room));
-        room = reported-room (one .panel) (one .words) (one .room) ∙ same .room ∙ sym (reported-room (other .panel) (other .words) (other .room));
+            reported-words-long (one .panel) (one .words) (one .room) ∙ same .words ∙ sym (reported-words-long (other .panel) (other .words) (other .room));
+        room = reported-room-long (one .panel) (one .words) (one .room) ∙ same .room ∙ sym (reported-room-long (other .panel) (other .words) (other .room));
       }
   shared-after (contact table x y) =
       record {
@@ -112,7 +109,7 @@ module _ (one other : Moment) (same : Shared one other) where
             ∙ same .reader
             ∙ sym (contact-keeps-reader (other .panel) table (other .words) x y);
         words =
-            contacted-words (one .panel) table (one .words) x y ∙ same .words ∙ sym (contacted-words (other .panel) table (other .words) x y);
+            contacted-words-long (one .panel) table (one .words) x y ∙ same .words ∙ sym (contacted-words-long (other .panel) table (other .words) x y);
         room = same .room;
       }
   shared-after lift =

@@ -44,11 +44,11 @@ module _ (setup : Setup) (now : Moment) (calls : List Call)
             ∙ handed-first rules (c .events)
             ∙ ap (λ (l : List Report). l ++ reports rules (kept .closed) (kept .bytes)) (c .hands)
             ∙ ap (λ (k : Kept). handedOverAll now calls ++ reports rules (k .closed) (k .bytes)) (sym same);
-        while-left = λ asked. sym (c .hands) ∙ handed-all rules (c .events) (sym waits ∙ asked) ∙ ap (lineReports rules) (c .gives);
+        while-left = λ none-waits. sym (c .hands) ∙ handed-all rules (c .events) (sym waits ∙ none-waits) ∙ ap (lineReports rules) (c .gives);
         no-longer = λ all. waits ∙ waits-while-left rules (c .events) (c .hands ∙ all ∙ ap (lineReports rules) (sym (c .gives)));
-        held = λ asked.
-            ap (λ (k : Kept). k .bytes) (same ∙ kept-is-held rules (c .events) (sym waits ∙ asked)) ∙ ap (lineHeld rules) (c .gives);
-        at-most-257 = λ asked. rw (ap (λ (k : Kept). k .bytes) same) (held-waiting line kept (c .reached) (sym waits ∙ asked));
+        held = λ none-waits.
+            ap (λ (k : Kept). k .bytes) (same ∙ kept-is-held rules (c .events) (sym waits ∙ none-waits)) ∙ ap (lineHeld rules) (c .gives);
+        at-most-257 = λ none-waits. rw (ap (λ (k : Kept). k .bytes) same) (held-waiting line kept (c .reached) (sym waits ∙ none-waits));
       }
 
 pub always-as-read : AlwaysAsRead

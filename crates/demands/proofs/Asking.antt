@@ -7,9 +7,9 @@ use Prim.Native.Nat.{ℕ}
 use native.Mathlib.Omega.{arith}
 use borrow.Author.Tests.{eqb-true, ltb-true, ltb-false}
 use lib.Dec.{eqb, ltb}
+use Rattle.wire.specs.Addresses.{wordCount}
 use Rattle.reading.specs.Place as Place
 use Rattle.reading.specs.Place.{badCheck, acceptedFrame}
-use Rattle.line.specs.declared.Report.{Report}
 use Rattle.line.proofs.Truths.{never}
 use Rattle.commands.specs.Outcome as Outcome
 use Rattle.commands.specs.Outcome.{outcome}
@@ -17,13 +17,14 @@ use Rattle.touch.specs.Setup.{checkingOf}
 use Rattle.panel.specs.declared.Handed.{Handed}
 use Rattle.panel.specs.declared.Handed.the-variants as handed
 use Rattle.panel.specs.Numbers.{reportNumber}
-use Rattle.panel.specs.Reporting.{Reporting, reports, reporting}
+use Rattle.panel.specs.Reporting.{Reporting, reporting}
 use Rattle.panel.specs.Reachable.{Reachable}
 use Rattle.panel.proofs.Invariant.{reachable-sound}
 use Rattle.demands.specs.Calls.{Moment, ask, numberGiven, reportHanded, handedOver}
-use Rattle.demands.specs.Demand2.{afterCommand, AskLeaves, nothing, bad-check, refused, done}
-use Rattle.demands.proofs.Access.{handed-asks, done-number, writes-registers, reads-registers, stores-words, fetches-words, answers-bad-check, nothing-changes-nothing}
-use Rattle.demands.proofs.Refusals.{refused-frame}
+use Rattle.demands.specs.Demand2.{afterCommand, AskLeaves, hands-nothing, hands-bad-check, refuses-command, does-command}
+use Rattle.demands.proofs.FrameAsked.{handed-asks, done-number}
+use Rattle.demands.proofs.Access.{writes-registers, reads-registers, writes-words, reads-words, answers-bad-check, nothing-changes-nothing}
+use Rattle.demands.proofs.Refusals.{command-refused}
 
 -- one report at most, and its number where it is none or a bad check
 one-report : (h : Handed) (payload : List ℕ) (r : Place.Report) (rest : List Place.Report) → reportHanded h payload ≡ r ∷ rest → rest ≡ []
@@ -51,16 +52,16 @@ bad-number (handed.Accepted c count o acknowledged replied) payload command is =
 module _ (now : Moment) (reached : Reachable (now .panel)) (command : ℕ) (content : List ℕ) (hands : handedOver now ask ≡ acceptedFrame command content ∷ [])
     (zero : numberGiven now ask ≡ 0) where
   known : (eqb command 0x80 ≡ false) → (eqb command 0x81 ≡ false) → (eqb command 0x82 ≡ false) → (eqb command 0x83 ≡ false) → ⊥
-  unfolding outcome Outcome.numberOf
+  unfolding outcome Outcome.numberOfOutcome
   known a b c d =
       let setup = now .panel .setup in
       let number = done-number now (reachable-sound (now .panel) reached) command content (handed-asks now command content hands) in
-      let unknown : Outcome.numberOf (outcome (setup .pages) 28672 (checkingOf setup) command content) ≡ 2 = rw (a, b, c, d) in
+      let unknown : Outcome.numberOfOutcome (outcome (setup .pages) wordCount (checkingOf setup) command content) ≡ 2 = rw (a, b, c, d) in
       omega arith
 
-  frame-done : AskLeaves now
+  command-done : AskLeaves now
   unfolding afterCommand
-  frame-done = go (eqb command 0x80) refl (eqb command 0x81) refl (eqb command 0x82) refl (eqb command 0x83) refl
+  command-done = go (eqb command 0x80) refl (eqb command 0x81) refl (eqb command 0x82) refl (eqb command 0x83) refl
     where
       as-command : (c : ℕ) → command ≡ c → handedOver now ask ≡ acceptedFrame c content ∷ []
       as-command c is = hands ∙ ap (λ (k : ℕ). acceptedFrame k content ∷ []) is
@@ -69,16 +70,16 @@ module _ (now : Moment) (reached : Reachable (now .panel)) (command : ℕ) (cont
           → AskLeaves now
       go true p b q c r d s =
           let is = eqb-true command 0x80 p in
-          done command content hands zero (omega arith) (omega arith) (writes-registers now reached content zero (as-command 0x80 is) ∙ rw p)
+          does-command command content hands zero (omega arith) (omega arith) (writes-registers now reached content zero (as-command 0x80 is) ∙ rw p)
       go false p true q c r d s =
           let is = eqb-true command 0x81 q in
-          done command content hands zero (omega arith) (omega arith) (reads-registers now reached content zero (as-command 0x81 is) ∙ rw (p, q))
+          does-command command content hands zero (omega arith) (omega arith) (reads-registers now reached content zero (as-command 0x81 is) ∙ rw (p, q))
       go false p false q true r d s =
           let is = eqb-true command 0x82 r in
-          done command content hands zero (omega arith) (omega arith) (stores-words now reached content zero (as-command 0x82 is) ∙ rw (p, q, r))
+          does-command command content hands zero (omega arith) (omega arith) (writes-words now reached content zero (as-command 0x82 is) ∙ rw (p, q, r))
       go false p false q false r true s =
           let is = eqb-true command 0x83 s in
-          done command content hands zero (omega arith) (omega arith) (fetches-words now reached content zero (as-command 0x83 is) ∙ rw (p, q, r))
+          does-command command content hands zero (omega arith) (omega arith) (reads-words now reached content zero (as-command 0x83 is) ∙ rw (p, q, r))
       go false p false q false r false s = absurd (known p q r s)
 
 pub asking-leaves : (now : Moment) → Reachable (now .panel) → AskLeaves now
@@ -91,18 +92,18 @@ asking-leaves now reached = go (handedOver now ask) refl
     frame : (command : ℕ) (content : List ℕ) → handedOver now ask ≡ acceptedFrame command content ∷ [] → (b : Bool) → ltb 0 (numberGiven now ask) ≡ b → AskLeaves now
     frame command content hands true above =
         let only =
-        refused-frame now (reachable-sound (now .panel) reached) command content (handed-asks now command content hands) (ltb-true 0 (numberGiven now ask) above) in
-        refused command content hands (only .at-least) (only .at-most) (only .left)
+        command-refused now (reachable-sound (now .panel) reached) command content (handed-asks now command content hands) (ltb-true 0 (numberGiven now ask) above) in
+        refuses-command command content hands (only .at-least) (only .at-most) (only .left)
     frame command content hands false none =
         let most = ltb-false 0 (numberGiven now ask) none in
-        frame-done now reached command content hands (omega arith)
+        command-done now reached command content hands (omega arith)
 
     go : (reports : List Place.Report) → handedOver now ask ≡ reports → AskLeaves now
-    go [] hands = nothing hands (none-number (by .reported .handed) (by .reported .payload) hands) (nothing-changes-nothing now hands)
+    go [] hands = hands-nothing hands (none-number (by .reported .handed) (by .reported .payload) hands) (nothing-changes-nothing now hands)
     go (badCheck command ∷ rest) hands =
         let alone = one-report (by .reported .handed) (by .reported .payload) (badCheck command) rest hands in
         let bad : handedOver now ask ≡ badCheck command ∷ [] = hands ∙ ap (λ (l : List Place.Report). badCheck command ∷ l) alone in
-        bad-check command bad (bad-number (by .reported .handed) (by .reported .payload) command bad) (answers-bad-check now reached command bad)
+        hands-bad-check command bad (bad-number (by .reported .handed) (by .reported .payload) command bad) (answers-bad-check now reached command bad)
     go (acceptedFrame command content ∷ rest) hands =
         let alone = one-report (by .reported .handed) (by .reported .payload) (acceptedFrame command content) rest hands in
         frame command content (hands ∙ ap (λ (l : List Place.Report). acceptedFrame command content ∷ l) alone) (ltb 0 (numberGiven now ask)) refl

@@ -62,14 +62,14 @@ module _ (pad : Pad) (table words : List ℕ) (x y : ℕ) (fits : Fits (pad .cat
       slider-fields-fit table are i f (ap (λ (s : Record). s .kind) (sym stands ∙ same) ∙ kind)
 
   touched-fits : Fits (touched pad table words x y .pad .catch)
-  unfolding touched Contact.kept Contact.pressed Contact.acting Contact.showing Contact.catching
+  unfolding touched Contact.heldDown Contact.pressed Contact.acting Contact.showing Contact.catching
   touched-fits = go (isDown (pad .registers))
     where
       now : Registers
       now = withPlace (withStatus (pad .registers) 0x01) x y
 
       shown : (i : ℕ) (r : Record) → found table (pageOf (pad .registers)) x y ≡ At i r → (b : Bool)
-          → Fits (cond b (Contact.padOf now (Contact.catching r (pad .catch))) (Contact.padOf (withPage now (r .next)) Free) .catch)
+          → Fits (cond b (Contact.padWith now (Contact.catching r (pad .catch))) (Contact.padWith (withPage now (r .next)) Free) .catch)
       shown i r acts true = either-fits (slides r) (Caught r) (pad .catch) (caught-fits i r acts) fits
       shown i r acts false = free-fits
 
@@ -77,7 +77,7 @@ module _ (pad : Pad) (table words : List ℕ) (x y : ℕ) (fits : Fits (pad .cat
       behind Nothing acts = fits
       behind (At i r) acts = shown i r acts (noNext r)
 
-      go : (b : Bool) → Fits (cond b (Contact.kept pad words x y) (Contact.pressed pad table words x y) .pad .catch)
+      go : (b : Bool) → Fits (cond b (Contact.heldDown pad words x y) (Contact.pressed pad table words x y) .pad .catch)
       go true = fits
       go false = behind (found table (pageOf (pad .registers)) x y) refl
 

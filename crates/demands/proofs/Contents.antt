@@ -6,7 +6,7 @@ use Prim.Native.Nat.{ℕ, suc, _-_}
 use native.Mathlib.Omega.{arith}
 use lib.ListN.{length, getD, drop, replicate}
 use Rattle.wire.specs.Bytes.{Bytes}
-use Rattle.frame.specs.Frame.{checkLength, contentOf}
+use Rattle.frame.specs.Frame.{checkLength, contentOf, mostPayload}
 use Rattle.reading.specs.Place.{Rules, Seen, pass, wait, bad, accepted, acceptedFrame, look, reportOf}
 use Rattle.reading.specs.Moves.{Kept, handed}
 use Rattle.reading.proofs.Accepting.{accepted-begun}
@@ -22,7 +22,7 @@ use Rattle.demands.specs.Calls.{Moment, ask, handedOver}
 use Rattle.demands.specs.Reports.{rulesOf, waitingReport}
 use Rattle.demands.proofs.Waits.{kept-same, asked-payload, sound-ask-hands}
 use Rattle.demands.proofs.Below.{byte-some, below-front, below-behind, below-take, below-drop, below-append, below-zeros}
-use Rattle.demands.proofs.Access.{handed-asks}
+use Rattle.demands.proofs.FrameAsked.{handed-asks}
 
 -- of the bytes that are kept, the data of the frame at the front
 data-bytes : (rules : Rules) (closed : Bool) (xs body : List ℕ) → Bytes xs → look rules closed xs ≡ accepted body
@@ -35,9 +35,9 @@ data-bytes rules closed xs body are is =
     let whole : Bytes body = below-front 256 byte-some body (begun .rest) (λ i. behind (suc i)) in
     below-drop 256 byte-some 1 (contentOf (rules .checking) body) (below-take 256 byte-some (length body - checkLength (rules .checking)) body whole)
 
-padded-bytes : (xs : List ℕ) → Bytes xs → Bytes (padded 254 xs)
+padded-bytes : (xs : List ℕ) → Bytes xs → Bytes (padded mostPayload xs)
 unfolding padded
-padded-bytes xs are = below-append 256 byte-some xs (replicate (254 - length xs) 0) are (below-zeros 256 byte-some (254 - length xs))
+padded-bytes xs are = below-append 256 byte-some xs (replicate (mostPayload - length xs) 0) are (below-zeros 256 byte-some (mostPayload - length xs))
 
 no-bytes : Bytes []
 no-bytes i = omega arith

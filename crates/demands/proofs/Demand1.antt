@@ -15,10 +15,12 @@ use Rattle.panel.specs.Sound.{Sound}
 use Rattle.panel.proofs.Invariant.{reachable-sound}
 use Rattle.panel.proofs.Refusals.{refused-start-gives-none}
 use Rattle.demands.specs.Calls.{Moment, Call, numberGiven, Typed, Arises}
-use Rattle.demands.specs.Demand1.{firstNumber, GivenUnder, printed, printedStart, printedWriter, NamesFirstWrong, Leaves}
+use Rattle.demands.specs.Demand1.{firstNumber, GivenUnder, printed, printedStart, printedWriter, NamesFirstWrong, RefusalLeaves}
 use Rattle.demands.proofs.Calls.{arises-reachable}
 use Rattle.demands.proofs.Numbers as Numbers
-use Rattle.demands.proofs.Refusals.{refused-leaves}
+use Rattle.demands.proofs.TableNumbers as TableNumbers
+use Rattle.demands.proofs.FirstNumber as FirstNumber
+use Rattle.demands.proofs.Refusals.{call-refused}
 
 -- "No sequence of line bytes, quiet marks, contacts, lifts, tables or lent buffers can put the panel into an undefined act or an unending one.": the
 -- checker takes no function that it has not proved to be safe and to end on every input. What every panel keeps besides, whatever the sequence:
@@ -31,36 +33,36 @@ answers-as-listed now arises call fits = Numbers.call-as-printed now (arises-rea
 
 -- "start 11, 12, 13"; frame writer: "it refuses with 14, then 3"
 pub start-answers-as-listed : (setup : Setup) (table : List ℕ) → startNumber (started setup table .answer) ≡ firstNumber (printedStart setup table)
-start-answers-as-listed = Numbers.start-as-printed
+start-answers-as-listed = TableNumbers.start-as-printed
 
 pub writer-answers-as-listed : (checking : Bool) (header : List ℕ) (command : ℕ) (payload room : List ℕ)
-    → Writer.numberOf (writing checking header command payload room .answer) ≡ firstNumber (printedWriter checking payload room)
+    → Writer.numberOfWritten (writing checking header command payload room .answer) ≡ firstNumber (printedWriter checking payload room)
 writer-answers-as-listed = Numbers.writer-as-printed
 
 -- ".. each number exactly under its printed condition and order": a number is given only where its condition holds and none before it does, so that it is
 -- one of those printed for the call, and it is given wherever that is so
 module _ (now : Moment) (arises : Arises now) (call : Call) (fits : Typed call) (n : ℕ) where
   pub given-only-as-printed : 0 < n → numberGiven now call ≡ n → GivenUnder (printed now call) n
-  given-only-as-printed above gives =
-      let same : firstNumber (printed now call) ≡ n = sym (answers-as-listed now arises call fits) ∙ gives in
-      rw same at (Numbers.first-given (printed now call) (rw same above))
+  given-only-as-printed above is =
+      let same : firstNumber (printed now call) ≡ n = sym (answers-as-listed now arises call fits) ∙ is in
+      rw same at (FirstNumber.first-given (printed now call) (rw same above))
 
   pub given-wherever-printed : GivenUnder (printed now call) n → numberGiven now call ≡ n
-  given-wherever-printed under = answers-as-listed now arises call fits ∙ Numbers.given-is-first (printed now call) n under
+  given-wherever-printed under = answers-as-listed now arises call fits ∙ FirstNumber.given-is-first (printed now call) n under
 
 -- 13: "the first wrong one is named"
 pub contact-names-first-wrong : (now : Moment) (table : List ℕ) (x y i : ℕ)
     → contacting (now .panel) table (now .words) x y .contacted .answer ≡ contact-answer.WrongRecord i
     → NamesFirstWrong (now .panel .setup) table i
-contact-names-first-wrong = Numbers.contact-names-first-wrong
+contact-names-first-wrong = TableNumbers.contact-names-first-wrong
 
 pub start-names-first-wrong : (setup : Setup) (table : List ℕ) (i : ℕ) → started setup table .answer ≡ start.WrongRecord i → NamesFirstWrong setup table i
-start-names-first-wrong = Numbers.start-names-first-wrong
+start-names-first-wrong = TableNumbers.start-names-first-wrong
 
 -- "A refused command is still handed over and acknowledged as printed; beyond that a refusal leaves the panel, the variable words and the reply room as
 -- they stood."
-pub refusal-leaves-all-else : (now : Moment) → Arises now → (call : Call) → Typed call → 0 < numberGiven now call → Leaves now call
-refusal-leaves-all-else now arises call fits = refused-leaves now (arises-reachable now arises) call fits
+pub refusal-leaves-all-else : (now : Moment) → Arises now → (call : Call) → Typed call → 0 < numberGiven now call → RefusalLeaves now call
+refusal-leaves-all-else now arises call fits = call-refused now (arises-reachable now arises) call fits
 
 -- "A refused start gives no panel."
 pub refused-start-gives-no-panel : (setup : Setup) (table : List ℕ) → 0 < startNumber (started setup table .answer) → started setup table .panel ≡ noPanel

@@ -8,12 +8,13 @@ use lib.ListN.{length, getD, take, drop}
 use lib.Bits.{bitAnd, bitXor}
 use Rattle.wire.specs.Bytes.{Bytes}
 use Rattle.wire.specs.ByteOrder.{byteAt, wordAt}
+use Rattle.wire.specs.Addresses.{wordCount}
 use Rattle.check_value.specs.CheckValue.{bitSteps}
 use Rattle.check_value.specs.Tables.{lowTable, highTable}
 use Rattle.check_value.proofs.PrintedTables.{by-tables}
 use Rattle.frame.specs.declared.Written.the-variants.{Frame}
 use Rattle.frame.specs.Frame.{frameOf, mostData, GoodFrame}
-use Rattle.frame.specs.Writer.{writing}
+use Rattle.frame.specs.Writer.{writing, leastRoom}
 use Rattle.frame.proofs.GoodFrames.{frameOf-good, good-is-frameOf}
 use Rattle.reading.specs.Place.{badCheck, acceptedFrame}
 use Rattle.reading.specs.Demand3.{NothingHeldOrWaiting}
@@ -35,7 +36,7 @@ use Rattle.contact.specs.declared.Catch.the-variants.{Caught}
 use Rattle.panel.specs.State.{headerOf, panelRegister}
 use Rattle.demands.specs.Calls.{Moment, Call, ask, contact, lift, after, afterAll, numberGiven, handedOver, AllTyped, Arises}
 use Rattle.demands.specs.Reports.{rulesOf}
-use Rattle.demands.specs.Demand2.{NamesWord, NamesRegister, Some, ReadsBack, replied, afterWrite, afterRead, afterStore, afterFetch, afterBadCheck, AskLeaves, afterContact, afterLift}
+use Rattle.demands.specs.Demand2.{NamesWord, NamesRegister, Some, ReadsBack, withReply, afterWrite, afterRead, afterStore, afterFetch, afterBadCheck, AskLeaves, afterContact, afterLift}
 use Rattle.demands.proofs.Calls.{arises-reachable}
 use Rattle.demands.proofs.Named as Named
 use Rattle.demands.proofs.ReadBack as ReadBack
@@ -71,10 +72,10 @@ module _ (now : Moment) (arises : Arises now) (content : List ℕ) (done : numbe
   reads-registers = Access.reads-registers now (arises-reachable now arises) content done
 
   pub writes-words : handedOver now ask ≡ acceptedFrame 0x82 content ∷ [] → after now ask ≡ afterStore now content
-  writes-words = Access.stores-words now (arises-reachable now arises) content done
+  writes-words = Access.writes-words now (arises-reachable now arises) content done
 
   pub reads-words : handedOver now ask ≡ acceptedFrame 0x83 content ∷ [] → after now ask ≡ afterFetch now content
-  reads-words = Access.fetches-words now (arises-reachable now arises) content done
+  reads-words = Access.reads-words now (arises-reachable now arises) content done
 
 -- and all that asking can leave at all: nothing is handed over, a bad check, a command that is refused, or one of these four
 pub asking-leaves : (now : Moment) → Arises now → AskLeaves now
@@ -93,7 +94,7 @@ pub what-80-wrote-81-replies : (now : Moment) → Arises now → (content : List
     → ((i : ℕ) → i < length (drop 1 content) → Some (λ then call. NamesRegister then (byteAt content 0 + i) call) (after now ask) calls → ⊥)
     → handedOver (afterAll (after now ask) calls) ask ≡ acceptedFrame 0x81 (byteAt content 0 ∷ length (drop 1 content) ∷ []) ∷ []
     → after (afterAll (after now ask) calls) ask .room
-    ≡ replied (afterAll (after now ask) calls) 0x81 (byteAt content 0 ∷ length (drop 1 content) ∷ drop 1 content)
+    ≡ withReply (afterAll (after now ask) calls) 0x81 (byteAt content 0 ∷ length (drop 1 content) ∷ drop 1 content)
 what-80-wrote-81-replies now arises = WrittenReads.what-80-wrote-81-replies now (arises-reachable now arises)
 
 -- the same of an 0x82 and an 0x83, of up to 124 words ("word reads of 124 and 125 with checking (0 and 7)")
@@ -104,7 +105,7 @@ pub what-82-wrote-83-replies : (now : Moment) → Arises now → (content : List
     ≡ acceptedFrame 0x83 (byteAt content 0 ∷ byteAt content 1 ∷ length (wordsOf (drop 2 content)) ∷ []) ∷ []
     → length (wordsOf (drop 2 content)) ≤ 124
     → after (afterAll (after now ask) calls) ask .room
-    ≡ replied (afterAll (after now ask) calls) 0x83 (byteAt content 0 ∷ byteAt content 1 ∷ length (wordsOf (drop 2 content)) ∷ drop 2 content)
+    ≡ withReply (afterAll (after now ask) calls) 0x83 (byteAt content 0 ∷ byteAt content 1 ∷ length (wordsOf (drop 2 content)) ∷ drop 2 content)
 what-82-wrote-83-replies now arises = WrittenReads.what-82-wrote-83-replies now (arises-reachable now arises)
 
 -- "touch effects are those of ..": all that a contact and a lift leave that are answered 0
@@ -145,7 +146,7 @@ dragged-slider-stores = Caught.dragged-slider-stores
 -- "What our frame writer writes, our reader reads back as the same command and data.": what it wrote into any room, under the header and the choice that
 -- are set up, given to the panel while nothing is held or waiting
 pub writer-reads-back : (now : Moment) → Arises now → NothingHeldOrWaiting (rulesOf (now .panel)) (keptOf (now .panel .reader))
-    → length (now .words) ≡ 28672 → 265 ≤ length (now .room) → (command : ℕ) (payload room : List ℕ) (n : ℕ)
+    → length (now .words) ≡ wordCount → leastRoom ≤ length (now .room) → (command : ℕ) (payload room : List ℕ) (n : ℕ)
     → writing (checkingOf (now .panel .setup)) (headerOf (now .panel .setup)) command payload room .answer ≡ Frame n
     → ReadsBack now (take n (writing (checkingOf (now .panel .setup)) (headerOf (now .panel .setup)) command payload room .room)) command payload
 writer-reads-back now arises = ReadBack.writer-reads-back now (arises-reachable now arises)

@@ -2,7 +2,7 @@
 use mathlib.Core.Path.{_≡_, refl, sym, ap, _∙_}
 use mathlib.Core.Bool.{false}
 use mathlib.Core.List.{List, [], _∷_, _++_, map, append-nil}
-use Prim.Native.Nat.{ℕ, _+_}
+use Prim.Native.Nat.{ℕ}
 use Rattle.wire.specs.Bytes.{Bytes}
 use Rattle.frame.specs.Frame.{headerBytes}
 use Rattle.reading.specs.Place.{Rules}
@@ -21,7 +21,7 @@ use Rattle.panel.specs.Start.{newPanel}
 use Rattle.panel.specs.Sound.{lineOf}
 use Rattle.panel.specs.Reachable.{by-start}
 use Rattle.panel.proofs.Invariant.{reachable-sound}
-use Rattle.demands.specs.Calls.{Moment, byte, bytes, mark, begun, afterAll, handedOverAll}
+use Rattle.demands.specs.Calls.{Moment, begun, afterAll, handedOverAll}
 use Rattle.demands.specs.Reports.{reportWaits}
 use Rattle.demands.specs.Demand3.{Ready, OnAnOpenLine, BehindAMark, AfterAMark, ReadyAgain}
 use Rattle.demands.proofs.Calls.{calls-arise, arises-reachable}
@@ -46,7 +46,7 @@ idle-new rules = (refl, quiet-nil rules false)
 
 pub demand3-open : OnAnOpenLine handedOverAll
 unfolding run headerBytes
-demand3-open now ready calls typed damage frames tail good cut came begins-none followed asked =
+demand3-open now ready calls typed damage frames tail good cut came begins-none followed none-waits =
     let line = lineOf (now .panel .setup) in
     let rules = rulesFor line in
     let reachable = arises-reachable now (ready .arises) in
@@ -55,12 +55,12 @@ demand3-open now ready calls typed damage frames tail good cut came begins-none 
     let whole = damage ++ (joined frames ++ tail) in
     let are : Bytes whole = bytes-of whole [] (rw (append-nil (map Line.byte whole)) (rw came at (all-given-bytes now calls typed))) in
     ap acceptedOf (sym (c .hands))
-    ∙ accepted-open rules [] (c .events) (idle-new rules) (sym (waits-same line now reachable new calls typed) ∙ asked) damage frames good tail cut are begins-none
+    ∙ accepted-open rules [] (c .events) (idle-new rules) (sym (waits-same line now reachable new calls typed) ∙ none-waits) damage frames good tail cut are begins-none
     (c .gives ∙ came) followed
 
 pub demand3-closed : BehindAMark handedOverAll
 unfolding run
-demand3-closed now ready calls typed damage frames good came begins-none asked =
+demand3-closed now ready calls typed damage frames good came begins-none none-waits =
     let line = lineOf (now .panel .setup) in
     let rules = rulesFor line in
     let reachable = arises-reachable now (ready .arises) in
@@ -69,11 +69,11 @@ demand3-closed now ready calls typed damage frames good came begins-none asked =
     let whole = damage ++ joined frames in
     let are : Bytes whole = bytes-of whole (Line.mark ∷ []) (rw came at (all-given-bytes now calls typed)) in
     ap acceptedOf (sym (c .hands))
-    ∙ accepted-closed rules [] (c .events) (idle-new rules) (sym (waits-same line now reachable new calls typed) ∙ asked) damage frames good are begins-none (c .gives ∙ came)
+    ∙ accepted-closed rules [] (c .events) (idle-new rules) (sym (waits-same line now reachable new calls typed) ∙ none-waits) damage frames good are begins-none (c .gives ∙ came)
 
 pub demand3-after-mark : AfterAMark
 unfolding newPanel
-demand3-after-mark setup table words room is calls typed before came asked =
+demand3-after-mark setup table words room is calls typed before came none-waits =
     let line = lineOf setup in
     let new = new-reader setup table words room is in
     let now = begun setup table words room in
@@ -81,7 +81,7 @@ demand3-after-mark setup table words room is calls typed before came asked =
     let c = carried line now reachable new calls typed in
     let last = afterAll now calls in
     let as-new : last .panel .reader ≡ readerOf line fresh =
-    c .reads ∙ ap (readerOf line) (after-mark (rulesFor line) (c .events) before (c .gives ∙ came) (sym (waits-same line now reachable new calls typed) ∙ asked)) in
+    c .reads ∙ ap (readerOf line) (after-mark (rulesFor line) (c .events) before (c .gives ∙ came) (sym (waits-same line now reachable new calls typed) ∙ none-waits)) in
     record {
       new-reader = as-new;
       reads-as-new = read-alike last (begun setup table (last .words) (last .room)) (as-new ∙ sym new) refl refl;
@@ -89,13 +89,13 @@ demand3-after-mark setup table words room is calls typed before came asked =
 
 pub demand3-ready-again : ReadyAgain
 unfolding newPanel reportWaits
-demand3-ready-again setup table words room arises is calls typed before came asked checking =
+demand3-ready-again setup table words room arises is calls typed before came none-waits checking =
     let now = begun setup table words room in
-    let new = demand3-after-mark setup table words room is calls typed before came asked .new-reader in
+    let new = demand3-after-mark setup table words room is calls typed before came none-waits .new-reader in
     record {
       arises = calls-arise now calls typed arises;
       checking-on = ap checkingOf (all-setup-stays now calls ∙ begun-setup setup table words room is) ∙ checking;
-      nothing = (ap (λ (r : Reader). keptOf r .bytes) new ∙ ap (λ (k : Kept). k .bytes) (kept-is (lineOf setup) fresh), asked);
+      nothing = (ap (λ (r : Reader). keptOf r .bytes) new ∙ ap (λ (k : Kept). k .bytes) (kept-is (lineOf setup) fresh), none-waits);
     }
 
 -- "The reports asked for, in order, are those of the reading of all that was given. While one of them is left, a report waits; otherwise the bytes from

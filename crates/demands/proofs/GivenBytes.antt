@@ -1,6 +1,6 @@
 -- The inputs that calls give are bytes and marks.
 use mathlib.Core.List.{List, [], _∷_, _++_, map}
-use Prim.Native.Nat.{ℕ, zero, suc, _+_, _<_}
+use Prim.Native.Nat.{ℕ, zero, suc, _<_}
 use lib.ListN.{take}
 use Rattle.wire.specs.Bytes.{Bytes}
 use Rattle.reading.specs.Line as Line

@@ -26,7 +26,8 @@ use Rattle.touch.specs.Find.{found}
 use Rattle.contact.specs.declared.Catch.{Catch}
 use Rattle.contact.specs.declared.Catch.the-variants.{Free, Caught}
 use Rattle.contact.specs.declared.Pad.{Pad}
-use Rattle.contact.specs.Contact.{acting, pressed, dragging, kept, touched}
+use Rattle.contact.specs.Contact as Contact
+use Rattle.contact.specs.Contact.{acting, pressed, dragging, touched}
 use Rattle.commands.specs.declared.Outcome.{Outcome}
 use Rattle.commands.specs.Effect.{isDone, wordsWriting, replying, registersReplying, wordsReplying}
 use Rattle.commands.specs.Perform.{Performance, performance}
@@ -105,15 +106,15 @@ of-five f r false false false true v w x y z i j k l m = l
 of-five f r false false false false v w x y z i j k l m = m
 
 module _ (registers : Registers) (pages : ℕ) (checking : Bool) (header : List ℕ) (command : ℕ) (content words room : List ℕ) where
-  pub performed-words : length (performance registers pages checking header command content words room .words) ≡ length words
+  pub performed-words-long : length (performance registers pages checking header command content words room .words) ≡ length words
   unfolding performance
-  performed-words =
+  performed-words-long =
       of-five (λ (p : Performance). length (p .words)) (length words) (eqb command 0x80) (eqb command 0x81) (eqb command 0x82) (eqb command 0x83) _ _ _ _ _
       refl refl (store-long words content) refl refl
 
-  performed-room : length (performance registers pages checking header command content words room .room) ≡ length room
+  performed-room-long : length (performance registers pages checking header command content words room .room) ≡ length room
   unfolding performance registersReplying wordsReplying
-  performed-room =
+  performed-room-long =
       of-five (λ (p : Performance). length (p .room)) (length room) (eqb command 0x80) (eqb command 0x81) (eqb command 0x82) (eqb command 0x83) _ _ _ _ _
       refl (reply-long _ checking header 0x81 _ room) refl (reply-long _ checking header 0x83 _ room) refl
 
@@ -125,18 +126,18 @@ parts-long n front later same =
     ∙ ap length (take-append-drop n front)
 
 module _ (panel : Panel) (words room : List ℕ) where
-  pub reported-words : length (reporting panel words room .words) ≡ length words
+  pub reported-words-long : length (reporting panel words room .words) ≡ length words
   unfolding handing accepting
-  reported-words =
+  reported-words-long =
       report-ways panel words room (λ r. length (r .words) ≡ length words) (λ h payload. refl) (λ command is. refl)
       (λ command count is.
       let answer = acknowledged (panel .setup) command true room in
-      performed-words (panel .registers) (panel .setup .pages) (checkingOf (panel .setup)) (headerOf (panel .setup)) command
+      performed-words-long (panel .registers) (panel .setup .pages) (checkingOf (panel .setup)) (headerOf (panel .setup)) command
       (take count (asked (panel .reader) .payload)) words (drop (answer .count) (answer .room)))
 
-  pub reported-room : length (reporting panel words room .room) ≡ length room
+  pub reported-room-long : length (reporting panel words room .room) ≡ length room
   unfolding handing accepting
-  reported-room =
+  reported-room-long =
       report-ways panel words room (λ r. length (r .room) ≡ length room) (λ h payload. refl) (λ command is. answer-long (panel .setup) command false room)
       (λ command count is.
       let answer = acknowledged (panel .setup) command true room in
@@ -144,7 +145,7 @@ module _ (panel : Panel) (words room : List ℕ) where
       parts-long (answer .count) (answer .room)
       (performance (panel .registers) (panel .setup .pages) (checkingOf (panel .setup)) (headerOf (panel .setup)) command
       (take count (asked (panel .reader) .payload)) words part .room)
-      (performed-room (panel .registers) (panel .setup .pages) (checkingOf (panel .setup)) (headerOf (panel .setup)) command
+      (performed-room-long (panel .registers) (panel .setup .pages) (checkingOf (panel .setup)) (headerOf (panel .setup)) command
       (take count (asked (panel .reader) .payload)) words part)
       ∙ answer-long (panel .setup) command true room)
 
@@ -160,13 +161,13 @@ acted-long finds.Nothing registers catch words x y = refl
 acted-long (finds.At i r) registers catch words x y = length-wordSet words (r .word) _
 
 touched-long : (pad : Pad) (table words : List ℕ) (x y : ℕ) → length (touched pad table words x y .words) ≡ length words
-unfolding touched kept pressed
+unfolding touched Contact.heldDown pressed
 touched-long pad table words x y = go (isDown (pad .registers))
   where
-    go : (b : Bool) → length (cond b (kept pad words x y) (pressed pad table words x y) .words) ≡ length words
+    go : (b : Bool) → length (cond b (Contact.heldDown pad words x y) (pressed pad table words x y) .words) ≡ length words
     go true = dragged-long (pad .catch) words x y
     go false = acted-long (found table (pageOf (pad .registers)) x y) (withPlace (withStatus (pad .registers) 0x01) x y) (pad .catch) words x y
 
-pub contacted-words : (panel : Panel) (table words : List ℕ) (x y : ℕ) → length (contacting panel table words x y .words) ≡ length words
-contacted-words panel table words x y =
+pub contacted-words-long : (panel : Panel) (table words : List ℕ) (x y : ℕ) → length (contacting panel table words x y .words) ≡ length words
+contacted-words-long panel table words x y =
     contact-ways panel table words x y (λ c. length (c .words) ≡ length words) (λ answer. refl) (λ good. touched-long (padOf panel) table words x y)

@@ -8,6 +8,7 @@ use borrow.Author.Tests.{eqb-true, eqb-false}
 use lib.Dec.{eqb}
 use lib.ListN.{length, take, drop}
 use Rattle.wire.specs.ByteOrder.{byteAt, wordAt}
+use Rattle.wire.specs.Addresses.{registerCount}
 use Rattle.reading.specs.Place.{acceptedFrame}
 use Rattle.line.specs.declared.Report.the-variants as line
 use Rattle.line.specs.Methods.{asked}
@@ -33,21 +34,21 @@ use Rattle.panel.specs.Reachable.{Reachable}
 use Rattle.panel.proofs.Ways.{contact-ways, lift-ways, report-ways}
 use Rattle.panel.proofs.Invariant.{always-256-registers}
 use Rattle.demands.specs.Calls.{Moment, Call, lend, byte, bytes, mark, ask, contact, lift, after, afterAll, numberGiven, reportHanded, handedOver, AllTyped}
-use Rattle.demands.specs.Demand2.{NamesWord, by-store, by-acting, by-dragging, by-lending, NamesRegister, by-write, by-status, by-place, by-page, by-lift, Some, here, later}
+use Rattle.demands.specs.Demand2.{NamesWord, by-store, by-acting, by-dragging, by-lending, NamesRegister, by-write, by-status, by-place, by-page, by-lifting, Some, here, later}
 use Rattle.demands.proofs.Calls.{call-reached}
 use Rattle.demands.proofs.TouchedRegisters as Registers
 use Rattle.demands.proofs.TouchedRegisters.{Touches, touched-register}
 
 -- what is done has number 0
-done-number : (o : Outcome) → isDone o ≡ true → Outcome.numberOf o ≡ 0
-unfolding Outcome.numberOf
-done-number Done done = refl
-done-number UnknownCommand done = cc
-done-number WrongData done = cc
-done-number PastEnd done = cc
-done-number Unwritable done = cc
-done-number WrongValue done = cc
-done-number ReplyTooLong done = cc
+done-is-0 : (o : Outcome) → isDone o ≡ true → Outcome.numberOfOutcome o ≡ 0
+unfolding Outcome.numberOfOutcome
+done-is-0 Done done = refl
+done-is-0 UnknownCommand done = cc
+done-is-0 WrongData done = cc
+done-is-0 PastEnd done = cc
+done-is-0 Unwritable done = cc
+done-is-0 WrongValue done = cc
+done-is-0 ReplyTooLong done = cc
 
 -- an ask that hands over this command with this data, and is done
 record Handing (command : ℕ) (content : List ℕ) (r : Reporting) : Type 0 where
@@ -70,10 +71,10 @@ module _ (panel : Panel) (words room : List ℕ) (command count : ℕ) where
       record {
         handed = ap (λ (c : ℕ). acceptedFrame c content ∷ []) is;
         done =
-            ap Outcome.numberOf
+            ap Outcome.numberOfOutcome
             (performs-outcome (panel .registers) (setup .pages) (checkingOf setup) (headerOf setup) command content words (drop (answer .count) (answer .room)))
-            ∙ ap (λ (c : ℕ). Outcome.numberOf (outcome (setup .pages) (length words) (checkingOf setup) c content)) is
-            ∙ done-number (outcome (setup .pages) (length words) (checkingOf setup) known content) done;
+            ∙ ap (λ (c : ℕ). Outcome.numberOfOutcome (outcome (setup .pages) (length words) (checkingOf setup) c content)) is
+            ∙ done-is-0 (outcome (setup .pages) (length words) (checkingOf setup) known content) done;
       }
 
 -- a word over an ask
@@ -161,7 +162,7 @@ record WrittenRegister (address : ℕ) (r : Reporting) : Type 0 where
   from : byteAt content 0 ≤ address
   below : address < byteAt content 0 + length (drop 1 content)
 
-asked-register : (panel : Panel) → length (panel .registers .bytes) ≡ 256 → (words room : List ℕ) (address : ℕ)
+asked-register : (panel : Panel) → length (panel .registers .bytes) ≡ registerCount → (words room : List ℕ) (address : ℕ)
     → (panelRegister (reporting panel words room .reported .panel) address ≡ panelRegister panel address) ⊎ WrittenRegister address (reporting panel words room)
 unfolding handing accepting outcome
 asked-register panel whole words room address =
@@ -181,7 +182,7 @@ asked-register panel whole words room address =
     (Command.register-named (panel .registers) (setup .pages) (checkingOf setup) (headerOf setup) content words (drop (answer .count) (answer .room)) command whole address))
 
 -- a register over a contact
-contacted-register : (now : Moment) → length (now .panel .registers .bytes) ≡ 256 → (table : List ℕ) (x y address : ℕ)
+contacted-register : (now : Moment) → length (now .panel .registers .bytes) ≡ registerCount → (table : List ℕ) (x y address : ℕ)
     → (panelRegister (contacting (now .panel) table (now .words) x y .contacted .panel) address ≡ panelRegister (now .panel) address)
     ⊎ NamesRegister now address (contact table x y)
 unfolding numberGiven contactNumber
@@ -200,11 +201,11 @@ contacted-register now whole table x y address =
     by-touch done (Registers.page i r up is next at) = by-page table x y i r done up is next at
 
 -- a register over a lift
-lifted-register : (now : Moment) → length (now .panel .registers .bytes) ≡ 256 → (address : ℕ)
+lifted-register : (now : Moment) → length (now .panel .registers .bytes) ≡ registerCount → (address : ℕ)
     → (panelRegister (lifting (now .panel) .panel) address ≡ panelRegister (now .panel) address) ⊎ NamesRegister now address lift
 unfolding numberGiven liftNumber
 lifted-register now whole address =
-    ⊎-elim inl (λ named. inr (by-lift (named .0) (named .1)))
+    ⊎-elim inl (λ named. inr (by-lifting (named .0) (named .1)))
     (lift-ways (now .panel)
     (λ l. (panelRegister (l .panel) address ≡ panelRegister (now .panel) address) ⊎ ((liftNumber (l .answer) ≡ 0) × (address ≡ 0x06)))
     (inl refl) (inl refl) (status-or-stays (eqb address 0x06) refl))
@@ -215,7 +216,7 @@ lifted-register now whole address =
     status-or-stays false is = inl (Touch.lift-only-status (padOf (now .panel)) whole address (eqb-false address 0x06 is))
 
 -- a register over any call: it stays, or the call names it
-pub call-names-register : (now : Moment) → length (now .panel .registers .bytes) ≡ 256 → (call : Call) (address : ℕ)
+pub call-names-register : (now : Moment) → length (now .panel .registers .bytes) ≡ registerCount → (call : Call) (address : ℕ)
     → (panelRegister (after now call .panel) address ≡ panelRegister (now .panel) address) ⊎ NamesRegister now address call
 unfolding after numberGiven handedOver fedByte fedMark fedBytes
 call-names-register now whole (lend words room) address = inl refl

@@ -5,6 +5,7 @@ use Prim.Native.Nat.{ℕ, zero, suc, _≤_}
 use borrow.Author.Tests.{eq-eqb, le-leb}
 use lib.ListN.{length, replicate}
 use Rattle.frame.specs.Writer.{leastRoom}
+use Rattle.frame.specs.Frame.{longestFrame}
 use Rattle.reading.specs.Moves.{Kept, afterReport}
 use Rattle.reading.specs.Run.{run, asks}
 use Rattle.reading.proofs.Moves.{handed-nothing}
@@ -27,25 +28,25 @@ use Rattle.demands.specs.Reports.{rulesOf, reportWaits, waitingReport}
 use Rattle.demands.specs.AsRead.{AlwaysUntilNothing}
 use Rattle.demands.proofs.Calls.{calls-reached, arises-reachable}
 use Rattle.demands.proofs.Waits.{busy-waits, sound-ask-hands}
-use Rattle.demands.proofs.Lent.{reported-words, reported-room}
+use Rattle.demands.proofs.Lent.{reported-words-long, reported-room-long}
 use Rattle.demands.proofs.Reading.{ask-moves}
 
-is-lent : (now : Moment) → length (now .words) ≡ 28672 → 265 ≤ length (now .room) → lent (length (now .words)) (length (now .room)) ≡ true
+is-lent : (now : Moment) → length (now .words) ≡ wordCount → leastRoom ≤ length (now .room) → lent (length (now .words)) (length (now .room)) ≡ true
 unfolding lent
-is-lent now whole large = rw (eq-eqb (length (now .words)) 28672 whole, le-leb 265 (length (now .room)) large)
+is-lent now whole large = rw (eq-eqb (length (now .words)) wordCount whole, le-leb leastRoom (length (now .room)) large)
 
 -- n asks of a panel are n asks of the reading
 asks-move : (line : Declared.Line) (n : ℕ) (now : Moment) (kept : Kept) → Reached line kept → now .panel .reader ≡ readerOf line kept
-    → length (now .words) ≡ 28672 → 265 ≤ length (now .room)
+    → length (now .words) ≡ wordCount → leastRoom ≤ length (now .room)
     → (afterAll now (replicate n ask) .panel .reader ≡ readerOf line (run (rulesFor line) kept (asks n) .kept))
     × Reached line (run (rulesFor line) kept (asks n) .kept)
 unfolding afterAll after run asks
 asks-move line zero now kept reached reads whole large = (reads, reached)
 asks-move line (suc n) now kept reached reads whole large =
     let next = after now ask in
-    let same-words : length (next .words) ≡ 28672 = reported-words (now .panel) (now .words) (now .room) ∙ whole in
-    let same-room : length (next .room) ≡ length (now .room) = reported-room (now .panel) (now .words) (now .room) in
-    let same-large : 265 ≤ length (next .room) = rw same-room large in
+    let same-words : length (next .words) ≡ wordCount = reported-words-long (now .panel) (now .words) (now .room) ∙ whole in
+    let same-room : length (next .room) ≡ length (now .room) = reported-room-long (now .panel) (now .words) (now .room) in
+    let same-large : leastRoom ≤ length (next .room) = rw same-room large in
     asks-move line n next (afterReport (rulesFor line) kept) (reached-report line kept reached)
     (ask-moves line (now .panel) kept reached (now .words) (now .room) reads (is-lent now whole large)) same-words same-large
 
@@ -63,10 +64,10 @@ always-until-nothing now arises whole large =
           (sym (sound-ask-hands now sound whole large)
           ∙ ap (λ (h : Handed). reportHanded h (reporting (now .panel) (now .words) (now .room) .reported .payload)) nothing);
       comes =
-          sym (busy-waits last (reachable-sound last (calls-reached now (replicate 258 ask) (asks-typed 258) reachable)))
+          sym (busy-waits last (reachable-sound last (calls-reached now (replicate longestFrame ask) (asks-typed longestFrame) reachable)))
           ∙ ap (λ (r : Reader). busy r) (moved .0)
-          ∙ waiting-is line (run (rulesFor line) kept (asks 258) .kept) (moved .1)
-          ∙ asks-end (rulesFor line) 258 kept (sound .reads .reached .few);
+          ∙ waiting-is line (run (rulesFor line) kept (asks longestFrame) .kept) (moved .1)
+          ∙ asks-end (rulesFor line) longestFrame kept (sound .reads .reached .few);
     }
   where
     reachable : Reachable (now .panel)
@@ -82,7 +83,7 @@ always-until-nothing now arises whole large =
     kept = sound .reads .kept
 
     last : Panel
-    last = afterAll now (replicate 258 ask) .panel
+    last = afterAll now (replicate longestFrame ask) .panel
 
-    moved : (last .reader ≡ readerOf line (run (rulesFor line) kept (asks 258) .kept)) × Reached line (run (rulesFor line) kept (asks 258) .kept)
-    moved = asks-move line 258 now kept (sound .reads .reached) (sound .reads .is) whole large
+    moved : (last .reader ≡ readerOf line (run (rulesFor line) kept (asks longestFrame) .kept)) × Reached line (run (rulesFor line) kept (asks longestFrame) .kept)
+    moved = asks-move line longestFrame now kept (sound .reads .reached) (sound .reads .is) whole large

@@ -10,8 +10,9 @@ use lib.ListN.{length, take, drop, length-append}
 use lib.Seq.{drop-at}
 use Rattle.wire.specs.Room.{over}
 use Rattle.wire.proofs.Over.{take-over}
+use Rattle.wire.specs.Addresses.{wordCount}
 use Rattle.frame.specs.declared.Written.the-variants.{Frame, DataTooLong, RoomTooSmall}
-use Rattle.frame.specs.Frame.{headerBytes, frameOf, mostData}
+use Rattle.frame.specs.Frame.{headerBytes, frameOf, mostData, longestFrame}
 use Rattle.frame.specs.Writer.{leastRoom, Writing, answers, writing}
 use Rattle.frame.proofs.GoodFrames.{frameOf-good}
 use Rattle.reading.specs.Place.{Rules, Seen, pass, wait, bad, accepted, Report, acceptedFrame, look, cutShort, reportOf, goneBy, isWait}
@@ -95,15 +96,15 @@ module _ (line : Line) (frame : List ℕ) (good : Good (rulesFor line) frame) wh
       wait-quiet (look rules false front)
       (cut-waits rules front (record { frame = frame; good = good; rest = b ∷ rest; parts = parts; missing = omega arith })) in
       let long : length frame ≡ length front + suc (length rest) = ap length parts ∙ length-append front (b ∷ rest) in
-      let few : length front < 258 = omega (arith, good-length rules frame good) in
-      rw (waits, lt-ltb (length front) 258 few)
+      let few : length front < longestFrame = omega (arith, good-length rules frame good) in
+      rw (waits, lt-ltb (length front) longestFrame few)
 
   byte-comes : (front rest : List ℕ) (b : ℕ) → frame ≡ front ++ (b ∷ rest)
       → givenByte (readerOf line (come front)) b .reader ≡ readerOf line (come (front ++ (b ∷ [])))
   unfolding givenByte withByte
   byte-comes front rest b parts =
       let further : frame ≡ (front ++ (b ∷ [])) ++ rest = parts ∙ sym (append-assoc front (b ∷ []) rest) in
-      rw (front-free front rest b parts, take-padded 258 (length front) front refl)
+      rw (front-free front rest b parts, take-padded longestFrame (length front) front refl)
       (ap (readerOf line) (all-kept rules (front ++ (b ∷ [])) (front-stays (front ++ (b ∷ [])) rest further)))
 
   bytes-come : (rest front : List ℕ) → frame ≡ front ++ rest
@@ -152,7 +153,7 @@ empty-reader panel sound nothing =
 
 -- the panel takes a good frame whole, hands it over and holds nothing
 module _ (now : Moment) (sound : Sound (now .panel)) (nothing : NothingHeldOrWaiting (rulesOf (now .panel)) (keptOf (now .panel .reader)))
-    (whole : length (now .words) ≡ 28672) (large : 265 ≤ length (now .room)) (frame : List ℕ) (good : Good (rulesOf (now .panel)) frame) where
+    (whole : length (now .words) ≡ wordCount) (large : leastRoom ≤ length (now .room)) (frame : List ℕ) (good : Good (rulesOf (now .panel)) frame) where
   abbrev line : Line
   line = lineOf (now .panel .setup)
 
@@ -163,7 +164,7 @@ module _ (now : Moment) (sound : Sound (now .panel)) (nothing : NothingHeldOrWai
   unfolding numberGiven fedBytes
   all-taken = rw (taken-whole, eq-eqb (length frame) (length frame) refl)
 
-  few : length frame ≤ 258
+  few : length frame ≤ longestFrame
   unfolding headerBytes
   few = omega (arith, good-length (rulesFor line) frame good)
 
@@ -218,7 +219,7 @@ wrote checking header command payload room n = go (ltb (length room) leastRoom) 
 -- At any panel that calls reach from a start, while nothing is held or waiting: what the writer wrote into any room, under the header and the choice that
 -- are set up.
 pub writer-reads-back : (now : Moment) → Reachable (now .panel) → NothingHeldOrWaiting (rulesOf (now .panel)) (keptOf (now .panel .reader))
-    → length (now .words) ≡ 28672 → 265 ≤ length (now .room) → (command : ℕ) (payload room : List ℕ) (n : ℕ)
+    → length (now .words) ≡ wordCount → leastRoom ≤ length (now .room) → (command : ℕ) (payload room : List ℕ) (n : ℕ)
     → writing (checkingOf (now .panel .setup)) (headerOf (now .panel .setup)) command payload room .answer ≡ Frame n
     → ReadsBack now (take n (writing (checkingOf (now .panel .setup)) (headerOf (now .panel .setup)) command payload room .room)) command payload
 writer-reads-back now reached nothing whole large command payload room n answer =

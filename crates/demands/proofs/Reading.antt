@@ -6,13 +6,13 @@ use Prim.Native.Nat.{ℕ, suc, _+_, _<_}
 use native.Mathlib.Omega.{arith}
 use lib.ListN.{length, getD, take, drop}
 use Rattle.wire.specs.Bytes.{Bytes}
-use Rattle.frame.specs.Frame.{contentOf}
+use Rattle.frame.specs.Frame.{contentOf, mostPayload}
 use Rattle.reading.specs.Place.{Rules, Seen, pass, wait, bad, accepted, Report, acceptedFrame, look, reportOf}
 use Rattle.reading.specs.Line as Line
 use Rattle.reading.specs.Line.{Input}
 use Rattle.reading.specs.Moves.{Kept, waiting, withByte, handed, afterReport, isReport}
 use Rattle.reading.specs.Run as Run
-use Rattle.reading.specs.Run.{Event, handing, withInput, run}
+use Rattle.reading.specs.Run.{Event, withInput, run}
 use Rattle.reading.proofs.Moves.{nothing-changes}
 use Rattle.reading.proofs.Run.{run-append}
 use Rattle.line.specs.declared.Line as Declared
@@ -21,13 +21,12 @@ use Rattle.line.specs.declared.Given.{Given}
 use Rattle.line.specs.declared.Answer.{Answer}
 use Rattle.line.specs.declared.Answer.the-variants.{Done, Waits}
 use Rattle.line.specs.declared.Asked.{Asked}
-use Rattle.line.specs.State.{rulesFor, padded, readerOf}
+use Rattle.line.specs.State.{rulesFor, readerOf}
 use Rattle.line.specs.Methods.{busy, gave, plus, givenByte, givenMark, givenBytes, asked}
 use Rattle.line.specs.Reached.{Reached, reportAs, payloadAs}
 use Rattle.line.proofs.Padding.{take-padded}
 use Rattle.line.proofs.Carried.{waiting-is, byte-carried, mark-carried, ask-carried, reached-byte, reached-mark, reached-report}
 use Rattle.panel.specs.declared.Panel.{Panel}
-use Rattle.panel.specs.declared.Handed.the-variants as handed
 use Rattle.panel.specs.Inputs.{fedByte, fedMark, fedBytes}
 use Rattle.panel.specs.Reporting as Reporting
 use Rattle.panel.specs.Reporting.{lent, reporting}
@@ -35,6 +34,7 @@ use Rattle.panel.specs.Contacts.{contacting, lifting}
 use Rattle.panel.proofs.Ways.{contact-ways, lift-ways}
 use Rattle.demands.specs.Calls.{Moment, Call, lend, byte, bytes, mark, ask, contact, lift, after, afterAll, reportHanded, handedOver, handedOverAll, Typed, AllTyped}
 use Rattle.demands.specs.Given.{unlessRefused, given, givenAll}
+use Rattle.demands.proofs.Answers.{reportedBy}
 
 -- from what a reader keeps, events of the reading that give these inputs, hand over these reports and leave this reader
 pub record Carries (line : Declared.Line) (kept : Kept) (inputs : List Input) (reports : List Report) (reader : Reader) : Type 0 where
@@ -137,11 +137,11 @@ module _ (line : Declared.Line) (panel : Panel) (kept : Kept) (reached : Reached
   abbrev rules : Rules
   rules = rulesFor line
 
-  abbrev told : Seen → Asked
-  told seen = record { report = reportAs (reportOf rules seen); payload = payloadAs (reportOf rules seen); reader = readerOf line (afterReport rules kept) }
+  abbrev askedAt : Seen → Asked
+  askedAt seen = record { report = reportAs (reportOf rules seen); payload = payloadAs (reportOf rules seen); reader = readerOf line (afterReport rules kept) }
 
   abbrev handedFor : Seen → Reporting.Reporting
-  handedFor seen = Reporting.handing (told seen) (told seen .report) panel words room
+  handedFor seen = Reporting.handing (askedAt seen) (askedAt seen .report) panel words room
 
   -- what is handed over is the reading's report, and the reader goes on as the reading says
   hands-as : (seen : Seen) → look rules (kept .closed) (kept .bytes) ≡ seen → panel .reader ≡ readerOf line kept
@@ -153,7 +153,7 @@ module _ (line : Declared.Line) (panel : Panel) (kept : Kept) (reached : Reached
   hands-as (bad body) is reads = (refl, refl)
   hands-as (accepted body) is reads =
       let content = drop 1 (contentOf (line .checking) body) in
-      (ap (λ (l : List ℕ). acceptedFrame (getD body 0 0) l ∷ []) (take-padded 254 (length content) content refl), refl)
+      (ap (λ (l : List ℕ). acceptedFrame (getD body 0 0) l ∷ []) (take-padded mostPayload (length content) content refl), refl)
 
   -- asking with words and room as they must be moves the reader as the reading's ask does
   pub ask-moves : panel .reader ≡ readerOf line kept → lent (length words) (length room) ≡ true
@@ -171,13 +171,11 @@ module _ (line : Declared.Line) (panel : Panel) (kept : Kept) (reached : Reached
       seen : Seen
       seen = look rules (kept .closed) (kept .bytes)
 
-      is : asked (panel .reader) ≡ told seen
+      is : asked (panel .reader) ≡ askedAt seen
       is = ap asked reads ∙ ask-carried line kept (reached .few)
 
       result : Bool → Asked → Reporting.Reporting
-      result b a =
-          cond b (Reporting.handing a (a .report) panel words room)
-          (Reporting.reports (record { handed = handed.NotLent; payload = padded 254 []; panel = panel }) words room)
+      result enough a = reportedBy panel words room enough a (a .report)
 
       go : (b : Bool) → Carries line kept [] (reportHanded (result b (asked (panel .reader)) .reported .handed) (result b (asked (panel .reader)) .reported .payload))
           (result b (asked (panel .reader)) .reported .panel .reader)

@@ -1,17 +1,17 @@
 -- A read of a run that was written is not refused: of registers never, of words up to 124 of them.
-use mathlib.Core.Path.{_≡_, refl, _∙_}
+use mathlib.Core.Path.{_≡_, refl, sym, ap, _∙_}
 use mathlib.Core.Bool.{Bool, true, false, not}
 use mathlib.Core.List.{List, [], _∷_}
-use Prim.Native.Nat.{ℕ, zero, suc, _+_, _≤_, _<_}
+use Prim.Native.Nat.{ℕ, zero, suc, _+_, _≤_}
 use native.Mathlib.Omega.{arith}
-use borrow.Author.Tests.{le-ltb, ltb-true, ltb-false, ne-eqb, not-false}
-use lib.Dec.{eqb, ltb}
-use lib.ListN.{length, drop, length-drop}
+use borrow.Author.Tests.{le-ltb, leb-true, leb-false, eqb-true, eqb-false, not-false}
+use lib.Dec.{eqb, leb}
+use lib.ListN.{length, drop}
 use Rattle.wire.specs.ByteOrder.{byteAt, wordAt}
 use Rattle.frame.specs.Frame.{checkLength}
 use Rattle.reading.specs.Place.{acceptedFrame}
 use Rattle.line.proofs.Truths.{never, and-left, and-right}
-use Rattle.wire.specs.Addresses.{registerCount}
+use Rattle.wire.specs.Addresses.{registerCount, wordCount}
 use Rattle.registers.specs.Table.{writable}
 use Rattle.registers.specs.Run.{allWritable, halfPage, unwritableRun}
 use Rattle.registers.proofs.Allowed.{neither}
@@ -23,62 +23,54 @@ use Rattle.touch.specs.Setup.{checkingOf}
 use Rattle.panel.specs.Reachable.{Reachable}
 use Rattle.panel.proofs.Invariant.{reachable-sound}
 use Rattle.demands.specs.Calls.{Moment, ask, numberGiven, handedOver}
-use Rattle.demands.proofs.Access.{handed-asks, done-number, is-done}
+use Rattle.demands.proofs.FrameAsked.{handed-asks, done-number}
+use Rattle.demands.proofs.Access.{is-done}
 
--- the last writable register is 0B
-writable-low : (address : ℕ) → writable address ≡ true → address < 0x0C
-unfolding writable
-writable-low address is = go (ltb address 0x0C) refl
+-- 06, the touch status, is not writable: a run from before it that may be written ends before it
+before-status : (n address : ℕ) → allWritable address n ≡ true → address ≤ 0x06 → address + n ≤ 0x06
+unfolding allWritable writable
+before-status zero address all from = omega arith
+before-status (suc n) address all from =
+    go (eqb address 0x06) refl (before-status n (suc address) (and-right (writable address) (allWritable (suc address) n) all))
   where
-    other : (n : ℕ) → 0x0C ≤ address → n < 0x0C → eqb address n ≡ false
-    other n from small = ne-eqb address n (λ e. omega arith)
-
-    go : (b : Bool) → ltb address 0x0C ≡ b → address < 0x0C
-    go true small = ltb-true address 0x0C small
-    go false large =
-        let from = ltb-false address 0x0C large in
-        let none : writable address ≡ false =
-        rw (
-          other 0x01 from (omega arith),
-          other 0x02 from (omega arith),
-          other 0x03 from (omega arith),
-          other 0x04 from (omega arith),
-          other 0x05 from (omega arith),
-          other 0x0B from (omega arith),
-        ) in
+    go : (b : Bool) → eqb address 0x06 ≡ b → (suc address ≤ 0x06 → suc address + n ≤ 0x06) → address + suc n ≤ 0x06
+    go true is further =
+        let may : writable 0x06 ≡ true = ap writable (sym (eqb-true address 0x06 is)) ∙ and-left (writable address) (allWritable (suc address) n) all in
         never (cc)
+    go false is further =
+        let other = eqb-false address 0x06 is in
+        let rest = further (omega arith) in
+        omega arith
 
-run-low : (n address : ℕ) → allWritable address (suc n) ≡ true → address + suc n ≤ 0x0C
-unfolding allWritable
-run-low zero address all =
-    let low = writable-low address (and-left (writable address) (allWritable (suc address) zero) all) in
-    omega arith
-run-low (suc n) address all =
-    let rest = run-low n (suc address) (and-right (writable address) (allWritable (suc address) (suc n)) all) in
-    omega arith
-
-short-run : (n address : ℕ) → unwritableRun address n ≡ false → 0 < n → address + n ≤ 0x0C
+-- so a run that may be written, lying before 06 or behind it, is so short that an 0x81 of it is not refused with 7
+short-run : (n address : ℕ) → unwritableRun address n ≡ false → address + n ≤ registerCount → n ≤ 249
 unfolding unwritableRun
-short-run zero address may some = absurd (omega arith)
-short-run (suc n) address may some =
-    run-low n address (not-false (allWritable address (suc n)) (neither (not (allWritable address (suc n))) (halfPage address (suc n)) may .0))
+short-run n address may fits = go (leb address 0x06) refl
+  where
+    all : allWritable address n ≡ true
+    all = not-false (allWritable address n) (neither (not (allWritable address n)) (halfPage address n) may .0)
+
+    go : (b : Bool) → leb address 0x06 ≡ b → n ≤ 249
+    go true is = omega (arith, before-status n address all (leb-true address 0x06 is))
+    go false is = omega (arith, leb-false address 0x06 is)
 
 check-short : (checking : Bool) → checkLength checking ≤ 2
 unfolding checkLength
 check-short true = omega arith
 check-short false = omega arith
 
-registers-answer : (checking : Bool) (address n : ℕ) → address + n ≤ 0x0C → Outcome.numberOf (readRegistersOutcome checking (address ∷ n ∷ [])) ≡ 0
-unfolding readRegistersOutcome replyTooLong Outcome.numberOf
-registers-answer checking address n low =
-    rw (le-ltb 256 (address + n) (omega arith), le-ltb 255 (1 + (2 + n) + checkLength checking) (omega (arith, check-short checking)))
+registers-answer : (checking : Bool) (address n : ℕ) → address + n ≤ registerCount → n ≤ 249
+    → Outcome.numberOfOutcome (readRegistersOutcome checking (address ∷ n ∷ [])) ≡ 0
+unfolding readRegistersOutcome replyTooLong Outcome.numberOfOutcome
+registers-answer checking address n fits few =
+    rw (le-ltb registerCount (address + n) fits, le-ltb 255 (1 + (2 + n) + checkLength checking) (omega (arith, check-short checking)))
 
-words-answer : (checking : Bool) (high low n : ℕ) → wordAt (high ∷ low ∷ n ∷ []) 0 + n ≤ 28672 → n ≤ 124
-    → Outcome.numberOf (readWordsOutcome 28672 checking (high ∷ low ∷ n ∷ [])) ≡ 0
-unfolding readWordsOutcome replyTooLong Outcome.numberOf
+words-answer : (checking : Bool) (high low n : ℕ) → wordAt (high ∷ low ∷ n ∷ []) 0 + n ≤ wordCount → n ≤ 124
+    → Outcome.numberOfOutcome (readWordsOutcome wordCount checking (high ∷ low ∷ n ∷ [])) ≡ 0
+unfolding readWordsOutcome replyTooLong Outcome.numberOfOutcome
 words-answer checking high low n fits few =
     rw (
-      le-ltb 28672 (wordAt (high ∷ low ∷ n ∷ []) 0 + n) fits,
+      le-ltb wordCount (wordAt (high ∷ low ∷ n ∷ []) 0 + n) fits,
       le-ltb 255 (1 + (3 + (n + n)) + checkLength checking) (omega (arith, check-short checking)),
     )
 
@@ -90,10 +82,9 @@ unfolding outcome
 read-of-written-is-done now reached content writes done then there reads =
     let passed = registers-passed (now .panel .setup .pages) content (is-done now reached content done 0x80 (handed-asks now 0x80 content writes)) in
     let question = byteAt content 0 ∷ length (drop 1 content) ∷ [] in
-    let some : 0 < length (drop 1 content) = omega (arith, length-drop 1 content, passed .long) in
-    let low = short-run (length (drop 1 content)) (byteAt content 0) (passed .may) some in
+    let few = short-run (length (drop 1 content)) (byteAt content 0) (passed .may) (passed .fits) in
     done-number then (reachable-sound (then .panel) there) 0x81 question (handed-asks then 0x81 question reads)
-    ∙ registers-answer (checkingOf (then .panel .setup)) (byteAt content 0) (length (drop 1 content)) low
+    ∙ registers-answer (checkingOf (then .panel .setup)) (byteAt content 0) (length (drop 1 content)) (passed .fits) few
 
 -- an 0x83 of the run of an 0x82 that was done, of at most 124 words
 pub fetch-of-stored-is-done : (now : Moment) → Reachable (now .panel) → (content : List ℕ) → handedOver now ask ≡ acceptedFrame 0x82 content ∷ []
@@ -101,7 +92,7 @@ pub fetch-of-stored-is-done : (now : Moment) → Reachable (now .panel) → (con
     → handedOver then ask ≡ acceptedFrame 0x83 (byteAt content 0 ∷ byteAt content 1 ∷ length (wordsOf (drop 2 content)) ∷ []) ∷ [] → numberGiven then ask ≡ 0
 unfolding outcome
 fetch-of-stored-is-done now reached content writes done few then there reads =
-    let passed = words-passed 28672 content (is-done now reached content done 0x82 (handed-asks now 0x82 content writes)) in
+    let passed = words-passed wordCount content (is-done now reached content done 0x82 (handed-asks now 0x82 content writes)) in
     let n = length (wordsOf (drop 2 content)) in
     let question = byteAt content 0 ∷ byteAt content 1 ∷ n ∷ [] in
     done-number then (reachable-sound (then .panel) there) 0x83 question (handed-asks then 0x83 question reads)

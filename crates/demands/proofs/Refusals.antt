@@ -10,11 +10,10 @@ use lib.ListN.{length, take, drop}
 use Rattle.wire.specs.Bytes.{Bytes}
 use Rattle.wire.specs.Room.{over}
 use Rattle.wire.proofs.Over.{over-nil}
+use Rattle.wire.specs.Addresses.{wordCount}
 use Rattle.reading.specs.Place.{acceptedFrame}
 use Rattle.line.specs.declared.Reader.{Reader}
-use Rattle.line.specs.declared.Given.{Given}
 use Rattle.line.specs.declared.Gave.{Gave}
-use Rattle.line.specs.declared.Answer.{Answer}
 use Rattle.line.specs.declared.Answer.the-variants as line-answer
 use Rattle.line.specs.declared.Report.{Report}
 use Rattle.line.specs.declared.Report.the-variants as line
@@ -37,23 +36,24 @@ use Rattle.panel.specs.declared.LiftAnswer.the-variants as lift-answer
 use Rattle.panel.specs.Numbers.{reportNumber, contactNumber, liftNumber}
 use Rattle.panel.specs.State.{headerOf, withReader}
 use Rattle.panel.specs.Inputs.{fedByte, fedMark, fedBytes}
-use Rattle.panel.specs.Reporting.{lent, Reporting, handing, reporting}
-use Rattle.panel.specs.Contacts.{Contacting, contacting, lifting}
+use Rattle.panel.specs.Reporting.{lent, handing, reporting}
+use Rattle.panel.specs.Contacts.{contacting, lifting}
 use Rattle.panel.specs.Sound.{Sound}
 use Rattle.panel.specs.Reachable.{Reachable, by-byte}
 use Rattle.panel.proofs.Refusals.{refused-report-14-changes-nothing, refused-contact-changes-nothing, refused-lift-changes-nothing}
 use Rattle.panel.proofs.Invariant.{reachable-sound}
 use Rattle.demands.specs.Calls.{Moment, Call, lend, byte, bytes, mark, ask, contact, lift, withPanel, after, afterAll, numberGiven, reportHanded, handedOver, Typed}
 use Rattle.demands.specs.Reports.{reportWaits, readBehind, acknowledgementOf}
-use Rattle.demands.specs.Demand1.{Leaves, as-it-stood, only-handed-over, as-those-taken}
+use Rattle.demands.specs.Demand1.{RefusalLeaves, as-it-stood, only-handed-over, as-those-taken}
 use Rattle.demands.specs.Demand2.{leaving}
+use Rattle.demands.proofs.Answers.{gives, momentAsked, momentTouched}
 use Rattle.demands.proofs.Waits.{busy-waits}
 use Rattle.demands.proofs.Numbers.{one-more}
-use Rattle.demands.proofs.Access.{Asks, handed-asks, done-number, leaves}
+use Rattle.demands.proofs.FrameAsked.{Asks, handed-asks, done-number, performance-leaves}
 
 -- the numbers of a refused command
-refused-numbers : (o : Outcome) → 0 < Outcome.numberOf o → 2 ≤ Outcome.numberOf o
-unfolding Outcome.numberOf
+refused-numbers : (o : Outcome) → 0 < Outcome.numberOfOutcome o → 2 ≤ Outcome.numberOfOutcome o
+unfolding Outcome.numberOfOutcome
 refused-numbers Done above = absurd (omega arith)
 refused-numbers UnknownCommand above = omega arith
 refused-numbers WrongData above = omega arith
@@ -63,36 +63,36 @@ refused-numbers WrongValue above = omega arith
 refused-numbers ReplyTooLong above = omega arith
 
 -- an ask that hands over an accepted frame whose command is refused
-pub record FrameRefused (now : Moment) (command : ℕ) : Type 0 where
+pub record CommandRefused (now : Moment) (command : ℕ) : Type 0 where
   pub at-least : 2 ≤ numberGiven now ask
   pub at-most : numberGiven now ask ≤ 7
   pub left : after now ask ≡ leaving now command (now .panel .registers) (now .panel .catch) (now .words) []
 
-pub refused-frame : (now : Moment) → Sound (now .panel) → (command : ℕ) (content : List ℕ) → Asks now command content → 0 < numberGiven now ask
-    → FrameRefused now command
-refused-frame now sound command content asks above =
+pub command-refused : (now : Moment) → Sound (now .panel) → (command : ℕ) (content : List ℕ) → Asks now command content → 0 < numberGiven now ask
+    → CommandRefused now command
+command-refused now sound command content asks above =
     let setup = now .panel .setup in
-    let o = outcome (setup .pages) 28672 (checkingOf setup) command content in
-    let number : numberGiven now ask ≡ Outcome.numberOf o = done-number now sound command content asks in
-    let given : 0 < Outcome.numberOf o = omega arith in
+    let o = outcome (setup .pages) wordCount (checkingOf setup) command content in
+    let number : numberGiven now ask ≡ Outcome.numberOfOutcome o = done-number now sound command content asks in
+    let above-0 : 0 < Outcome.numberOfOutcome o = omega arith in
     let answer = acknowledgementOf setup command true in
     let part = drop (length answer) (over answer (now .room)) in
     let p = outcome (setup .pages) (length (now .words)) (checkingOf setup) command content in
-    let refused : isDone p ≡ false = rw (asks .whole) (number-refuses o given) in
+    let refused : isDone p ≡ false = rw (asks .whole) (number-refuses o above-0) in
     record {
-      at-least = omega (arith, refused-numbers o given);
+      at-least = omega (arith, refused-numbers o above-0);
       at-most = omega (arith, number-at-most-7 o);
-      left = leaves now sound command content asks (now .panel .registers) false (now .words) [] p 0
+      left = performance-leaves now sound command content asks (now .panel .registers) false (now .words) [] p 0
           (refusal-changes-nothing (now .panel .registers) (setup .pages) (checkingOf setup) (headerOf setup) content (now .words) part command refused
           ∙ ap (λ (r : List ℕ). performs (besideReply (now .panel .registers) (noReply p)) (now .words) r) (sym (over-nil part)));
     }
 
 frame-refused : (now : Moment) → Sound (now .panel) → (command : ℕ) (content : List ℕ) → Asks now command content
-    → handedOver now ask ≡ acceptedFrame command content ∷ [] → 0 < numberGiven now ask → Leaves now ask
+    → handedOver now ask ≡ acceptedFrame command content ∷ [] → 0 < numberGiven now ask → RefusalLeaves now ask
 unfolding leaving readBehind
 frame-refused now sound command content asks hands above =
     let answer = acknowledgementOf (now .panel .setup) command true in
-    let only = refused-frame now sound command content asks above in
+    let only = command-refused now sound command content asks above in
     only-handed-over (only .at-least) (only .at-most)
     (record {
       command = command;
@@ -115,58 +115,55 @@ lent-handed : (now : Moment) → lent (length (now .words)) (length (now .room))
 unfolding handedOver reporting handing reportHanded
 lent-handed now is command count tells = rw (is, tells)
 
-lent-leaves : (now : Moment) → Sound (now .panel) → lent (length (now .words)) (length (now .room)) ≡ true → (told : Report)
-    → asked (now .panel .reader) .report ≡ told → 0 < numberGiven now ask → Leaves now ask
+lent-refused : (now : Moment) → Sound (now .panel) → lent (length (now .words)) (length (now .room)) ≡ true → (told : Report)
+    → asked (now .panel .reader) .report ≡ told → 0 < numberGiven now ask → RefusalLeaves now ask
 unfolding handing reportNumber
-lent-leaves now sound is line.Nothing tells above = let none = lent-number now is line.Nothing tells in absurd (omega arith)
-lent-leaves now sound is (line.BadCheck c) tells above = let none = lent-number now is (line.BadCheck c) tells in absurd (omega arith)
-lent-leaves now sound is (line.Accepted c n) tells above =
+lent-refused now sound is line.Nothing tells above = let none = lent-number now is line.Nothing tells in absurd (omega arith)
+lent-refused now sound is (line.BadCheck c) tells above = let none = lent-number now is (line.BadCheck c) tells in absurd (omega arith)
+lent-refused now sound is (line.Accepted c n) tells above =
     let content = take n (asked (now .panel .reader) .payload) in
     let hands = lent-handed now is c n tells in
     frame-refused now sound c content (handed-asks now c content hands) hands above
 
 -- 14
-not-lent-leaves : (now : Moment) → lent (length (now .words)) (length (now .room)) ≡ false → Leaves now ask
+not-lent-refused : (now : Moment) → lent (length (now .words)) (length (now .room)) ≡ false → RefusalLeaves now ask
 unfolding numberGiven after reporting reportNumber
-not-lent-leaves now is =
+not-lent-refused now is =
     let number : numberGiven now ask ≡ 14 = rw is in
     as-it-stood ask (inr (omega arith))
-    (ap (λ (r : Reporting). record { panel = r .reported .panel; words = r .words; room = r .room })
+    (ap momentAsked
     (refused-report-14-changes-nothing (now .panel) (now .words) (now .room) is))
 
 -- the panel put back as it stood
 same-moment : (now : Moment) (panel : Panel) → panel ≡ now .panel → withPanel now panel ≡ now
 same-moment now panel is = rw is
 
-ask-leaves : (now : Moment) → Sound (now .panel) → 0 < numberGiven now ask → Leaves now ask
-ask-leaves now sound above = go (lent (length (now .words)) (length (now .room))) refl (asked (now .panel .reader) .report) refl
+ask-refused : (now : Moment) → Sound (now .panel) → 0 < numberGiven now ask → RefusalLeaves now ask
+ask-refused now sound above = go (lent (length (now .words)) (length (now .room))) refl (asked (now .panel .reader) .report) refl
   where
-    go : (l : Bool) → lent (length (now .words)) (length (now .room)) ≡ l → (told : Report) → asked (now .panel .reader) .report ≡ told → Leaves now ask
-    go false is told tells = not-lent-leaves now is
-    go true is told tells = lent-leaves now sound is told tells above
+    go : (l : Bool) → lent (length (now .words)) (length (now .room)) ≡ l → (told : Report) → asked (now .panel .reader) .report ≡ told → RefusalLeaves now ask
+    go false is told tells = not-lent-refused now is
+    go true is told tells = lent-refused now sound is told tells above
 
 -- a byte and a mark
-abbrev given : Answer → Reader → Given
-given answer reader = record { answer = answer; reader = reader }
+fed-refused : (now : Moment) (w : Bool) (r : Reader)
+    → 0 < Line.numberOfAnswer (cond w (gives line-answer.Waits (now .panel .reader)) (gives line-answer.Done r) .answer)
+    → (Line.numberOfAnswer (cond w (gives line-answer.Waits (now .panel .reader)) (gives line-answer.Done r) .answer) ≡ 1)
+    × (withPanel now (withReader (now .panel) (cond w (gives line-answer.Waits (now .panel .reader)) (gives line-answer.Done r) .reader)) ≡ now)
+unfolding Line.numberOfAnswer
+fed-refused now true r above = (refl, refl)
+fed-refused now false r above = absurd (omega arith)
 
-fed-leaves : (now : Moment) (w : Bool) (r : Reader)
-    → 0 < Line.numberOf (cond w (given line-answer.Waits (now .panel .reader)) (given line-answer.Done r) .answer)
-    → (Line.numberOf (cond w (given line-answer.Waits (now .panel .reader)) (given line-answer.Done r) .answer) ≡ 1)
-    × (withPanel now (withReader (now .panel) (cond w (given line-answer.Waits (now .panel .reader)) (given line-answer.Done r) .reader)) ≡ now)
-unfolding Line.numberOf
-fed-leaves now true r above = (refl, refl)
-fed-leaves now false r above = absurd (omega arith)
-
-byte-leaves : (now : Moment) (b : ℕ) → 0 < numberGiven now (byte b) → Leaves now (byte b)
-unfolding numberGiven after fedByte givenByte Line.numberOf
-byte-leaves now b above =
-    let left = fed-leaves now (busy (now .panel .reader)) _ above in
+byte-refused : (now : Moment) (b : ℕ) → 0 < numberGiven now (byte b) → RefusalLeaves now (byte b)
+unfolding numberGiven after fedByte givenByte Line.numberOfAnswer
+byte-refused now b above =
+    let left = fed-refused now (busy (now .panel .reader)) _ above in
     as-it-stood (byte b) (inl (left .0)) (left .1)
 
-mark-leaves : (now : Moment) → 0 < numberGiven now mark → Leaves now mark
-unfolding numberGiven after fedMark givenMark Line.numberOf
-mark-leaves now above =
-    let left = fed-leaves now (busy (now .panel .reader)) _ above in
+mark-refused : (now : Moment) → 0 < numberGiven now mark → RefusalLeaves now mark
+unfolding numberGiven after fedMark givenMark Line.numberOfAnswer
+mark-refused now above =
+    let left = fed-refused now (busy (now .panel .reader)) _ above in
     as-it-stood mark (inl (left .0)) (left .1)
 
 -- a contact and a lift
@@ -186,16 +183,16 @@ lift-numbers lift-answer.Done above = absurd (omega arith)
 lift-numbers lift-answer.Waits above = inl refl
 lift-numbers lift-answer.IsUp above = inr (omega arith)
 
-contact-leaves : (now : Moment) (table : List ℕ) (x y : ℕ) → 0 < numberGiven now (contact table x y) → Leaves now (contact table x y)
+contact-refused : (now : Moment) (table : List ℕ) (x y : ℕ) → 0 < numberGiven now (contact table x y) → RefusalLeaves now (contact table x y)
 unfolding numberGiven after
-contact-leaves now table x y above =
+contact-refused now table x y above =
     as-it-stood (contact table x y) (contact-numbers (contacting (now .panel) table (now .words) x y .contacted .answer) above)
-    (ap (λ (c : Contacting). record { panel = c .contacted .panel; words = c .words; room = now .room })
+    (ap (momentTouched now)
     (refused-contact-changes-nothing (now .panel) table (now .words) x y above))
 
-lift-leaves : (now : Moment) → 0 < numberGiven now lift → Leaves now lift
+lift-refused : (now : Moment) → 0 < numberGiven now lift → RefusalLeaves now lift
 unfolding numberGiven after
-lift-leaves now above =
+lift-refused now above =
     as-it-stood lift (lift-numbers (lifting (now .panel) .answer) above) (same-moment now (lifting (now .panel) .panel) (refused-lift-changes-nothing (now .panel) above))
 
 -- bytes one after the other
@@ -245,9 +242,9 @@ bytes-stop now reached (b ∷ bs) are short =
           waits = ap (λ (m : Moment). reportWaits (m .panel)) same ∙ stop .waits;
         }
 
-bytes-leaves : (now : Moment) → Reachable (now .panel) → (bs : List ℕ) → Bytes bs → 0 < numberGiven now (bytes bs) → Leaves now (bytes bs)
+bytes-refused : (now : Moment) → Reachable (now .panel) → (bs : List ℕ) → Bytes bs → 0 < numberGiven now (bytes bs) → RefusalLeaves now (bytes bs)
 unfolding numberGiven
-bytes-leaves now reached bs are above =
+bytes-refused now reached bs are above =
     let stop = bytes-stop now reached bs are (short (eqb (fedBytes (now .panel) bs .used) (length bs)) above) in
     as-those-taken bs (stop .taken) (stop .next) (stop .rest) (stop .split) (stop .left) (stop .waits)
   where
@@ -256,12 +253,12 @@ bytes-leaves now reached bs are above =
     short false above = refl
 
 -- each call, at a panel that is reached
-pub refused-leaves : (now : Moment) → Reachable (now .panel) → (call : Call) → Typed call → 0 < numberGiven now call → Leaves now call
+pub call-refused : (now : Moment) → Reachable (now .panel) → (call : Call) → Typed call → 0 < numberGiven now call → RefusalLeaves now call
 unfolding numberGiven Typed
-refused-leaves now reached (lend words room) typed above = absurd (omega arith)
-refused-leaves now reached (byte b) typed above = byte-leaves now b above
-refused-leaves now reached (bytes bs) typed above = bytes-leaves now reached bs typed above
-refused-leaves now reached mark typed above = mark-leaves now above
-refused-leaves now reached ask typed above = ask-leaves now (reachable-sound (now .panel) reached) above
-refused-leaves now reached (contact table x y) typed above = contact-leaves now table x y above
-refused-leaves now reached lift typed above = lift-leaves now above
+call-refused now reached (lend words room) typed above = absurd (omega arith)
+call-refused now reached (byte b) typed above = byte-refused now b above
+call-refused now reached (bytes bs) typed above = bytes-refused now reached bs typed above
+call-refused now reached mark typed above = mark-refused now above
+call-refused now reached ask typed above = ask-refused now (reachable-sound (now .panel) reached) above
+call-refused now reached (contact table x y) typed above = contact-refused now table x y above
+call-refused now reached lift typed above = lift-refused now above

@@ -11,7 +11,7 @@ use Rattle.wire.specs.Room.{over, lays, laid}
 use Rattle.wire.proofs.Over.{over-nil}
 use Rattle.frame.specs.Frame.{headerBytes, checkLength}
 use Rattle.frame.specs.Acknowledgement.{acknowledgementLength, verdict, acknowledgement}
-use Rattle.frame.specs.Writer.{acknowledgementLaid}
+use Rattle.frame.specs.Writer.{acknowledgementLaid, leastRoom}
 use Rattle.frame.proofs.Laying.{length-enclosed}
 use Rattle.touch.specs.declared.Setup.{Setup}
 use Rattle.touch.specs.Setup.{checkingOf, acknowledgingOf}
@@ -25,7 +25,7 @@ unfolding acknowledgement checkLength headerBytes
 acknowledgement-long setup command good = length-enclosed true (headerOf setup) acknowledgementLength (command ∷ verdict good ∷ [])
 
 -- a room that is lent holds every acknowledgement
-pub acknowledged-laid : (setup : Setup) (command : ℕ) (good : Bool) (room : List ℕ) → 265 ≤ length room
+pub acknowledged-laid : (setup : Setup) (command : ℕ) (good : Bool) (room : List ℕ) → leastRoom ≤ length room
     → acknowledged setup command good room
     ≡ lays (length (acknowledgementOf setup command good)) (over (acknowledgementOf setup command good) room)
 unfolding acknowledged acknowledgementOf acknowledgementLaid laid

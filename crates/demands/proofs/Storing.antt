@@ -38,7 +38,8 @@ use Rattle.touch.proofs.Tables.{found-stands}
 use Rattle.contact.specs.declared.Catch.{Catch}
 use Rattle.contact.specs.declared.Catch.the-variants.{Free, Caught}
 use Rattle.contact.specs.declared.Pad.{Pad}
-use Rattle.contact.specs.Contact.{padOf, showing, catching, acting, pressed, dragging, kept, touched}
+use Rattle.contact.specs.Contact as Contact
+use Rattle.contact.specs.Contact.{showing, catching, acting, pressed, dragging, touched}
 use Rattle.demands.specs.Calls.{Halfwords}
 use Rattle.demands.proofs.Below.{byte-some, word-some, below-take, below-drop, below-append, below-set, below-laid, below-zeros}
 use Rattle.touch.specs.Act.{actedBy, actedOf, draggedOf}
@@ -48,14 +49,14 @@ use Rattle.touch.specs.Table.{recordAt}
 pub start-bytes : (h1 h2 : ℕ) (checking acknowledging : Bool) → h1 < 256 → h2 < 256 → Bytes (startRegisters h1 h2 checking acknowledging .bytes)
 unfolding startRegisters
 start-bytes h1 h2 checking acknowledging one two =
-    let zeros : List ℕ = replicate 256 0 in
+    let zeros : List ℕ = replicate registerCount 0 in
     let version = set zeros 0x00 0x10 in
     let light = set version 0x01 0x3F in
     let enable = set light 0x0B 0xFF in
     let checks = set enable 0x12 (cond checking 0x10 0x00) in
     let first = set checks 0x13 h1 in
     let second = set first 0x1A h2 in
-    let a = sets zeros 0x00 0x10 (below-zeros 256 byte-some 256) (omega arith) in
+    let a = sets zeros 0x00 0x10 (below-zeros 256 byte-some registerCount) (omega arith) in
     let b = sets version 0x01 0x3F a (omega arith) in
     let c = sets light 0x0B 0xFF b (omega arith) in
     let d = sets enable 0x12 (cond checking 0x10 0x00) c (either checking 0x10 (omega arith)) in
@@ -174,14 +175,14 @@ module _ (pad : Pad) (table words : List ℕ) (x y : ℕ) (are : Bytes (pad .reg
   marked-bytes status is = place-bytes (withStatus (pad .registers) status) x y (status-bytes (pad .registers) status are is) in-x in-y
 
   pub touched-bytes : Bytes (touched pad table words x y .pad .registers .bytes)
-  unfolding touched kept pressed acting showing
+  unfolding touched Contact.heldDown pressed acting showing
   touched-bytes = go (isDown (pad .registers))
     where
       now : Registers
       now = withPlace (withStatus (pad .registers) 0x01) x y
 
       shown : (r : Record) (catch : Catch) → r .next < 65536 → (b : Bool)
-          → Bytes (cond b (padOf now catch) (padOf (withPage now (r .next)) Free) .registers .bytes)
+          → Bytes (cond b (Contact.padWith now catch) (Contact.padWith (withPage now (r .next)) Free) .registers .bytes)
       shown r catch next true = marked-bytes 0x01 (omega arith)
       shown r catch next false = page-bytes now (r .next) (marked-bytes 0x01 (omega arith)) next
 
@@ -191,12 +192,12 @@ module _ (pad : Pad) (table words : List ℕ) (x y : ℕ) (are : Bytes (pad .reg
           let same = found-stands table (pageOf (pad .registers)) x y i r is .0 in
           shown r (catching r (pad .catch)) (rw same (next-below table table-are i)) (noNext r)
 
-      go : (b : Bool) → Bytes (cond b (kept pad words x y) (pressed pad table words x y) .pad .registers .bytes)
+      go : (b : Bool) → Bytes (cond b (Contact.heldDown pad words x y) (pressed pad table words x y) .pad .registers .bytes)
       go true = marked-bytes 0x03 (omega arith)
       go false = behind (found table (pageOf (pad .registers)) x y) refl
 
   pub touched-words : Halfwords words → Halfwords (touched pad table words x y .words)
-  unfolding touched kept dragging pressed acting wordSet wordAtAddress
+  unfolding touched Contact.heldDown dragging pressed acting wordSet wordAtAddress
   touched-words old = go (isDown (pad .registers))
     where
       now : Registers
@@ -215,7 +216,7 @@ module _ (pad : Pad) (table words : List ℕ) (x y : ℕ) (are : Bytes (pad .reg
           below-set 65536 word-some words (r .word) (draggedOf r (getD words (r .word) 0) x y) old
           (dragged-below r (getD words (r .word) 0) (old (r .word)) x y)
 
-      go : (b : Bool) → Halfwords (cond b (kept pad words x y) (pressed pad table words x y) .words)
+      go : (b : Bool) → Halfwords (cond b (Contact.heldDown pad words x y) (pressed pad table words x y) .words)
       go true = drag (pad .catch)
       go false = behind (found table (pageOf (pad .registers)) x y) refl
 

@@ -49,13 +49,14 @@ use Rattle.panel.specs.Contacts.{Contacting, contacts, contactOn, contactJudged
 use Rattle.panel.proofs.Ways.{lifts}
 use Rattle.demands.specs.Calls.{Moment, contact, lift, withPanel, after, numberGiven}
 use Rattle.demands.specs.Demand2.{afterContact, afterLift}
+use Rattle.demands.proofs.Answers.{momentTouched}
 use Rattle.demands.proofs.Storing.{word-below, record-bytes}
 
 -- a contact that is done had all words, no report waiting, a good table, touch on and a point on the screen
 pub record Touched (panel : Panel) (table words : List ℕ) (x y : ℕ) : Type 0 where
-  pub whole : length words ≡ 28672
+  pub whole : length words ≡ wordCount
   pub good : judged (panel .setup) table ≡ Good
-  pub leaves : contacting panel table words x y
+  pub touches : contacting panel table words x y
       ≡ contacts contact-answer.Done (withPad panel (touched (padOf panel) table words x y .pad)) (touched (padOf panel) table words x y .words)
 
 module _ (panel : Panel) (table words : List ℕ) (x y : ℕ) where
@@ -75,12 +76,12 @@ module _ (panel : Panel) (table words : List ℕ) (x y : ℕ) where
 
   pub contact-done : contactNumber (contacting panel table words x y .contacted .answer) ≡ 0 → Touched panel table words x y
   unfolding contacting contactJudged contactNumber
-  contact-done = go (eqb (length words) 28672) refl (busy (panel .reader)) refl (judged (panel .setup) table) refl
+  contact-done = go (eqb (length words) wordCount) refl (busy (panel .reader)) refl (judged (panel .setup) table) refl
     where
       judging : Verdict → Contacting
       judging v = contactJudged v panel table words x y
 
-      go : (a : Bool) → eqb (length words) 28672 ≡ a → (b : Bool) → busy (panel .reader) ≡ b → (v : Verdict) → judged (panel .setup) table ≡ v
+      go : (a : Bool) → eqb (length words) wordCount ≡ a → (b : Bool) → busy (panel .reader) ≡ b → (v : Verdict) → judged (panel .setup) table ≡ v
           → contactNumber (cond (not a) (contacts contact-answer.NotLent panel words) (cond b (contacts contact-answer.Waits panel words) (judging v)) .contacted .answer) ≡ 0
           → Touched panel table words x y
       go false p b q v r is = absurd (omega arith)
@@ -89,17 +90,17 @@ module _ (panel : Panel) (table words : List ℕ) (x y : ℕ) where
       go true p false q (Wrong i) r is = absurd (omega arith)
       go true p false q Good r is =
           record {
-            whole = eqb-true (length words) 28672 p;
+            whole = eqb-true (length words) wordCount p;
             good = r;
-            leaves = rw (p, q, r) (on-done is);
+            touches = rw (p, q, r) (on-done is);
           }
 
 -- "Contact while up: ..", "Contact while down: .."
 pub contact-leaves : (now : Moment) (table : List ℕ) (x y : ℕ) → numberGiven now (contact table x y) ≡ 0 → after now (contact table x y) ≡ afterContact now table x y
 unfolding numberGiven after afterContact
 contact-leaves now table x y is =
-    ap (λ (c : Contacting). record { panel = c .contacted .panel; words = c .words; room = now .room })
-    (contact-done (now .panel) table (now .words) x y is .leaves)
+    ap (momentTouched now)
+    (contact-done (now .panel) table (now .words) x y is .touches)
 
 -- "Lift: status 02, the catch is dropped."
 pub lift-leaves : (now : Moment) → numberGiven now lift ≡ 0 → after now lift ≡ afterLift now
@@ -162,14 +163,14 @@ pressed-words : (pad : Pad) (table words : List ℕ) (x y i : ℕ) (r : Record) 
 unfolding touched Contact.pressed Contact.acting
 pressed-words pad table words x y i r up acts =
     let now = withPlace (withStatus (pad .registers) 0x01) x y in
-    ap (λ (b : Bool). cond b (Contact.kept pad words x y) (Contact.pressed pad table words x y) .words) up
+    ap (λ (b : Bool). cond b (Contact.heldDown pad words x y) (Contact.pressed pad table words x y) .words) up
     ∙ ap (λ (f : Found). Contact.acting f now (pad .catch) words x y .words) acts
 
 pub dragged-words : (pad : Pad) (table words : List ℕ) (x y : ℕ) (r : Record) → isDown (pad .registers) ≡ true → pad .catch ≡ Caught r
     → touched pad table words x y .words ≡ wordSet words (r .word) (draggedOf r (wordAtAddress words (r .word)) x y)
-unfolding touched Contact.kept Contact.dragging
+unfolding touched Contact.heldDown Contact.dragging
 dragged-words pad table words x y r down is =
-    ap (λ (b : Bool). cond b (Contact.kept pad words x y) (Contact.pressed pad table words x y) .words) down
+    ap (λ (b : Bool). cond b (Contact.heldDown pad words x y) (Contact.pressed pad table words x y) .words) down
     ∙ ap (λ (c : Catch). Contact.dragging c words x y) is
 
 -- a word that was set

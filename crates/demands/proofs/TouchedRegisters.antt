@@ -8,6 +8,7 @@ use native.Mathlib.Omega.{arith}
 use borrow.Author.Tests.{eqb-true, eqb-false, ltb-true, ltb-false}
 use lib.Dec.{eqb, ltb}
 use lib.ListN.{length}
+use Rattle.wire.specs.Addresses.{registerCount}
 use Rattle.registers.specs.declared.Registers.{Registers}
 use Rattle.registers.specs.Table.{registerAt}
 use Rattle.registers.specs.Touched.{pageOf, withPage, isDown, withStatus, withPlace}
@@ -21,7 +22,8 @@ use Rattle.touch.specs.Find.{found}
 use Rattle.contact.specs.declared.Catch.{Catch}
 use Rattle.contact.specs.declared.Catch.the-variants.{Free}
 use Rattle.contact.specs.declared.Pad.{Pad}
-use Rattle.contact.specs.Contact.{padOf, showing, catching, acting, pressed, kept, touched}
+use Rattle.contact.specs.Contact as Contact
+use Rattle.contact.specs.Contact.{showing, catching, acting, pressed, touched}
 
 pub data Touches (pad : Pad) (table : List ℕ) (x y address : ℕ) : Type 0 where
   status : address ≡ 0x06 → Touches pad table x y address
@@ -57,7 +59,7 @@ lies address = go (ltb address 0x03) refl (eqb address 0x03) refl (eqb address 0
         at-place (inr (omega arith, below))
 
 -- status, flag and place
-module _ (registers : Registers) (whole : length (registers .bytes) ≡ 256) (status x y address : ℕ) where
+module _ (registers : Registers) (whole : length (registers .bytes) ≡ registerCount) (status x y address : ℕ) where
   abbrev marked : Registers
   marked = withPlace (withStatus registers status) x y
 
@@ -73,7 +75,7 @@ module _ (registers : Registers) (whole : length (registers .bytes) ≡ 256) (st
       place-only (withStatus registers status) (length-withStatus registers whole status) x y address flag out
       ∙ status-only registers whole status address other
 
-module _ (pad : Pad) (whole : length (pad .registers .bytes) ≡ 256) (table : List ℕ) (x y address : ℕ) where
+module _ (pad : Pad) (whole : length (pad .registers .bytes) ≡ registerCount) (table : List ℕ) (x y address : ℕ) where
   marked-register : (mark : ℕ) → (registerAt (marked (pad .registers) whole mark x y address) address ≡ registerAt (pad .registers) address) ⊎ Touches pad table x y address
   marked-register mark = go (lies address)
     where
@@ -102,7 +104,7 @@ module _ (pad : Pad) (whole : length (pad .registers .bytes) ≡ 256) (table : L
 
   -- "then its next page is shown"
   shown-register : (i : ℕ) (r : Record) → isDown (pad .registers) ≡ false → found table (pageOf (pad .registers)) x y ≡ At i r → (registers : Registers)
-      → length (registers .bytes) ≡ 256 → (catch : Catch)
+      → length (registers .bytes) ≡ registerCount → (catch : Catch)
       → (registerAt (showing r registers catch .registers) address ≡ registerAt registers address) ⊎ Touches pad table x y address
   unfolding showing
   shown-register i r up is registers long catch = go (noNext r) refl
@@ -117,7 +119,7 @@ module _ (pad : Pad) (whole : length (pad .registers .bytes) ≡ 256) (table : L
       paged next (elsewhere (inr at)) = inl (page-only registers long (r .next) address (inr (omega arith)))
 
       go : (b : Bool) → noNext r ≡ b
-          → (registerAt (cond b (padOf registers catch) (padOf (withPage registers (r .next)) Free) .registers) address ≡ registerAt registers address)
+          → (registerAt (cond b (Contact.padWith registers catch) (Contact.padWith (withPage registers (r .next)) Free) .registers) address ≡ registerAt registers address)
           ⊎ Touches pad table x y address
       go true next = inl refl
       go false next = paged next (lies address)
@@ -125,13 +127,13 @@ module _ (pad : Pad) (whole : length (pad .registers .bytes) ≡ 256) (table : L
   -- a contact that is done: a register stays, or is one of those that the rule names
   pub touched-register : (words : List ℕ)
       → (registerAt (touched pad table words x y .pad .registers) address ≡ registerAt (pad .registers) address) ⊎ Touches pad table x y address
-  unfolding touched kept pressed acting
+  unfolding touched Contact.heldDown pressed acting
   touched-register words = go (isDown (pad .registers)) refl
     where
       now : Registers
       now = withPlace (withStatus (pad .registers) 0x01) x y
 
-      long : length (now .bytes) ≡ 256
+      long : length (now .bytes) ≡ registerCount
       long = length-withPlace (withStatus (pad .registers) 0x01) (length-withStatus (pad .registers) whole 0x01) x y
 
       behind : (f : Found) → found table (pageOf (pad .registers)) x y ≡ f → isDown (pad .registers) ≡ false
@@ -140,7 +142,7 @@ module _ (pad : Pad) (whole : length (pad .registers .bytes) ≡ 256) (table : L
       behind (At i r) is up = shown-register i r up is now long (catching r (pad .catch))
 
       go : (b : Bool) → isDown (pad .registers) ≡ b
-          → (registerAt (cond b (kept pad words x y) (pressed pad table words x y) .pad .registers) address ≡ registerAt (pad .registers) address)
+          → (registerAt (cond b (Contact.heldDown pad words x y) (pressed pad table words x y) .pad .registers) address ≡ registerAt (pad .registers) address)
           ⊎ Touches pad table x y address
       go true down = marked-register 0x03
       go false up =

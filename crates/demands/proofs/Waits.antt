@@ -5,7 +5,7 @@ use Prim.Native.Nat.{ℕ, _≤_}
 use native.Mathlib.Omega.{arith}
 use borrow.Author.Tests.{eq-eqb, le-leb}
 use lib.ListN.{length, take, drop}
-use Rattle.frame.specs.Frame.{contentOf}
+use Rattle.frame.specs.Frame.{contentOf, mostPayload, longestFrame}
 use Rattle.frame.specs.Writer.{leastRoom}
 use Rattle.reading.specs.Place.{Rules, Seen, pass, wait, bad, accepted, look, reportOf}
 use Rattle.reading.specs.Moves.{Kept, waiting, handed, afterReport}
@@ -40,25 +40,25 @@ module _ (panel : Panel) (sound : Sound panel) where
       ∙ waiting-is (lineOf (panel .setup)) (sound .reads .kept) (sound .reads .reached)
       ∙ ap (λ (k : Kept). waiting (rulesOf panel) k) (sym kept-same)
 
-  carried : asked (panel .reader) ≡ record {
+  asked-carried : asked (panel .reader) ≡ record {
     report = reportAs (handed (rulesOf panel) (sound .reads .kept));
     payload = payloadAs (handed (rulesOf panel) (sound .reads .kept));
     reader = readerOf (lineOf (panel .setup)) (afterReport (rulesOf panel) (sound .reads .kept));
   }
-  carried =
+  asked-carried =
       ap (λ (r : Reader). asked r) (sound .reads .is) ∙ ask-carried (lineOf (panel .setup)) (sound .reads .kept) (sound .reads .reached .few)
 
   pub asked-report : asked (panel .reader) .report ≡ reportAs (waitingReport panel)
   unfolding waitingReport
-  asked-report = ap (λ (a : Asked). a .report) carried ∙ ap (λ (k : Kept). reportAs (handed (rulesOf panel) k)) (sym kept-same)
+  asked-report = ap (λ (a : Asked). a .report) asked-carried ∙ ap (λ (k : Kept). reportAs (handed (rulesOf panel) k)) (sym kept-same)
 
   pub asked-payload : asked (panel .reader) .payload ≡ payloadAs (waitingReport panel)
   unfolding waitingReport
-  asked-payload = ap (λ (a : Asked). a .payload) carried ∙ ap (λ (k : Kept). payloadAs (handed (rulesOf panel) k)) (sym kept-same)
+  asked-payload = ap (λ (a : Asked). a .payload) asked-carried ∙ ap (λ (k : Kept). payloadAs (handed (rulesOf panel) k)) (sym kept-same)
 
   pub asked-reader : asked (panel .reader) .reader ≡ readerOf (lineOf (panel .setup)) (afterReport (rulesOf panel) (keptOf (panel .reader)))
   asked-reader =
-      ap (λ (a : Asked). a .reader) carried
+      ap (λ (a : Asked). a .reader) asked-carried
       ∙ ap (λ (k : Kept). readerOf (lineOf (panel .setup)) (afterReport (rulesOf panel) k)) (sym kept-same)
 
 -- what asking hands over is the report that waits
@@ -72,11 +72,11 @@ handing-hands panel words room a told rules (bad body) is payload = rw is
 handing-hands panel words room a told rules (accepted body) is payload =
     let content = drop 1 (contentOf (rules .checking) body) in
     let same : take (length content) (a .payload) ≡ content =
-    ap (take (length content)) payload ∙ take-padded 254 (length content) content refl in
+    ap (take (length content)) payload ∙ take-padded mostPayload (length content) content refl in
     rw (is, same)
 
-pub ask-hands : (now : Moment) (kept : Kept) → now .panel .reader ≡ readerOf (lineOf (now .panel .setup)) kept → length (kept .bytes) ≤ 258
-    → length (now .words) ≡ 28672 → 265 ≤ length (now .room) → handedOver now ask ≡ handed (rulesOf (now .panel)) kept
+pub ask-hands : (now : Moment) (kept : Kept) → now .panel .reader ≡ readerOf (lineOf (now .panel .setup)) kept → length (kept .bytes) ≤ longestFrame
+    → length (now .words) ≡ wordCount → leastRoom ≤ length (now .room) → handedOver now ask ≡ handed (rulesOf (now .panel)) kept
 unfolding handedOver reporting lent handed
 ask-hands now kept is few whole large =
     let line = lineOf (now .panel .setup) in
@@ -86,28 +86,28 @@ ask-hands now kept is few whole large =
       payload = payloadAs (handed rules kept);
       reader = readerOf line (afterReport rules kept);
     } = ap (λ (r : Reader). asked r) is ∙ ask-carried line kept few in
-    rw (eq-eqb (length (now .words)) 28672 whole, le-leb 265 (length (now .room)) large)
+    rw (eq-eqb (length (now .words)) wordCount whole, le-leb leastRoom (length (now .room)) large)
     (handing-hands (now .panel) (now .words) (now .room) (asked (now .panel .reader)) (asked (now .panel .reader) .report) rules
     (look rules (kept .closed) (kept .bytes)) (ap (λ (a : Asked). a .report) tells) (ap (λ (a : Asked). a .payload) tells))
 
 -- of a panel that is reached
-pub sound-ask-hands : (now : Moment) → Sound (now .panel) → length (now .words) ≡ 28672 → 265 ≤ length (now .room) → handedOver now ask ≡ waitingReport (now .panel)
+pub sound-ask-hands : (now : Moment) → Sound (now .panel) → length (now .words) ≡ wordCount → leastRoom ≤ length (now .room) → handedOver now ask ≡ waitingReport (now .panel)
 unfolding waitingReport
 sound-ask-hands now sound whole large =
     let long : length (keptOf (now .panel .reader) .bytes) ≡ length (sound .reads .kept .bytes) = ap (λ (k : Kept). length (k .bytes)) (kept-same (now .panel) sound) in
-    let few : length (keptOf (now .panel .reader) .bytes) ≤ 258 = omega (arith, sound .reads .reached .few) in
+    let few : length (keptOf (now .panel .reader) .bytes) ≤ longestFrame = omega (arith, sound .reads .reached .few) in
     ask-hands now (keptOf (now .panel .reader)) (reader-is (now .panel) sound) few whole large
 
 -- asking with words and room as they must be, where an accepted frame waits
-pub frame-reporting : (panel : Panel) (words room : List ℕ) → length words ≡ 28672 → 265 ≤ length room → (command count : ℕ)
+pub frame-reporting : (panel : Panel) (words room : List ℕ) → length words ≡ wordCount → leastRoom ≤ length room → (command count : ℕ)
     → asked (panel .reader) .report ≡ line.Accepted command count
     → reporting panel words room ≡ handing (asked (panel .reader)) (line.Accepted command count) panel words room
 unfolding reporting lent
 frame-reporting panel words room whole large command count told =
-    rw (eq-eqb (length words) 28672 whole, le-leb 265 (length room) large, told)
+    rw (eq-eqb (length words) wordCount whole, le-leb leastRoom (length room) large, told)
 
 -- it leaves the reader behind the frame
-pub ask-reads-on : (now : Moment) → length (now .words) ≡ 28672 → 265 ≤ length (now .room) → (command count : ℕ)
+pub ask-reads-on : (now : Moment) → length (now .words) ≡ wordCount → leastRoom ≤ length (now .room) → (command count : ℕ)
     → asked (now .panel .reader) .report ≡ line.Accepted command count → after now ask .panel .reader ≡ asked (now .panel .reader) .reader
 unfolding after handing
 ask-reads-on now whole large command count told =

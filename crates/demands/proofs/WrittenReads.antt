@@ -4,13 +4,14 @@ use mathlib.Core.Path.{_≡_, refl, sym, ap, _∙_}
 use mathlib.Core.Logic.{_⊎_, inl, inr}
 use mathlib.Core.Bool.{true}
 use mathlib.Core.List.{List, [], _∷_, _++_}
-use Prim.Native.Nat.{ℕ, zero, suc, _+_, _-_, _%_, _≤_, _<_}
+use Prim.Native.Nat.{ℕ, zero, suc, _+_, _%_, _≤_, _<_}
 use native.Mathlib.Omega.{arith}
 use lib.ListN.{length, take, drop, length-drop}
 use lib.Seq.{ext-getD, getD-drop, getD-take}
 use Rattle.wire.specs.Bytes.{Bytes}
 use Rattle.wire.specs.ByteOrder.{highByte, lowByte, byteAt, wordAt}
 use Rattle.wire.specs.Room.{over}
+use Rattle.wire.specs.Addresses.{registerCount, wordCount}
 use Rattle.frame.specs.Frame.{frameOf}
 use Rattle.reading.specs.Place.{acceptedFrame}
 use Rattle.reading.proofs.ByteLists.{bytes-drop}
@@ -30,12 +31,13 @@ use Rattle.panel.specs.Reachable.{Reachable, by-report}
 use Rattle.panel.proofs.Invariant.{always-256-registers}
 use Rattle.demands.specs.Calls.{Moment, Call, ask, after, afterAll, numberGiven, handedOver, AllTyped}
 use Rattle.demands.specs.Reports.{acknowledgementOf}
-use Rattle.demands.specs.Demand2.{NamesWord, NamesRegister, Some, replied, leaving, afterWrite, afterRead, afterStore, afterFetch}
+use Rattle.demands.specs.Demand2.{NamesWord, NamesRegister, Some, withReply, leaving, afterWrite, afterRead, afterStore, afterFetch}
 use Rattle.demands.proofs.Calls.{calls-reached}
 use Rattle.demands.proofs.ReadsDone.{read-of-written-is-done, fetch-of-stored-is-done}
 use Rattle.demands.proofs.Contents.{content-bytes}
 use Rattle.demands.proofs.Named.{word-stays-or-is-named, register-stays-or-is-named}
-use Rattle.demands.proofs.Access.{handed-asks, is-done, writes-registers, stores-words, reads-registers, fetches-words}
+use Rattle.demands.proofs.FrameAsked.{handed-asks}
+use Rattle.demands.proofs.Access.{is-done, writes-registers, writes-words, reads-registers, reads-words}
 
 -- registers that agree over a run read alike
 same-run : (a b : Registers) (n address : ℕ) → ((i : ℕ) → i < n → registerAt a (address + i) ≡ registerAt b (address + i))
@@ -59,7 +61,7 @@ not-named (inr b) none = absurd (none b)
 module _ (now : Moment) (reached : Reachable (now .panel)) (content : List ℕ) (writes : handedOver now ask ≡ acceptedFrame 0x80 content ∷ [])
     (done : numberGiven now ask ≡ 0) (calls : List Call) (typed : AllTyped calls)
     (none : (i : ℕ) → i < length (drop 1 content) → Some (λ then call. NamesRegister then (byteAt content 0 + i) call) (after now ask) calls → ⊥) where
-  fits-registers : byteAt content 0 + length (drop 1 content) ≤ 256
+  fits-registers : byteAt content 0 + length (drop 1 content) ≤ registerCount
   unfolding outcome
   fits-registers = registers-passed (now .panel .setup .pages) content (is-done now reached content done 0x80 (handed-asks now 0x80 content writes)) .fits
 
@@ -82,7 +84,7 @@ module _ (now : Moment) (reached : Reachable (now .panel)) (content : List ℕ) 
   pub what-80-wrote-81-replies :
       handedOver (afterAll (after now ask) calls) ask ≡ acceptedFrame 0x81 (byteAt content 0 ∷ length (drop 1 content) ∷ []) ∷ []
       → after (afterAll (after now ask) calls) ask .room
-      ≡ replied (afterAll (after now ask) calls) 0x81 (byteAt content 0 ∷ length (drop 1 content) ∷ drop 1 content)
+      ≡ withReply (afterAll (after now ask) calls) 0x81 (byteAt content 0 ∷ length (drop 1 content) ∷ drop 1 content)
   unfolding afterRead leaving
   what-80-wrote-81-replies reads =
       let then = afterAll (after now ask) calls in
@@ -114,18 +116,18 @@ module _ (now : Moment) (reached : Reachable (now .panel)) (content : List ℕ) 
   abbrev then : Moment
   then = afterAll (after now ask) calls
 
-  passed : WordsPassed 28672 content
+  passed : WordsPassed wordCount content
   unfolding outcome
-  passed = words-passed 28672 content (is-done now reached content done 0x82 (handed-asks now 0x82 content writes))
+  passed = words-passed wordCount content (is-done now reached content done 0x82 (handed-asks now 0x82 content writes))
 
   fits-words : wordAt content 0 + n ≤ length (now .words)
   fits-words = let whole = handed-asks now 0x82 content writes .whole in omega (arith, passed .fits)
 
   words-now : after now ask .words ≡ wordsWritten (now .words) (wordAt content 0) (drop 2 content)
   unfolding afterStore leaving
-  words-now = ap (λ (m : Moment). m .words) (stores-words now reached content done writes)
+  words-now = ap (λ (m : Moment). m .words) (writes-words now reached content done writes)
 
-  words-still : length (then .words) ≡ 28672 → wordRun (then .words) (wordAt content 0) n ≡ wordsOf (drop 2 content)
+  words-still : length (then .words) ≡ wordCount → wordRun (then .words) (wordAt content 0) n ≡ wordsOf (drop 2 content)
   words-still whole =
       let long : length (after now ask .words) ≡ length (now .words) =
       ap length words-now ∙ still-as-many (now .words) (drop 2 content) (wordAt content 0) fits-words in
@@ -140,7 +142,7 @@ module _ (now : Moment) (reached : Reachable (now .panel)) (content : List ℕ) 
       ≡ acceptedFrame 0x83 (byteAt content 0 ∷ byteAt content 1 ∷ length (wordsOf (drop 2 content)) ∷ []) ∷ []
       → length (wordsOf (drop 2 content)) ≤ 124
       → after (afterAll (after now ask) calls) ask .room
-      ≡ replied (afterAll (after now ask) calls) 0x83 (byteAt content 0 ∷ byteAt content 1 ∷ length (wordsOf (drop 2 content)) ∷ drop 2 content)
+      ≡ withReply (afterAll (after now ask) calls) 0x83 (byteAt content 0 ∷ byteAt content 1 ∷ length (wordsOf (drop 2 content)) ∷ drop 2 content)
   unfolding afterFetch leaving after
   what-82-wrote-83-replies reads few =
       let setup = then .panel .setup in
@@ -155,6 +157,6 @@ module _ (now : Moment) (reached : Reachable (now .panel)) (content : List ℕ) 
       let even : length (drop 2 content) % 2 ≡ 0 = simp length-drop (omega (arith, passed .even, passed .long)) in
       let run : bytesOf (wordRun (then .words) (wordAt content 0) n) ≡ drop 2 content =
       ap bytesOf (words-still (handed-asks then 0x83 question reads .whole)) ∙ bytesOf-wordsOf (drop 2 content) rest even in
-      ap (λ (m : Moment). m .room) (fetches-words then there question answered reads)
+      ap (λ (m : Moment). m .room) (reads-words then there question answered reads)
       ∙ ap (λ (data′ : List ℕ). over (acknowledgementOf setup 0x83 true ++ frameOf (checkingOf setup) (headerOf setup) 0x83 data′) (then .room))
       (rw (first, second, run))

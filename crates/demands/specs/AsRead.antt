@@ -4,6 +4,9 @@ use mathlib.Core.Path.{_≡_}
 use mathlib.Core.Bool.{false}
 use mathlib.Core.List.{List, _++_}
 use lib.ListN.{length, replicate}
+use Rattle.wire.specs.Addresses.{wordCount}
+use Rattle.frame.specs.Frame.{longestFrame}
+use Rattle.frame.specs.Writer.{leastRoom}
 use Rattle.reading.specs.Place.{Report}
 use Rattle.reading.specs.Stretch.{reports}
 use Rattle.reading.specs.Line.{lineReports}
@@ -53,8 +56,8 @@ AlwaysAsRead =
 -- that no report waits, and 258 asks are enough for it
 pub record AskedUntilNothing (now : Moment) : Type 0 where
   pub nothing-waits : reporting (now .panel) (now .words) (now .room) .reported .handed ≡ handed.Nothing → reportWaits (now .panel) ≡ false
-  pub comes : reportWaits (afterAll now (replicate 258 ask) .panel) ≡ false
+  pub comes : reportWaits (afterAll now (replicate longestFrame ask) .panel) ≡ false
 
 abbrev pub AlwaysUntilNothing : Type 0
 AlwaysUntilNothing =
-    (now : Moment) → Arises now → length (now .words) ≡ 28672 → 265 ≤ length (now .room) → AskedUntilNothing now
+    (now : Moment) → Arises now → length (now .words) ≡ wordCount → leastRoom ≤ length (now .room) → AskedUntilNothing now

@@ -65,9 +65,9 @@ afterAll now (call ∷ calls) = afterAll (after now call) calls
 -- "Numbers given back": what a call is answered. Of bytes one after the other the one that is not taken is answered 1.
 unfoldable pub numberGiven : Moment → Call → ℕ
 numberGiven now (lend words room) = 0
-numberGiven now (byte b) = Line.numberOf (fedByte (now .panel) b .answer)
+numberGiven now (byte b) = Line.numberOfAnswer (fedByte (now .panel) b .answer)
 numberGiven now (bytes bs) = cond (eqb (fedBytes (now .panel) bs .used) (length bs)) 0 1
-numberGiven now mark = Line.numberOf (fedMark (now .panel) .answer)
+numberGiven now mark = Line.numberOfAnswer (fedMark (now .panel) .answer)
 numberGiven now ask = reportNumber (reporting (now .panel) (now .words) (now .room) .reported .handed)
 numberGiven now (contact table x y) = contactNumber (contacting (now .panel) table (now .words) x y .contacted .answer)
 numberGiven now lift = liftNumber (lifting (now .panel) .answer)

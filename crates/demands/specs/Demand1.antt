@@ -11,7 +11,9 @@ use lib.Dec.{eqb, ltb}
 use lib.ListN.{length, drop}
 use Rattle.wire.specs.Room.{over}
 use Rattle.wire.specs.ByteOrder.{byteAt, wordAt}
+use Rattle.wire.specs.Addresses.{registerCount, wordCount}
 use Rattle.frame.specs.Frame.{mostData}
+use Rattle.frame.specs.Writer.{leastRoom}
 use Rattle.reading.specs.Place.{Report, badCheck, acceptedFrame}
 use Rattle.registers.specs.Run.{unwritableRun, wrongValue}
 use Rattle.registers.specs.Touched.{isDown, isTouchOff}
@@ -89,10 +91,10 @@ wrongData command content =
 unfoldable pub passesEnd : ℕ → List ℕ → Bool
 passesEnd command content =
     byCommand command
-    (ltb 256 (byteAt content 0 + length (drop 1 content)))
-    (ltb 256 (byteAt content 0 + byteAt content 1))
-    (ltb 28672 (wordAt content 0 + length (wordsOf (drop 2 content))))
-    (ltb 28672 (wordAt content 0 + byteAt content 2))
+    (ltb registerCount (byteAt content 0 + length (drop 1 content)))
+    (ltb registerCount (byteAt content 0 + byteAt content 1))
+    (ltb wordCount (wordAt content 0 + length (wordsOf (drop 2 content))))
+    (ltb wordCount (wordAt content 0 + byteAt content 2))
 
 -- 5: "a write touches an unwritable register or half the page"
 unfoldable pub touchesUnwritable : ℕ → List ℕ → Bool
@@ -113,10 +115,10 @@ replyPasses checking command content =
 
 -- 14: "words lent aren't 28,672, or reply .. room below 265"
 unfoldable pub wordsNotLent : List ℕ → Bool
-wordsNotLent words = not (eqb (length words) 28672)
+wordsNotLent words = not (eqb (length words) wordCount)
 
 unfoldable pub roomTooSmall : List ℕ → Bool
-roomTooSmall room = ltb (length room) 265
+roomTooSmall room = ltb (length room) leastRoom
 
 -- 12: "table longer than 128 records or not whole records". "records of 32 bytes"
 unfoldable pub notWholeRecords : List ℕ → Bool
@@ -186,11 +188,11 @@ pub record OnlyHandedOver (now later : Moment) : Type 0 where
   pub only-acknowledged : later .room ≡ over (acknowledgementOf (now .panel .setup) command true) (now .room)
 
 -- what a refused call leaves, by its number
-pub data Leaves (now : Moment) : Call → Type 0 where
+pub data RefusalLeaves (now : Moment) : Call → Type 0 where
   -- 2 to 7: "answers beside a frame's report, which counts as handed over, and its acknowledgement is written"
-  only-handed-over : 2 ≤ numberGiven now ask → numberGiven now ask ≤ 7 → OnlyHandedOver now (after now ask) → Leaves now ask
+  only-handed-over : 2 ≤ numberGiven now ask → numberGiven now ask ≤ 7 → OnlyHandedOver now (after now ask) → RefusalLeaves now ask
   -- "otherwise a refusal changes nothing"
-  as-it-stood : (call : Call) → (numberGiven now call ≡ 1) ⊎ (8 ≤ numberGiven now call) → after now call ≡ now → Leaves now call
+  as-it-stood : (call : Call) → (numberGiven now call ≡ 1) ⊎ (8 ≤ numberGiven now call) → after now call ≡ now → RefusalLeaves now call
   -- of bytes one after the other, those in front were taken one by one, and the next comes while a report waits
   as-those-taken : (bs taken : List ℕ) (b : ℕ) (rest : List ℕ) → bs ≡ taken ++ (b ∷ rest) → after now (bytes bs) ≡ afterAll now (map byte taken)
-      → reportWaits (after now (bytes bs) .panel) ≡ true → Leaves now (bytes bs)
+      → reportWaits (after now (bytes bs) .panel) ≡ true → RefusalLeaves now (bytes bs)

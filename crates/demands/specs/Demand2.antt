@@ -60,7 +60,7 @@ pub data NamesRegister (now : Moment) (address : ℕ) : Call → Type 0 where
       → found table (pageOf (now .panel .registers)) x y ≡ At i r → noNext r ≡ false → (address ≡ 0x03) ⊎ (address ≡ 0x04)
       → NamesRegister now address (contact table x y)
   -- "Lift: status 02"
-  by-lift : numberGiven now lift ≡ 0 → address ≡ 0x06 → NamesRegister now address lift
+  by-lifting : numberGiven now lift ≡ 0 → address ≡ 0x06 → NamesRegister now address lift
 
 -- some call of a sequence does so
 pub data Some (P : Moment → Call → Type 0) : Moment → List Call → Type 0 where
@@ -75,8 +75,8 @@ pub record ReadsBack (now : Moment) (frame : List ℕ) (command : ℕ) (payload 
   pub nothing-left : keptOf (after (after now (bytes frame)) ask .panel .reader) ≡ fresh
 
 -- "The reply follows the acknowledgement at once in the same room. .. bytes past the reported count stay.": the room with a reply of this command and data
-abbrev pub replied : Moment → (command : ℕ) → (payload : List ℕ) → List ℕ
-replied now command payload =
+abbrev pub withReply : Moment → (command : ℕ) → (payload : List ℕ) → List ℕ
+withReply now command payload =
     let setup = now .panel .setup in
     over (acknowledgementOf setup command true ++ frameOf (checkingOf setup) (headerOf setup) command payload) (now .room)
 
@@ -148,10 +148,10 @@ afterCommand now command content =
 
 -- All that asking can leave, by what it hands over and the number it is answered: nothing, a bad check, a command that is refused, or one that is done.
 pub data AskLeaves (now : Moment) : Type 0 where
-  nothing : handedOver now ask ≡ [] → (numberGiven now ask ≡ 0) ⊎ (numberGiven now ask ≡ 14) → after now ask ≡ now → AskLeaves now
-  bad-check : (command : ℕ) → handedOver now ask ≡ badCheck command ∷ [] → numberGiven now ask ≡ 0 → after now ask ≡ afterBadCheck now command
+  hands-nothing : handedOver now ask ≡ [] → (numberGiven now ask ≡ 0) ⊎ (numberGiven now ask ≡ 14) → after now ask ≡ now → AskLeaves now
+  hands-bad-check : (command : ℕ) → handedOver now ask ≡ badCheck command ∷ [] → numberGiven now ask ≡ 0 → after now ask ≡ afterBadCheck now command
       → AskLeaves now
-  refused : (command : ℕ) (content : List ℕ) → handedOver now ask ≡ acceptedFrame command content ∷ [] → 2 ≤ numberGiven now ask → numberGiven now ask ≤ 7
+  refuses-command : (command : ℕ) (content : List ℕ) → handedOver now ask ≡ acceptedFrame command content ∷ [] → 2 ≤ numberGiven now ask → numberGiven now ask ≤ 7
       → after now ask ≡ leaving now command (now .panel .registers) (now .panel .catch) (now .words) [] → AskLeaves now
-  done : (command : ℕ) (content : List ℕ) → handedOver now ask ≡ acceptedFrame command content ∷ [] → numberGiven now ask ≡ 0
+  does-command : (command : ℕ) (content : List ℕ) → handedOver now ask ≡ acceptedFrame command content ∷ [] → numberGiven now ask ≡ 0
       → 0x80 ≤ command → command ≤ 0x83 → after now ask ≡ afterCommand now command content → AskLeaves now

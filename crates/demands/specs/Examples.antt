@@ -6,8 +6,10 @@ use mathlib.Core.Bool.{Bool, true, false}
 use mathlib.Core.List.{List, [], _∷_, _++_, map}
 use lib.IntN.{ℤ, pos, negℤ}
 use lib.ListN.{replicate}
+use Rattle.wire.specs.Addresses.{wordCount}
 use Rattle.check_value.specs.CheckValue.{checkValue}
 use Rattle.frame.specs.Acknowledgement.{acknowledgement}
+use Rattle.frame.specs.Writer.{leastRoom}
 use Rattle.reading.specs.Place.{Report, acceptedFrame}
 use Rattle.reading.specs.Line.{byte, mark, lineReports}
 use Rattle.reading.specs.Demand3.{checked}
@@ -27,16 +29,16 @@ use Rattle.panel.specs.Reporting.{Reporting, reporting}
 pub data Row : Type 0 where
   number : (given printed : ℕ) → Row
   whole : (given printed : ℤ) → Row
-  bytes : (given printed : List ℕ) → Row
-  reports : (given printed : List Report) → Row
-  answers : (given printed : List Handed) → Row
+  frame : (given printed : List ℕ) → Row
+  reading : (given printed : List Report) → Row
+  answered : (given printed : List Handed) → Row
 
 abbrev pub Right : Row → Type 0
 Right (number given printed) = given ≡ printed
 Right (whole given printed) = given ≡ printed
-Right (bytes given printed) = given ≡ printed
-Right (reports given printed) = given ≡ printed
-Right (answers given printed) = given ≡ printed
+Right (frame given printed) = given ≡ printed
+Right (reading given printed) = given ≡ printed
+Right (answered given printed) = given ≡ printed
 
 abbrev pub AllRight : List Row → Type 0
 AllRight [] = Unit {0}
@@ -51,26 +53,26 @@ abbrev pub startedWith : (flags : ℕ) → Panel
 startedWith flags = started (record { h1 = 0x5A; h2 = 0xA5; flags = flags; pages = 2; width = 800; height = 480 }) [] .panel
 
 -- asking it for a report, lent 28,672 words of 0 and a reply room of 265 bytes
-abbrev pub ask : Panel → Reporting
-ask panel = reporting panel (replicate 28672 0) (replicate 265 0)
+abbrev pub asking : Panel → Reporting
+asking panel = reporting panel (replicate wordCount 0) (replicate leastRoom 0)
 
 -- e, to a panel: the bytes and the mark are given, then two reports are asked for
 abbrev pub noiseAndRead : List ℕ
 noiseAndRead = 0x5A ∷ 0xA5 ∷ 0x40 ∷ 0x5A ∷ 0xA5 ∷ 0x05 ∷ 0x81 ∷ 0x00 ∷ 0x01 ∷ 0xE0 ∷ 0x28 ∷ []
 
 abbrev pub firstAsked : Reporting
-firstAsked = ask (fedMark (fedBytes (startedWith 1) noiseAndRead .panel) .panel)
+firstAsked = asking (fedMark (fedBytes (startedWith 1) noiseAndRead .panel) .panel)
 
 abbrev pub secondAsked : Reporting
-secondAsked = ask (firstAsked .reported .panel)
+secondAsked = asking (firstAsked .reported .panel)
 
 -- f, to a panel: the bytes are given, then a report is asked for
-abbrev pub written : Reporting
-written = ask (fedBytes (startedWith 0) (0x5A ∷ 0xA5 ∷ 0x05 ∷ 0x82 ∷ 0x00 ∷ 0x10 ∷ 0x01 ∷ 0xF4 ∷ []) .panel)
+abbrev pub writeAsked : Reporting
+writeAsked = asking (fedBytes (startedWith 0) (0x5A ∷ 0xA5 ∷ 0x05 ∷ 0x82 ∷ 0x00 ∷ 0x10 ∷ 0x01 ∷ 0xF4 ∷ []) .panel)
 
 -- g: a step upward on a whole word
-abbrev pub up : (value step least greatest : ℕ) (round : Bool) → ℕ
-up value step least greatest round = stepStores 0 value true round step least greatest
+abbrev pub stepUp : (value step least greatest : ℕ) (round : Bool) → ℕ
+stepUp value step least greatest round = stepStores 0 value true round step least greatest
 
 -- h to j: a slider from 100 to 300 on a whole word, whose begin, end and stored word are read as signed numbers
 abbrev pub slider : (begin end : ℤ) (at : ℕ) → ℤ
@@ -83,17 +85,17 @@ examples =
     -- b. "Check of 81 00 01: 28E0."
     number (checkValue (0x81 ∷ 0x00 ∷ 0x01 ∷ [])) 0x28E0 ∷
     -- c. "Good acknowledgement 5A A5 04 81 FF 21 A0."
-    bytes (acknowledgement header 0x81 true) (0x5A ∷ 0xA5 ∷ 0x04 ∷ 0x81 ∷ 0xFF ∷ 0x21 ∷ 0xA0 ∷ []) ∷
+    frame (acknowledgement header 0x81 true) (0x5A ∷ 0xA5 ∷ 0x04 ∷ 0x81 ∷ 0xFF ∷ 0x21 ∷ 0xA0 ∷ []) ∷
     -- d. "Bad one 5A A5 04 81 00 61 E0."
-    bytes (acknowledgement header 0x81 false) (0x5A ∷ 0xA5 ∷ 0x04 ∷ 0x81 ∷ 0x00 ∷ 0x61 ∷ 0xE0 ∷ []) ∷
+    frame (acknowledgement header 0x81 false) (0x5A ∷ 0xA5 ∷ 0x04 ∷ 0x81 ∷ 0x00 ∷ 0x61 ∷ 0xE0 ∷ []) ∷
     -- e. "Checking on: 5A A5 40, 5A A5 05 81 00 01 E0 28, quiet: one accepted 81.": of the reading, and of a panel, which replies 9 bytes
-    reports (lineReports (checked 0x5A 0xA5) (map byte noiseAndRead ++ (mark ∷ []))) (acceptedFrame 0x81 (0x00 ∷ 0x01 ∷ []) ∷ []) ∷
-    answers (firstAsked .reported .handed ∷ secondAsked .reported .handed ∷ []) (handed.Accepted 0x81 2 Done 0 9 ∷ handed.Nothing ∷ []) ∷
+    reading (lineReports (checked 0x5A 0xA5) (map byte noiseAndRead ++ (mark ∷ []))) (acceptedFrame 0x81 (0x00 ∷ 0x01 ∷ []) ∷ []) ∷
+    answered (firstAsked .reported .handed ∷ secondAsked .reported .handed ∷ []) (handed.Accepted 0x81 2 Done 0 9 ∷ handed.Nothing ∷ []) ∷
     -- f. "Checking off, 5A A5 05 82 00 10 01 F4: word 0010 becomes 500."
-    number (wordAtAddress (written .words) 0x0010) 500 ∷
+    number (wordAtAddress (writeAsked .words) 0x0010) 500 ∷
     -- g. "98 up 5 in 0..100: stop 100, round 0."
-    number (up 98 5 0 100 false) 100 ∷
-    number (up 98 5 0 100 true) 0 ∷
+    number (stepUp 98 5 0 100 false) 100 ∷
+    number (stepUp 98 5 0 100 true) 0 ∷
     -- h. "Slider 100..300, 0 to 1000, at 101: 5; 1000 to 0: 995."
     whole (slider (pos 0) (pos 1000) 101) (pos 5) ∷
     whole (slider (pos 1000) (pos 0) 101) (pos 995) ∷

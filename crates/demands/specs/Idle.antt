@@ -33,50 +33,50 @@ ReadsFirstStretchOnly handsOver =
     (first : Moment) (earlier : List Call) (before behind : List Input) → givenAll first earlier ≡ before ++ (Line.mark ∷ behind)
     → (calls : List Call) → acceptedOf (handsOver (afterAll first earlier) calls) ≡ []
 
--- Commands, demand 2. What a build leaves of panel, words and room when a report is asked for; ours is `asked`.
-abbrev pub Leaves : Type 0
-Leaves = Moment → Moment
+-- Commands, demand 2. What a build leaves of panel, words and room when a report is asked for; ours is `leftByAsking`.
+abbrev pub LeftByAsking : Type 0
+LeftByAsking = Moment → Moment
 
-abbrev pub asked : Leaves
-asked now = after now ask
+abbrev pub leftByAsking : LeftByAsking
+leftByAsking now = after now ask
 
 -- demand 2, "register and word access": what a command that is handed over and done leaves
-pub record DoesCommands (leaves : Leaves) : Type 0 where
+pub record DoesCommands (left : LeftByAsking) : Type 0 where
   pub writes : (now : Moment) → Arises now → (content : List ℕ) → numberGiven now ask ≡ 0
-      → handedOver now ask ≡ acceptedFrame 0x80 content ∷ [] → leaves now ≡ afterWrite now content
+      → handedOver now ask ≡ acceptedFrame 0x80 content ∷ [] → left now ≡ afterWrite now content
   pub reads : (now : Moment) → Arises now → (content : List ℕ) → numberGiven now ask ≡ 0
-      → handedOver now ask ≡ acceptedFrame 0x81 content ∷ [] → leaves now ≡ afterRead now content
+      → handedOver now ask ≡ acceptedFrame 0x81 content ∷ [] → left now ≡ afterRead now content
   pub stores : (now : Moment) → Arises now → (content : List ℕ) → numberGiven now ask ≡ 0
-      → handedOver now ask ≡ acceptedFrame 0x82 content ∷ [] → leaves now ≡ afterStore now content
+      → handedOver now ask ≡ acceptedFrame 0x82 content ∷ [] → left now ≡ afterStore now content
   pub fetches : (now : Moment) → Arises now → (content : List ℕ) → numberGiven now ask ≡ 0
-      → handedOver now ask ≡ acceptedFrame 0x83 content ∷ [] → leaves now ≡ afterFetch now content
+      → handedOver now ask ≡ acceptedFrame 0x83 content ∷ [] → left now ≡ afterFetch now content
 
 -- "refusing every frame": each command is handed over and acknowledged, and does nothing else
-abbrev pub RefusesEveryCommand : Leaves → Type 0
-RefusesEveryCommand leaves =
+abbrev pub RefusesEveryCommand : LeftByAsking → Type 0
+RefusesEveryCommand left =
     (now : Moment) (command : ℕ) (content : List ℕ) → handedOver now ask ≡ acceptedFrame command content ∷ []
-    → leaves now ≡ leaving now command (now .panel .registers) (now .panel .catch) (now .words) []
+    → left now ≡ leaving now command (now .panel .registers) (now .panel .catch) (now .words) []
 
 -- "replying alike to all reads" by this command: the room that is left does not go by what is asked for or by what stands there
-abbrev pub RepliesAlike : (command : ℕ) → Leaves → Type 0
-RepliesAlike command leaves =
+abbrev pub RepliesAlike : (command : ℕ) → LeftByAsking → Type 0
+RepliesAlike command left =
     (one other : Moment) (content content′ : List ℕ) → handedOver one ask ≡ acceptedFrame command content ∷ []
-    → handedOver other ask ≡ acceptedFrame command content′ ∷ [] → one .room ≡ other .room → leaves one .room ≡ leaves other .room
+    → handedOver other ask ≡ acceptedFrame command content′ ∷ [] → one .room ≡ other .room → left one .room ≡ left other .room
 
 -- "taking frames without storing": asking changes no register; it changes no word
-abbrev pub StoresNoRegister : Leaves → Type 0
-StoresNoRegister leaves = (now : Moment) → leaves now .panel .registers ≡ now .panel .registers
+abbrev pub StoresNoRegister : LeftByAsking → Type 0
+StoresNoRegister left = (now : Moment) → left now .panel .registers ≡ now .panel .registers
 
-abbrev pub StoresNoWord : Leaves → Type 0
-StoresNoWord leaves = (now : Moment) → leaves now .words ≡ now .words
+abbrev pub StoresNoWord : LeftByAsking → Type 0
+StoresNoWord left = (now : Moment) → left now .words ≡ now .words
 
 -- a build that is none of the four
-pub record NotIdle (handsOver : HandsOver) (leaves : Leaves) : Type 0 where
+pub record NotIdle (handsOver : HandsOver) (left : LeftByAsking) : Type 0 where
   pub accepts-frames : RefusesEveryFrame handsOver → ⊥
-  pub does-commands : RefusesEveryCommand leaves → ⊥
-  pub replies-by-registers : RepliesAlike 0x81 leaves → ⊥
-  pub replies-by-words : RepliesAlike 0x83 leaves → ⊥
-  pub stores-registers : StoresNoRegister leaves → ⊥
-  pub stores-words : StoresNoWord leaves → ⊥
+  pub does-commands : RefusesEveryCommand left → ⊥
+  pub replies-by-registers : RepliesAlike 0x81 left → ⊥
+  pub replies-by-words : RepliesAlike 0x83 left → ⊥
+  pub stores-registers : StoresNoRegister left → ⊥
+  pub stores-words : StoresNoWord left → ⊥
   pub reads-on-behind-a-frame : ReadsFirstFrameOnly handsOver → ⊥
   pub reads-on-behind-a-stretch : ReadsFirstStretchOnly handsOver → ⊥

@@ -3,6 +3,8 @@
 use Prim.Native.Nat.{ℕ, zero, suc}
 use mathlib.Core.List.{List, [], _∷_, _++_}
 use lib.ListN.{replicate}
+use Rattle.wire.specs.Addresses.{wordCount}
+use Rattle.frame.specs.Writer.{leastRoom}
 use Rattle.reading.specs.Place.{Report, acceptedFrame}
 use Rattle.touch.specs.declared.Setup.{Setup}
 use Rattle.demands.specs.Calls.{Moment, Call, bytes, ask, begun}
@@ -15,11 +17,11 @@ abbrev pub readVersion : Report
 readVersion = acceptedFrame 0x81 (0x00 ∷ 0x01 ∷ [])
 
 -- a panel of 01's trace example, checking on, started with an empty table and lent what it must be
-abbrev pub setup : Setup
-setup = record { h1 = 0x5A; h2 = 0xA5; flags = 1; pages = 2; width = 800; height = 480 }
+abbrev pub storySetup : Setup
+storySetup = record { h1 = 0x5A; h2 = 0xA5; flags = 1; pages = 2; width = 800; height = 480 }
 
 abbrev pub new : Moment
-new = begun setup [] (replicate 28672 0) (replicate 265 0)
+new = begun storySetup [] (replicate wordCount 0) (replicate leastRoom 0)
 
 -- two header bytes and a length byte: the head of a frame of 67 bytes that never existed
 abbrev pub noise : List ℕ

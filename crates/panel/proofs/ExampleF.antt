@@ -8,7 +8,7 @@ use borrow.Author.Tests.{le-leb, eq-eqb}
 use lib.ListN.{length, take, drop}
 use Rattle.frame.specs.Frame.{headerBytes, checkLength, leastLength, contentOf, rightCheck}
 use Rattle.frame.specs.Writer.{leastRoom}
-use Rattle.reading.specs.Place.{look, behind, afterHeader, judged, cutShort}
+use Rattle.reading.specs.Place.{look, behind, afterHeader, decidedByCheck, cutShort}
 use Rattle.reading.specs.Moves.{isPass, passes, stillClosed, settled, withByte}
 use Rattle.line.specs.declared.Asked.{Asked}
 use Rattle.line.specs.declared.Report.the-variants as line
@@ -47,11 +47,11 @@ stored-500 pages width height lent long a is =
 
 module _ (pages width height : ℕ) where
   frame-read : asked (exampleFed pages width height .reader) .report ≡ line.Accepted 0x82 4
-  unfolding fedBytes newPanel givenBytes givenByte asked padded headerBytes checkLength leastLength contentOf rightCheck look behind afterHeader judged cutShort isPass passes stillClosed settled withByte
+  unfolding fedBytes newPanel givenBytes givenByte asked padded headerBytes checkLength leastLength contentOf rightCheck look behind afterHeader decidedByCheck cutShort isPass passes stillClosed settled withByte
   frame-read = refl
 
   data-read : take 4 (asked (exampleFed pages width height .reader) .payload) ≡ exampleData
-  unfolding fedBytes newPanel givenBytes givenByte asked padded headerBytes checkLength leastLength contentOf rightCheck look behind afterHeader judged cutShort isPass passes stillClosed settled withByte
+  unfolding fedBytes newPanel givenBytes givenByte asked padded headerBytes checkLength leastLength contentOf rightCheck look behind afterHeader decidedByCheck cutShort isPass passes stillClosed settled withByte
   data-read = refl
 
   -- the frame has come whole: asking with words and room as they must be sets word 0010 to 500

@@ -43,7 +43,7 @@ use Rattle.touch.specs.Setup.{goodSetup}
 use Rattle.touch.proofs.GoodFields.{left, right}
 use Rattle.contact.specs.declared.Catch.{Catch}
 use Rattle.contact.specs.declared.Catch.the-variants.{Free, Caught}
-use Rattle.contact.specs.Contact.{padOf}
+use Rattle.contact.specs.Contact.{padWith}
 use Rattle.contact.specs.Sound as Pad
 use Rattle.contact.proofs.Named.{other-register-stays, lift-only-status}
 use Rattle.contact.proofs.Soundness.{touched-sound, lifted-sound}
@@ -217,8 +217,8 @@ performed-allowed fixed registers command content lent whole below =
         })
 
 -- a command leaves the status, and drops the catch or leaves it
-pad-after : (setup : Setup) (before after : Registers) (catch : Catch) (drops : Bool) → Pad.Sound setup (padOf before catch) → Allowed (setup .pages) before after
-    → Pad.Sound setup (padOf after (catchAfter drops catch))
+pad-after : (setup : Setup) (before after : Registers) (catch : Catch) (drops : Bool) → Pad.Sound setup (padWith before catch) → Allowed (setup .pages) before after
+    → Pad.Sound setup (padWith after (catchAfter drops catch))
 unfolding writable
 pad-after setup before after catch drops sound allowed =
     record {

@@ -13,7 +13,7 @@ use Rattle.touch.specs.declared.Verdict.the-variants.{Good, NotRecords, Wrong}
 use Rattle.touch.specs.Judge.{judged}
 use Rattle.commands.specs.Lent.{Lent, lending}
 use Rattle.contact.specs.declared.Pad.{Pad}
-use Rattle.contact.specs.Contact.{Touching, leaves, touched, lifted}
+use Rattle.contact.specs.Contact.{Touching, touching, touched, lifted}
 use Rattle.panel.specs.declared.Panel.{Panel}
 use Rattle.panel.specs.declared.ContactAnswer.the-variants as contact
 use Rattle.panel.specs.declared.Contacted.{Contacted}
@@ -37,7 +37,7 @@ module _ (panel : Panel) (table words : List ℕ) (x y : ℕ) where
       unfolding contactOn
       number-8 is room = rw (sym is-off ∙ live, is)
 
-      pub contact-done : (pad : Pad) (next : Panel) (left : List ℕ) → onScreen (panel .setup) x y ≡ true → leaves pad left ≡ touched (padOf panel) table words x y
+      pub contact-done : (pad : Pad) (next : Panel) (left : List ℕ) → onScreen (panel .setup) x y ≡ true → touching pad left ≡ touched (padOf panel) table words x y
           → next ≡ withPad panel pad → (room : List ℕ) → contacts contact.Done next (lending left room) ≡ contactOn panel at (lending words room)
       unfolding contactOn
       contact-done pad next left is e is-next room =

@@ -22,7 +22,7 @@ use Rattle.commands.specs.Perform.{Performance, performance}
 use Rattle.contact.specs.declared.Catch.{Catch}
 use Rattle.contact.specs.declared.Catch.the-variants.{Free, Caught}
 use Rattle.contact.specs.declared.Pad.{Pad}
-use Rattle.contact.specs.Contact.{Touching, acting, pressed, dragging, kept, touched}
+use Rattle.contact.specs.Contact.{Touching, acting, pressed, dragging, heldDown, touched}
 use Rattle.panel.specs.declared.Panel.{Panel}
 use Rattle.panel.specs.State.{padOf, headerOf}
 use Rattle.panel.specs.Reporting.{Reporting, acknowledged, accepting, handing, reporting}
@@ -74,7 +74,7 @@ acted-words found.Nothing registers catch words x y = refl
 acted-words (found.At i r) registers catch words x y = length-set words (r .word) _
 
 touched-words : (pad : Pad) (table words : List ℕ) (x y : ℕ) → length (touched pad table words x y .words) ≡ length words
-unfolding touched kept pressed
+unfolding touched heldDown pressed
 touched-words pad table words x y =
     by-test (λ (t : Touching). length (t .words) ≡ length words) (isDown (pad .registers)) _ _
     (λ down. dragged-words (pad .catch) words x y)

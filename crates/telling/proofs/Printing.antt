@@ -127,7 +127,7 @@ module _ (h : Handed) (reply room : List ℕ) where
     bad-printed is e = e ∙ ap (λ (x : Handed). prints (reportText x reply) room) (sym is)
 
     module _ (count r n : ℕ) (outcome : Outcome) where
-      pub accepted-printed : h ≡ handed.Accepted command count outcome a r → n ≡ Outcome.numberOf outcome
+      pub accepted-printed : h ≡ handed.Accepted command count outcome a r → n ≡ Outcome.numberOfOutcome outcome
           → lays k left ≡ prints (lineText (line.Frame command n) ++ framesText a r reply) room → lays k left ≡ prints (reportText h reply) room
       unfolding reportText
       accepted-printed is is-n e =

@@ -18,7 +18,7 @@ reportText handed.NotLent room = []
 reportText handed.Nothing room = []
 reportText (handed.BadCheck command acknowledged) room = lineText (line.BadCheck command) ++ framesText acknowledged 0 room
 reportText (handed.Accepted command count outcome acknowledged replied) room =
-    lineText (line.Frame command (Outcome.numberOf outcome)) ++ framesText acknowledged replied room
+    lineText (line.Frame command (Outcome.numberOfOutcome outcome)) ++ framesText acknowledged replied room
 
 -- how long an acknowledgement and a reply were written
 unfoldable pub acknowledgedBy : Handed → ℕ

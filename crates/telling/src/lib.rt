@@ -4,7 +4,7 @@ ghost use mathlib.Core.List.{_++_};
 ghost use Prim.Native.Nat.{_≤_};
 ghost use lib.ListN.{length, take, drop};
 ghost use Rattle.wire.specs.Room.{lays};
-ghost use Rattle.commands.specs.Outcome.{numberOf};
+ghost use Rattle.commands.specs.Outcome.{numberOfOutcome};
 ghost use Rattle.panel.specs.Numbers.{contactNumber, liftNumber};
 ghost use Rattle.panel.specs.Inputs.{fedByte, fedMark};
 ghost use Rattle.panel.specs.Contacts.{lifting};
@@ -28,7 +28,7 @@ pub struct PanelPrinted {
 // ---- Lines
 
 fn outcome_number(o: Outcome) -> u8
-    ensures { λ r. ⌜ r ≡ numberOf o ⌝ }
+    ensures { λ r. ⌜ r ≡ numberOfOutcome o ⌝ }
 {
     match o {
         Outcome::Done => 0,

@@ -1,11 +1,11 @@
 -- `telling::outcome_number` meets its contract.
 use borrow.Author.Needs.{needs}
-use Rattle.commands.specs.Outcome.{numberOf}
+use Rattle.commands.specs.Outcome.{numberOfOutcome}
 use Rattle.telling.proofs.outcome_number.Statement.{statement}
 use Rattle.telling.proofs.outcome_number.Tie as tie
 
 pub outcome-number-spec : {M : Type 1} → statement M
-unfolding numberOf
+unfolding numberOfOutcome
 outcome-number-spec =
     tie.close
     (tie.spec

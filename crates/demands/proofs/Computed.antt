@@ -1,0 +1,94 @@
+-- The definitions that a panel is computed by, named once. To unfold one of the names below is to unfold all that stands on its line: a proof that runs calls
+-- on a panel unfolds `computingCalls`, and a definition that is new in a crate is added here alone.
+use Rattle.wire.specs.Room.{over, laid, laidAt}
+use Rattle.check_value.specs.CheckValue.{polynomial, bitStep, bitSteps, byteStep, checkFrom, checkValue}
+use Rattle.frame.specs.Frame.{headerBytes, checkLength, checkBytes, lengthByte, enclosed, framed, frameOf, leastLength, mostData, contentOf, rightCheck}
+use Rattle.frame.specs.Acknowledgement.{acknowledgementLength, verdict, acknowledgement}
+use Rattle.frame.specs.Writer.{frameLaid}
+use Rattle.reading.specs.Place as Place
+use Rattle.reading.specs.Place.{cutShort, afterHeader, behind, look, reportOf, goneBy, isWait}
+use Rattle.reading.specs.Stretch.{reports, reportsFrom}
+use Rattle.reading.specs.Line.{lineFrom, lineReports}
+use Rattle.reading.specs.Moves.{isPass, isReport, passes, stillClosed, settled, waiting, withByte, withMark}
+use Rattle.reading.specs.Demand3.{joined, reportOfFrame}
+use Rattle.line.specs.State.{padded}
+use Rattle.line.specs.Methods.{givenByte, givenMark, givenBytes, asked}
+use Rattle.stores.specs.Store.{inMode, signed, wordOf}
+use Rattle.stores.specs.Step.{stepped, fenced, stepStores}
+use Rattle.stores.specs.Slider.{nearest, roundedDown, slid, slidTo, sliderStores}
+use Rattle.touch.specs.Judge as Judge
+use Rattle.touch.specs.Table.{recordsFrom, firstOf}
+use Rattle.registers.specs.Table.{startRegisters, registerAt, registerRun, writable}
+use Rattle.registers.specs.Run as Run
+use Rattle.registers.specs.Run.{covers, allWritable, halfPage, unwritableRun, wrongValue, written}
+use Rattle.words.specs.Words.{wordAtAddress, wordsOf, bytesOf, wordRun, wordsWritten}
+use Rattle.commands.specs.Outcome.{numberOfOutcome, replyTooLong, writeRegistersOutcome, readRegistersOutcome, writeWordsOutcome, readWordsOutcome}
+use Rattle.commands.specs.Reply.{registersReply, wordsReply}
+use Rattle.commands.specs.Effect.{replying, registersReplying, wordsReplying, registersWritten, wordsWriting}
+use Rattle.commands.specs.Perform.{performance}
+use Rattle.panel.specs.Start.{newPanel, startJudged, started}
+use Rattle.panel.specs.Inputs.{fedBytes, fedMark}
+use Rattle.panel.specs.Reporting.{lent, acknowledged, accepting, handing, reporting}
+use Rattle.panel.specs.Numbers.{reportNumber}
+use Rattle.demands.specs.Calls.{after, afterAll, numberGiven, reportHanded, handedOver}
+use Rattle.demands.specs.Reports.{reportWaits, acknowledgementOf}
+use Rattle.demands.specs.Given as Given
+use Rattle.demands.specs.Given.{unlessRefused, givenAll}
+use Rattle.demands.specs.Demand2.{leaving, afterWrite, afterRead, afterStore, afterFetch}
+use Rattle.demands.specs.Story.{times}
+
+unfoldable pub computingCheckValues : Unit {0}
+unfolding polynomial bitStep bitSteps byteStep checkFrom checkValue
+computingCheckValues = tt
+
+unfoldable pub computingFrames : Unit {0}
+unfolding computingCheckValues over laid laidAt headerBytes checkLength checkBytes lengthByte enclosed framed frameOf leastLength mostData contentOf rightCheck frameLaid
+computingFrames = tt
+
+unfoldable pub computingAcknowledgements : Unit {0}
+unfolding computingFrames acknowledgementLength verdict acknowledgement
+computingAcknowledgements = tt
+
+unfoldable pub computingReading : Unit {0}
+unfolding computingFrames cutShort Place.decidedByCheck afterHeader behind look reportOf goneBy isWait reports reportsFrom lineFrom lineReports joined reportOfFrame
+computingReading = tt
+
+unfoldable pub computingReader : Unit {0}
+unfolding computingReading isPass isReport passes stillClosed settled waiting withByte withMark padded givenByte givenMark givenBytes asked
+computingReader = tt
+
+unfoldable pub computingStores : Unit {0}
+unfolding inMode signed wordOf stepped fenced stepStores nearest roundedDown slid slidTo sliderStores
+computingStores = tt
+
+unfoldable pub computingRegisters : Unit {0}
+unfolding laidAt startRegisters registerAt registerRun writable covers allWritable halfPage unwritableRun Run.given wrongValue written
+computingRegisters = tt
+
+unfoldable pub computingWords : Unit {0}
+unfolding laidAt wordAtAddress wordsOf bytesOf wordRun wordsWritten
+computingWords = tt
+
+unfoldable pub computingOutcomes : Unit {0}
+unfolding computingRegisters computingWords numberOfOutcome replyTooLong writeRegistersOutcome readRegistersOutcome writeWordsOutcome readWordsOutcome
+computingOutcomes = tt
+
+unfoldable pub computingCommands : Unit {0}
+unfolding computingOutcomes computingFrames registersReply wordsReply replying registersReplying wordsReplying registersWritten wordsWriting performance
+computingCommands = tt
+
+unfoldable pub computingStart : Unit {0}
+unfolding Judge.judged recordsFrom firstOf headerBytes newPanel startJudged started
+computingStart = tt
+
+unfoldable pub computingPanel : Unit {0}
+unfolding computingReader computingCommands computingStart fedBytes fedMark lent acknowledged accepting handing reporting reportNumber
+computingPanel = tt
+
+unfoldable pub computingEffects : Unit {0}
+unfolding acknowledgementOf leaving afterWrite afterRead afterStore afterFetch
+computingEffects = tt
+
+unfoldable pub computingCalls : Unit {0}
+unfolding computingPanel computingEffects times after afterAll numberGiven reportHanded handedOver reportWaits unlessRefused Given.given givenAll
+computingCalls = tt

@@ -1,0 +1,186 @@
+-- The numbers that go by a table, at a contact and at a start: 12, then 13; and 13 names the first wrong record.
+use mathlib.Core.Path.{_≡_, refl, ap, _∙_}
+use mathlib.Core.Bool.{Bool, true, false, cond, not, _&&_, _||_}
+use mathlib.Core.List.{List, [], _∷_}
+use Prim.Native.Nat.{ℕ, suc, _+_, _<_}
+use native.Mathlib.Omega.{arith}
+use lib.Dec.{eqb, ltb}
+use lib.ListN.{length}
+use Rattle.line.specs.Methods.{busy}
+use Rattle.line.proofs.Truths.{never}
+use Rattle.registers.specs.Touched.{isTouchOff}
+use Rattle.wire.specs.Addresses.{wordCount}
+use Rattle.touch.specs.declared.Setup.{Setup}
+use Rattle.touch.specs.declared.Record.{Record}
+use Rattle.touch.specs.declared.Found.{Found}
+use Rattle.touch.specs.declared.Found.the-variants.{Nothing, At}
+use Rattle.touch.specs.declared.Verdict.{Verdict}
+use Rattle.touch.specs.declared.Verdict.the-variants.{Good, NotRecords, Wrong}
+use Rattle.touch.specs.Setup.{goodSetup}
+use Rattle.touch.specs.Table.{firstOf, recordsOf}
+use Rattle.touch.specs.Judge.{goodRecord, wrong, namedWrong, notRecords, judged}
+use Rattle.contact.specs.Contact.{Touching, touched}
+use Rattle.touch.proofs.Tables.{thirteen-names-first}
+use Rattle.panel.specs.declared.Panel.{Panel}
+use Rattle.panel.specs.declared.ContactAnswer.the-variants as contact-answer
+use Rattle.panel.specs.declared.StartAnswer.the-variants as start
+use Rattle.panel.specs.Numbers.{startNumber, contactNumber}
+use Rattle.panel.specs.Start.{refuses, startJudged, started}
+use Rattle.panel.specs.State.{padOf, withPad}
+use Rattle.panel.specs.Contacts.{contacts, contactOn, contactJudged, contacting}
+use Rattle.panel.specs.Sound.{Sound}
+use Rattle.demands.specs.Calls.{Moment, contact, numberGiven}
+use Rattle.demands.specs.Demand1.{firstNumber, NamesFirstWrong, wordsNotLent, notWholeRecords, oneWrong, offScreen, printed, printedStart}
+use Rattle.demands.proofs.Waits.{busy-waits}
+
+-- a table: 12, then 13
+abbrev isAt : Found → Bool
+isAt Nothing = false
+isAt (At i r) = true
+
+some-wrong : (setup : Setup) (i : ℕ) (rs : List Record) → oneWrong setup rs ≡ isAt (firstOf (wrong setup) i rs)
+unfolding oneWrong firstOf wrong
+some-wrong setup i [] = refl
+some-wrong setup i (r ∷ rs) = go (not (goodRecord setup r)) (some-wrong setup (i + 1) rs)
+  where
+    go : (b : Bool) → oneWrong setup rs ≡ isAt (firstOf (wrong setup) (i + 1) rs)
+        → (b || oneWrong setup rs) ≡ isAt (cond b (At i r) (firstOf (wrong setup) (i + 1) rs))
+    go true ih = refl
+    go false ih = ih
+
+-- a contact: "contact 14, 1, 12, 13, 9, 8"
+module _ (panel : Panel) (table words : List ℕ) (x y : ℕ) where
+  on-number : contactNumber (contactOn panel table words x y .contacted .answer) ≡ cond (isTouchOff (panel .registers)) 9 (cond (offScreen (panel .setup) x y) 8 0)
+  unfolding contactOn contactNumber offScreen
+  on-number = go (isTouchOff (panel .registers)) (not (ltb x (panel .setup .width) && ltb y (panel .setup .height)))
+    where
+      done : Touching
+      done = touched (padOf panel) table words x y
+
+      go : (a b : Bool)
+          → contactNumber (cond a (contacts contact-answer.TouchOff panel words) (cond b (contacts contact-answer.OffScreen panel words)
+          (contacts contact-answer.Done (withPad panel (done .pad)) (done .words))) .contacted .answer)
+          ≡ cond a 9 (cond b 8 0)
+      go true b = refl
+      go false true = refl
+      go false false = refl
+
+  judged-number : contactNumber (contactJudged (judged (panel .setup) table) panel table words x y .contacted .answer)
+      ≡ cond (notWholeRecords table) 12 (cond (oneWrong (panel .setup) (recordsOf table)) 13
+      (cond (isTouchOff (panel .registers)) 9 (cond (offScreen (panel .setup) x y) 8 0)))
+  unfolding judged contactJudged contactNumber notWholeRecords
+  judged-number =
+      rw (some-wrong (panel .setup) 0 (recordsOf table)) (go (notWholeRecords table) (firstOf (wrong (panel .setup)) 0 (recordsOf table)))
+    where
+      go : (b : Bool) (f : Found)
+          → contactNumber (contactJudged (cond b NotRecords (namedWrong f)) panel table words x y .contacted .answer)
+          ≡ cond b 12 (cond (isAt f) 13 (cond (isTouchOff (panel .registers)) 9 (cond (offScreen (panel .setup) x y) 8 0)))
+      go true f = refl
+      go false (At i r) = refl
+      go false Nothing = on-number
+
+pub contact-number : (now : Moment) → Sound (now .panel) → (table : List ℕ) (x y : ℕ)
+    → numberGiven now (contact table x y) ≡ firstNumber (printed now (contact table x y))
+unfolding numberGiven printed contacting contactNumber wordsNotLent firstNumber
+contact-number now sound table x y = rw (← busy-waits (now .panel) sound) (go (not (eqb (length (now .words)) wordCount)) (busy (now .panel .reader)))
+  where
+    panel : Panel
+    panel = now .panel
+
+    go : (a b : Bool)
+        → contactNumber (cond a (contacts contact-answer.NotLent panel (now .words)) (cond b (contacts contact-answer.Waits panel (now .words))
+        (contactJudged (judged (panel .setup) table) panel table (now .words) x y)) .contacted .answer)
+        ≡ cond a 14 (cond b 1 (cond (notWholeRecords table) 12 (cond (oneWrong (panel .setup) (recordsOf table)) 13
+        (cond (isTouchOff (panel .registers)) 9 (cond (offScreen (panel .setup) x y) 8 0)))))
+    go true b = refl
+    go false true = refl
+    go false false = judged-number panel table (now .words) x y
+
+-- "start 11, 12, 13"
+pub start-as-printed : (setup : Setup) (table : List ℕ) → startNumber (started setup table .answer) ≡ firstNumber (printedStart setup table)
+unfolding started startJudged judged startNumber printedStart notWholeRecords firstNumber
+start-as-printed setup table =
+    rw (some-wrong setup 0 (recordsOf table)) (go (not (goodSetup setup)) (notWholeRecords table) (firstOf (wrong setup) 0 (recordsOf table)))
+  where
+    go : (a b : Bool) (f : Found)
+        → startNumber (cond a (refuses start.WrongSetup) (startJudged (cond b NotRecords (namedWrong f)) setup) .answer)
+        ≡ cond a 11 (cond b 12 (cond (isAt f) 13 0))
+    go true b f = refl
+    go false true f = refl
+    go false false (At i r) = refl
+    go false false Nothing = refl
+
+-- 13: "the first wrong one is named"
+picked-within : (picks : Record → Bool) (rs : List Record) (i j : ℕ) (r : Record) → firstOf picks i rs ≡ At j r → j < i + length rs
+unfolding firstOf
+picked-within picks [] i j r is = never (cc)
+picked-within picks (q ∷ rs) i j r is = go (picks q) is (picked-within picks rs (i + 1) j r)
+  where
+    go : (b : Bool) → cond b (At i q) (firstOf picks (i + 1) rs) ≡ At j r → (firstOf picks (i + 1) rs ≡ At j r → j < i + 1 + length rs)
+        → j < i + suc (length rs)
+    go true is further = let same : i ≡ j = cc in omega arith
+    go false is further = let below = further is in omega arith
+
+wrong-within : (setup : Setup) (table : List ℕ) (i : ℕ) → judged setup table ≡ Wrong i → i < length (recordsOf table)
+unfolding judged
+wrong-within setup table i = go (notRecords table) (firstOf (wrong setup) 0 (recordsOf table)) refl
+  where
+    go : (b : Bool) (f : Found) → firstOf (wrong setup) 0 (recordsOf table) ≡ f → cond b NotRecords (namedWrong f) ≡ Wrong i → i < length (recordsOf table)
+    go true f finds is = never (cc)
+    go false Nothing finds is = never (cc)
+    go false (At j r) finds is =
+        let same : j ≡ i = cc in
+        let below = picked-within (wrong setup) (recordsOf table) 0 j r finds in
+        omega arith
+
+names-first : (setup : Setup) (table : List ℕ) (i : ℕ) → judged setup table ≡ Wrong i → NamesFirstWrong setup table i
+names-first setup table i is =
+    let named = thirteen-names-first setup table i is in
+    record { within = wrong-within setup table i is; is-wrong = named .0; first = named .1 .1 }
+
+on-names-none : (panel : Panel) (table words : List ℕ) (x y i : ℕ) → contactOn panel table words x y .contacted .answer ≡ contact-answer.WrongRecord i → ⊥
+unfolding contactOn
+on-names-none panel table words x y i = go (isTouchOff (panel .registers)) (not (ltb x (panel .setup .width) && ltb y (panel .setup .height)))
+  where
+    done : Touching
+    done = touched (padOf panel) table words x y
+
+    go : (a b : Bool)
+        → cond a (contacts contact-answer.TouchOff panel words) (cond b (contacts contact-answer.OffScreen panel words)
+        (contacts contact-answer.Done (withPad panel (done .pad)) (done .words))) .contacted .answer
+        ≡ contact-answer.WrongRecord i → ⊥
+    go true b is = never (cc)
+    go false true is = never (cc)
+    go false false is = never (cc)
+
+pub contact-names-first-wrong : (now : Moment) (table : List ℕ) (x y i : ℕ)
+    → contacting (now .panel) table (now .words) x y .contacted .answer ≡ contact-answer.WrongRecord i
+    → NamesFirstWrong (now .panel .setup) table i
+unfolding contacting contactJudged
+contact-names-first-wrong now table x y i = go (not (eqb (length (now .words)) wordCount)) (busy (now .panel .reader)) (judged (now .panel .setup) table) refl
+  where
+    panel : Panel
+    panel = now .panel
+
+    go : (a b : Bool) (v : Verdict) → judged (panel .setup) table ≡ v
+        → cond a (contacts contact-answer.NotLent panel (now .words)) (cond b (contacts contact-answer.Waits panel (now .words))
+        (contactJudged v panel table (now .words) x y)) .contacted .answer
+        ≡ contact-answer.WrongRecord i
+        → NamesFirstWrong (panel .setup) table i
+    go true b v judges is = never (cc)
+    go false true v judges is = never (cc)
+    go false false Good judges is = absurd (on-names-none panel table (now .words) x y i is)
+    go false false NotRecords judges is = never (cc)
+    go false false (Wrong j) judges is =
+        let same : j ≡ i = cc in names-first (panel .setup) table i (judges ∙ ap (λ (k : ℕ). Wrong k) same)
+
+pub start-names-first-wrong : (setup : Setup) (table : List ℕ) (i : ℕ) → started setup table .answer ≡ start.WrongRecord i → NamesFirstWrong setup table i
+unfolding started startJudged
+start-names-first-wrong setup table i = go (not (goodSetup setup)) (judged setup table) refl
+  where
+    go : (b : Bool) (v : Verdict) → judged setup table ≡ v
+        → cond b (refuses start.WrongSetup) (startJudged v setup) .answer ≡ start.WrongRecord i → NamesFirstWrong setup table i
+    go true v judges is = never (cc)
+    go false Good judges is = never (cc)
+    go false NotRecords judges is = never (cc)
+    go false (Wrong j) judges is = let same : j ≡ i = cc in names-first setup table i (judges ∙ ap (λ (k : ℕ). Wrong k) same)
