@@ -61,14 +61,14 @@ module _ (panel : Panel) (c : Contact) (lent : Lent) where
   contacted-word k =
       contact-ways panel c lent
       (λ r. (wordAtAddress (r .lent .words) k ≡ wordAtAddress (lent .words) k) ⊎ Touch.NamesWord (padOf panel) (c .table) (c .x) (c .y) k)
-      (λ answer. inl refl) (λ good. Touch.word-named (padOf panel) (c .table) (lent .words) (c .x) (c .y) k)
+      (λ answer. inl refl) (λ good. Touch.word-named (panel .setup) (padOf panel) (c .table) (lent .words) (c .x) (c .y) k)
 
   -- 03-04 for a next page, 05 the flag, 06 the status, 07-0A the place
   pub contacted-register : length (panel .registers .bytes) ≡ registerCount → (address : ℕ) → (address < 0x03) ⊎ (0x0B ≤ address)
       → panelRegister (contacting panel c lent .contacted .panel) address ≡ panelRegister panel address
   contacted-register whole address outside =
       contact-ways panel c lent (λ r. panelRegister (r .contacted .panel) address ≡ panelRegister panel address)
-      (λ answer. refl) (λ good. Touch.other-register-stays (padOf panel) whole (c .table) (lent .words) (c .x) (c .y) address outside)
+      (λ answer. refl) (λ good. Touch.other-register-stays (panel .setup) (padOf panel) whole (c .table) (lent .words) (c .x) (c .y) address outside)
 
 -- "Lift: status 02"
 pub lifted-register : (panel : Panel) → length (panel .registers .bytes) ≡ registerCount → (address : ℕ) → address ≢ 0x06

@@ -12,7 +12,7 @@ use Rattle.line.specs.declared.Answer.{Answer}
 use Rattle.line.specs.declared.Answer.the-variants as line-answer
 use Rattle.line.specs.declared.Report.the-variants as line
 use Rattle.line.specs.declared.Asked.{Asked}
-use Rattle.line.specs.Methods.{busy, givenByte, givenMark, givenBytes, asked}
+use Rattle.line.specs.Methods.{gives, busy, givenByte, givenMark, givenBytes, asked}
 use Rattle.commands.specs.Lent.{Lent, withRoom}
 use Rattle.commands.specs.Outcome.{numberOfOutcome, outcome}
 use Rattle.commands.proofs.Performance.{performs-outcome}
@@ -65,10 +65,7 @@ module _ (panel : Panel) (waits : busy (panel .reader) ≡ true) where
   refused-bytes-change-nothing (b ∷ bytes) = rw waits
 
 -- an input that is answered 1 came while a report waited
-abbrev given : Answer → Reader → Given
-given answer reader = record { answer = answer; reader = reader }
-
-answered-waits : (w : Bool) (r s : Reader) → cond w (given line-answer.Waits r) (given line-answer.Done s) .answer ≡ line-answer.Waits → w ≡ true
+answered-waits : (w : Bool) (r s : Reader) → cond w (gives line-answer.Waits r) (gives line-answer.Done s) .answer ≡ line-answer.Waits → w ≡ true
 answered-waits true r s is = refl
 answered-waits false r s is = cc
 

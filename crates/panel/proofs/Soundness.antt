@@ -18,7 +18,7 @@ use Rattle.line.specs.declared.Answer.the-variants as line-answer
 use Rattle.line.specs.declared.Asked.{Asked}
 use Rattle.line.specs.declared.Report.the-variants as line
 use Rattle.line.specs.State.{rulesFor, readerOf}
-use Rattle.line.specs.Methods.{busy, gave, plus, givenByte, givenMark, givenBytes, asked}
+use Rattle.line.specs.Methods.{gives, busy, gave, plus, givenByte, givenMark, givenBytes, asked}
 use Rattle.line.proofs.Carried.{waiting-is, held-waiting, byte-carried, mark-carried, ask-carried, reached-new, reached-byte, reached-mark, reached-report}
 use Rattle.reading.specs.Moves.{fresh, waiting, withByte, withMark, afterReport}
 use Rattle.registers.specs.declared.Registers.{Registers}
@@ -85,15 +85,12 @@ new-sound setup good =
     }
 
 -- the reader, input by input
-abbrev given : Answer → Reader → Given
-given answer reader = record { answer = answer; reader = reader }
-
 module _ (line : Line) (reader : Reader) (reads : Reads line reader) where
   reads-mark : Reads line (givenMark reader .reader)
   reads-mark = rw (reads .is, mark-carried line (reads .kept) (reads .reached)) (go (waiting (rulesFor line) (reads .kept)))
     where
-      go : (b : Bool) → Reads line (cond b (given line-answer.Waits (readerOf line (reads .kept)))
-          (given line-answer.Done (readerOf line (withMark (rulesFor line) (reads .kept)))) .reader)
+      go : (b : Bool) → Reads line (cond b (gives line-answer.Waits (readerOf line (reads .kept)))
+          (gives line-answer.Done (readerOf line (withMark (rulesFor line) (reads .kept)))) .reader)
       go true = record { kept = reads .kept; reached = reads .reached; is = refl }
       go false = record { kept = withMark (rulesFor line) (reads .kept); reached = reached-mark line (reads .kept) (reads .reached); is = refl }
 
@@ -101,8 +98,8 @@ module _ (line : Line) (reader : Reader) (reads : Reads line reader) where
   reads-byte b byte = rw (reads .is, byte-carried line (reads .kept) b (reads .reached)) (go (waiting (rulesFor line) (reads .kept)) refl)
     where
       go : (w : Bool) → waiting (rulesFor line) (reads .kept) ≡ w
-          → Reads line (cond w (given line-answer.Waits (readerOf line (reads .kept)))
-          (given line-answer.Done (readerOf line (withByte (rulesFor line) (reads .kept) b))) .reader)
+          → Reads line (cond w (gives line-answer.Waits (readerOf line (reads .kept)))
+          (gives line-answer.Done (readerOf line (withByte (rulesFor line) (reads .kept) b))) .reader)
       go true is = record { kept = reads .kept; reached = reads .reached; is = refl }
       go false is = record { kept = withByte (rulesFor line) (reads .kept) b; reached = reached-byte line (reads .kept) b (reads .reached) is byte; is = refl }
 
@@ -159,7 +156,7 @@ module _ (panel : Panel) (sound : Sound panel) where
       (λ good. record {
         pad = touched-sound (panel .setup) (State.padOf panel) (sound .pad) (c .x) (c .y) (c .table) (lent .words) good;
         fixed = λ address never outside.
-            other-register-stays (State.padOf panel) (sound .pad .whole) (c .table) (lent .words) (c .x) (c .y) address outside ∙ sound .fixed address never outside;
+            other-register-stays (panel .setup) (State.padOf panel) (sound .pad .whole) (c .table) (lent .words) (c .x) (c .y) address outside ∙ sound .fixed address never outside;
         reads = sound .reads;
       })
 

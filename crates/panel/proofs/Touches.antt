@@ -37,7 +37,7 @@ module _ (panel : Panel) (table words : List ℕ) (x y : ℕ) where
       unfolding contactOn
       number-8 is room = rw (sym is-off ∙ live, is)
 
-      pub contact-done : (pad : Pad) (next : Panel) (left : List ℕ) → onScreen (panel .setup) x y ≡ true → touching pad left ≡ touched (padOf panel) table words x y
+      pub contact-done : (pad : Pad) (next : Panel) (left : List ℕ) → onScreen (panel .setup) x y ≡ true → touching pad left ≡ touched (panel .setup) (padOf panel) table words x y
           → next ≡ withPad panel pad → (room : List ℕ) → contacts contact.Done next (lending left room) ≡ contactOn panel at (lending words room)
       unfolding contactOn
       contact-done pad next left is e is-next room =

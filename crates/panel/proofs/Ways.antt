@@ -36,7 +36,7 @@ by-test P false c d p q = q
 
 -- a contact is refused, or done with a table judged good
 abbrev pub touchedBy : Panel → Contact → Lent → Touching
-touchedBy panel c lent = touched (padOf panel) (c .table) (lent .words) (c .x) (c .y)
+touchedBy panel c lent = touched (panel .setup) (padOf panel) (c .table) (lent .words) (c .x) (c .y)
 
 module _ (panel : Panel) (c : Contact) (lent : Lent) (P : Contacting → Type 0)
     (refused : (answer : ContactAnswer) → P (contacts answer panel lent))

@@ -45,7 +45,7 @@ contacts answer panel lent = record { contacted = record { answer = answer; pane
 -- with a good table: 9, then 8, else the contact is done
 unfoldable pub contactOn : Panel → Contact → Lent → Contacting
 contactOn panel c lent =
-    let done = touched (padOf panel) (c .table) (lent .words) (c .x) (c .y) in
+    let done = touched (panel .setup) (padOf panel) (c .table) (lent .words) (c .x) (c .y) in
     cond (isTouchOff (panel .registers)) (contacts contact.TouchOff panel lent)
     (cond (not (onScreen (panel .setup) (c .x) (c .y))) (contacts contact.OffScreen panel lent)
     (contacts contact.Done (withPad panel (done .pad)) (withWords lent (done .words))))

@@ -113,6 +113,7 @@ fn good_contact(panel: Panel, table: &[u8], words: &mut [u16], x: u16, y: u16) -
     if (x < setup.width) & (y < setup.height) {
         let catch = panel.catch;
         let pad = contact::touch_down(
+            setup,
             Pad {
                 registers: registers,
                 catch: catch,
