@@ -73,9 +73,9 @@ module _ (now : Moment) (reached : Reachable (now .panel)) (content : List ℕ) 
   writes-registers hands =
       let setup = now .panel .setup in
       let asks = handed-asks now 0x80 content hands in
-      let part = drop (length (acknowledgementOf setup 0x80 true)) (over (acknowledgementOf setup 0x80 true) (now .room)) in
+      let part = drop (length (acknowledgementOf setup 0x80 true)) (over (acknowledgementOf setup 0x80 true) (now .lent .room)) in
       performance-leaves now sound 0x80 content asks (written (now .panel .registers) (byteAt content 0) (drop 1 content))
-      (covers (byteAt content 0) (length (drop 1 content)) 0x03) (now .words) [] (writeRegistersOutcome (setup .pages) content) 0
+      (covers (byteAt content 0) (length (drop 1 content)) 0x03) (now .lent .words) [] (writeRegistersOutcome (setup .pages) content) 0
       (rw (is-done 0x80 asks, over-nil part))
 
   -- "0x82, address (2), one or more words: write variables."
@@ -84,10 +84,10 @@ module _ (now : Moment) (reached : Reachable (now .panel)) (content : List ℕ) 
   writes-words hands =
       let setup = now .panel .setup in
       let asks = handed-asks now 0x82 content hands in
-      let part = drop (length (acknowledgementOf setup 0x82 true)) (over (acknowledgementOf setup 0x82 true) (now .room)) in
-      let stored : isDone (writeWordsOutcome (length (now .words)) content) ≡ true = rw (asks .whole) (is-done 0x82 asks) in
-      performance-leaves now sound 0x82 content asks (now .panel .registers) false (wordsWritten (now .words) (wordAt content 0) (drop 2 content)) []
-      (writeWordsOutcome (length (now .words)) content) 0
+      let part = drop (length (acknowledgementOf setup 0x82 true)) (over (acknowledgementOf setup 0x82 true) (now .lent .room)) in
+      let stored : isDone (writeWordsOutcome (length (now .lent .words)) content) ≡ true = rw (asks .whole) (is-done 0x82 asks) in
+      performance-leaves now sound 0x82 content asks (now .panel .registers) false (wordsWritten (now .lent .words) (wordAt content 0) (drop 2 content)) []
+      (writeWordsOutcome (length (now .lent .words)) content) 0
       (rw (stored, over-nil part))
 
   -- "0x81, address (1), count (1): read registers. Reply 0x81, address, count, bytes."
@@ -98,13 +98,13 @@ module _ (now : Moment) (reached : Reachable (now .panel)) (content : List ℕ) 
       let checking = checkingOf setup in
       let asks = handed-asks now 0x81 content hands in
       let answer = acknowledgementOf setup 0x81 true in
-      let part = drop (length answer) (over answer (now .room)) in
+      let part = drop (length answer) (over answer (now .lent .room)) in
       let payload = registersReply (now .panel .registers) (byteAt content 0) (byteAt content 1) in
       let read = is-done 0x81 asks in
       let long = length-registersReply (now .panel .registers) (byteAt content 0) (byteAt content 1) in
       let short = registers-short checking content (readRegistersOutcome checking content) true refl (sym read) (byteAt content 0) (byteAt content 1) refl refl refl in
       let within : length payload ≤ mostData checking = rw long short in
-      performance-leaves now sound 0x81 content asks (now .panel .registers) false (now .words) (frameOf checking (headerOf setup) 0x81 payload) (readRegistersOutcome checking content)
+      performance-leaves now sound 0x81 content asks (now .panel .registers) false (now .lent .words) (frameOf checking (headerOf setup) 0x81 payload) (readRegistersOutcome checking content)
       (length (frameOf checking (headerOf setup) 0x81 payload))
       (rw (read, frame-laid checking (headerOf setup) 0x81 payload part within (part-holds now sound 0x81 content asks payload 0x81 within)))
 
@@ -116,15 +116,15 @@ module _ (now : Moment) (reached : Reachable (now .panel)) (content : List ℕ) 
       let checking = checkingOf setup in
       let asks = handed-asks now 0x83 content hands in
       let answer = acknowledgementOf setup 0x83 true in
-      let part = drop (length answer) (over answer (now .room)) in
-      let payload = wordsReply (now .words) (wordAt content 0) (byteAt content 2) in
-      let read : isDone (readWordsOutcome (length (now .words)) checking content) ≡ true = rw (asks .whole) (is-done 0x83 asks) in
-      let o = readWordsOutcome (length (now .words)) checking content in
-      let inside = words-within (now .words) checking content o true refl (sym read) (wordAt content 0) (byteAt content 2) refl refl refl in
-      let long = length-wordsReply (now .words) (wordAt content 0) (byteAt content 2) inside in
-      let short = words-short (now .words) checking content o true refl (sym read) (wordAt content 0) (byteAt content 2) refl refl refl in
+      let part = drop (length answer) (over answer (now .lent .room)) in
+      let payload = wordsReply (now .lent .words) (wordAt content 0) (byteAt content 2) in
+      let read : isDone (readWordsOutcome (length (now .lent .words)) checking content) ≡ true = rw (asks .whole) (is-done 0x83 asks) in
+      let o = readWordsOutcome (length (now .lent .words)) checking content in
+      let inside = words-within (now .lent .words) checking content o true refl (sym read) (wordAt content 0) (byteAt content 2) refl refl refl in
+      let long = length-wordsReply (now .lent .words) (wordAt content 0) (byteAt content 2) inside in
+      let short = words-short (now .lent .words) checking content o true refl (sym read) (wordAt content 0) (byteAt content 2) refl refl refl in
       let within : length payload ≤ mostData checking = rw long short in
-      performance-leaves now sound 0x83 content asks (now .panel .registers) false (now .words) (frameOf checking (headerOf setup) 0x83 payload) o
+      performance-leaves now sound 0x83 content asks (now .panel .registers) false (now .lent .words) (frameOf checking (headerOf setup) 0x83 payload) o
       (length (frameOf checking (headerOf setup) 0x83 payload))
       (rw (read, frame-laid checking (headerOf setup) 0x83 payload part within (part-holds now sound 0x83 content asks payload 0x83 within)))
 
@@ -134,13 +134,13 @@ module _ (now : Moment) where
   a = asked (now .panel .reader)
 
   abbrev reported : Bool → Report → Reporting
-  reported enough told = reportedBy (now .panel) (now .words) (now .room) enough a told
+  reported enough told = reportedBy (now .panel) (now .lent) enough a told
 
   pub answers-bad-check : Reachable (now .panel) → (command : ℕ) → handedOver now ask ≡ badCheck command ∷ [] → after now ask ≡ afterBadCheck now command
   unfolding after handedOver reporting handing reportHanded lent afterBadCheck readBehind
-  answers-bad-check reached command = go (lent (length (now .words)) (length (now .room))) refl (a .report)
+  answers-bad-check reached command = go (wellLent (now .lent)) refl (a .report)
     where
-      go : (l : Bool) → lent (length (now .words)) (length (now .room)) ≡ l → (told : Report)
+      go : (l : Bool) → wellLent (now .lent) ≡ l → (told : Report)
           → reportHanded (reported l told .reported .handed) (reported l told .reported .payload) ≡ badCheck command ∷ []
           → momentAsked (reported l told) ≡ afterBadCheck now command
       go false is told hands = never (cc)
@@ -148,23 +148,23 @@ module _ (now : Moment) where
       go true is (line.Accepted c n) hands = never (cc)
       go true is (line.BadCheck c) hands =
           let same : c ≡ command = cc in
-          let large = leb-true leastRoom (length (now .room)) (and-right (eqb (length (now .words)) wordCount) (leb leastRoom (length (now .room))) is) in
+          let large = leb-true leastRoom (length (now .lent .room)) (and-right (eqb (length (now .lent .words)) wordCount) (leb leastRoom (length (now .lent .room))) is) in
           ap (λ (k : ℕ). record {
             panel = withReader (now .panel) (a .reader);
-            words = now .words;
-            room = acknowledged (now .panel .setup) k false (now .room) .room;
+            words = now .lent .words;
+            room = acknowledged (now .panel .setup) k false (now .lent .room) .room;
           }) same
-          ∙ ap (λ (laid : Laid). record { panel = withReader (now .panel) (a .reader); words = now .words; room = laid .room })
-          (acknowledged-laid (now .panel .setup) command false (now .room) large)
+          ∙ ap (λ (laid : Laid). record { panel = withReader (now .panel) (a .reader); words = now .lent .words; room = laid .room })
+          (acknowledged-laid (now .panel .setup) command false (now .lent .room) large)
           ∙ ap (λ (r : Reader). record {
             panel = withReader (now .panel) r;
-            words = now .words;
-            room = over (acknowledgementOf (now .panel .setup) command false) (now .room);
+            words = now .lent .words;
+            room = over (acknowledgementOf (now .panel .setup) command false) (now .lent .room);
           }) (asked-reader (now .panel) (reachable-sound (now .panel) reached))
 
   pub nothing-changes-nothing : handedOver now ask ≡ [] → after now ask ≡ now
   unfolding after handedOver reporting handing reportHanded
-  nothing-changes-nothing = go (lent (length (now .words)) (length (now .room))) (a .report)
+  nothing-changes-nothing = go (wellLent (now .lent)) (a .report)
     where
       go : (l : Bool) (told : Report) → reportHanded (reported l told .reported .handed) (reported l told .reported .payload) ≡ []
           → momentAsked (reported l told) ≡ now

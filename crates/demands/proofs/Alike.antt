@@ -45,9 +45,9 @@ module _ (panel : Panel) (words room : List ℕ) where
   handing-told a (line.BadCheck command) = (refl, refl)
   handing-told a (line.Accepted command count) = (refl, refl)
 
-  ask-told : (reportHanded (reporting panel words room .reported .handed) (reporting panel words room .reported .payload)
+  ask-told : (reportHanded (reporting panel lent .reported .handed) (reporting panel lent .reported .payload)
       ≡ cond (lent (length words) (length room)) (handedFrom (asked (panel .reader) .report) (asked (panel .reader) .payload)) [])
-      × (reporting panel words room .reported .panel .reader
+      × (reporting panel lent .reported .panel .reader
       ≡ cond (lent (length words) (length room)) (goneOn (asked (panel .reader) .report) (panel .reader) (asked (panel .reader) .reader)) (panel .reader))
   unfolding reporting reportHanded
   ask-told = go (lent (length words) (length room))
@@ -63,53 +63,53 @@ module _ (panel : Panel) (words room : List ℕ) where
 -- what two moments share
 record Shared (one other : Moment) : Type 0 where
   reader : one .panel .reader ≡ other .panel .reader
-  words : length (one .words) ≡ length (other .words)
-  room : length (one .room) ≡ length (other .room)
+  words : length (one .lent .words) ≡ length (other .lent .words)
+  room : length (one .lent .room) ≡ length (other .lent .room)
 
 module _ (one other : Moment) (same : Shared one other) where
   given-same : (call : Call) → given one call ≡ given other call
   unfolding given fedByte fedMark fedBytes
-  given-same (lend words room) = refl
+  given-same (lend lent) = refl
   given-same (byte b) = ap (λ (r : Reader). unlessRefused (givenByte r b .answer) (Line.byte b)) (same .reader)
   given-same (bytes bs) = ap (λ (r : Reader). map Line.byte (take (givenBytes r bs .used) bs)) (same .reader)
   given-same mark = ap (λ (r : Reader). unlessRefused (givenMark r .answer) Line.mark) (same .reader)
   given-same ask = refl
-  given-same (contact table x y) = refl
+  given-same (contact c) = refl
   given-same lift = refl
 
   handed-same : (call : Call) → handedOver one call ≡ handedOver other call
   unfolding handedOver
-  handed-same (lend words room) = refl
+  handed-same (lend lent) = refl
   handed-same (byte b) = refl
   handed-same (bytes bs) = refl
   handed-same mark = refl
   handed-same ask =
-      rw (ask-told (one .panel) (one .words) (one .room) .0, ask-told (other .panel) (other .words) (other .room) .0, same .reader, same .words, same .room)
-  handed-same (contact table x y) = refl
+      rw (ask-told (one .panel) (one .lent) .0, ask-told (other .panel) (other .lent) .0, same .reader, same .words, same .room)
+  handed-same (contact c) = refl
   handed-same lift = refl
 
   shared-after : (call : Call) → Shared (after one call) (after other call)
   unfolding after fedByte fedMark fedBytes
-  shared-after (lend words room) = record { reader = same .reader; words = refl; room = refl }
+  shared-after (lend lent) = record { reader = same .reader; words = refl; room = refl }
   shared-after (byte b) = record { reader = ap (λ (r : Reader). givenByte r b .reader) (same .reader); words = same .words; room = same .room }
   shared-after (bytes bs) = record { reader = ap (λ (r : Reader). givenBytes r bs .reader) (same .reader); words = same .words; room = same .room }
   shared-after mark = record { reader = ap (λ (r : Reader). givenMark r .reader) (same .reader); words = same .words; room = same .room }
   shared-after ask =
       record {
         reader =
-            rw (ask-told (one .panel) (one .words) (one .room) .1, ask-told (other .panel) (other .words) (other .room) .1, same .reader, same .words, same .room);
+            rw (ask-told (one .panel) (one .lent) .1, ask-told (other .panel) (other .lent) .1, same .reader, same .words, same .room);
         words =
-            reported-words-long (one .panel) (one .words) (one .room) ∙ same .words ∙ sym (reported-words-long (other .panel) (other .words) (other .room));
-        room = reported-room-long (one .panel) (one .words) (one .room) ∙ same .room ∙ sym (reported-room-long (other .panel) (other .words) (other .room));
+            reported-words-long (one .panel) (one .lent) ∙ same .words ∙ sym (reported-words-long (other .panel) (other .lent));
+        room = reported-room-long (one .panel) (one .lent) ∙ same .room ∙ sym (reported-room-long (other .panel) (other .lent));
       }
-  shared-after (contact table x y) =
+  shared-after (contact c) =
       record {
         reader =
-            contact-keeps-reader (one .panel) table (one .words) x y
+            contact-keeps-reader (one .panel) table (one .lent .words) x y
             ∙ same .reader
-            ∙ sym (contact-keeps-reader (other .panel) table (other .words) x y);
+            ∙ sym (contact-keeps-reader (other .panel) table (other .lent .words) x y);
         words =
-            contacted-words-long (one .panel) table (one .words) x y ∙ same .words ∙ sym (contacted-words-long (other .panel) table (other .words) x y);
+            contacted-words-long (one .panel) table (one .lent .words) x y ∙ same .words ∙ sym (contacted-words-long (other .panel) table (other .lent .words) x y);
         room = same .room;
       }
   shared-after lift =
@@ -131,8 +131,8 @@ all-handed-same one other same [] = refl
 all-handed-same one other same (call ∷ calls) =
     rw (handed-same one other same call, all-handed-same (after one call) (after other call) (shared-after one other same call) calls)
 
-pub read-alike : (one other : Moment) → one .panel .reader ≡ other .panel .reader → length (one .words) ≡ length (other .words)
-    → length (one .room) ≡ length (other .room) → ReadAlike one other
+pub read-alike : (one other : Moment) → one .panel .reader ≡ other .panel .reader → length (one .lent .words) ≡ length (other .lent .words)
+    → length (one .lent .room) ≡ length (other .lent .room) → ReadAlike one other
 read-alike one other reader words room =
     let same : Shared one other = record { reader = reader; words = words; room = room } in
     record { give-same = all-given-same one other same; hand-same = all-handed-same one other same }

@@ -30,4 +30,4 @@ abbrev pub momentAsked : Reporting → Moment
 momentAsked r = record { panel = r .reported .panel; words = r .words; room = r .room }
 
 abbrev pub momentTouched : Moment → Contacting → Moment
-momentTouched now c = record { panel = c .contacted .panel; words = c .words; room = now .room }
+momentTouched now c = record { panel = c .contacted .panel; words = c .words; room = now .lent .room }

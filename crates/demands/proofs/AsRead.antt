@@ -53,7 +53,7 @@ module _ (setup : Setup) (now : Moment) (calls : List Call)
 
 pub always-as-read : AlwaysAsRead
 always-as-read setup table words room is calls typed =
-    let now = begun setup table words room in
+    let now = begun setup table lent in
     let reachable = by-start setup table is in
     let new = new-reader setup table words room is in
     as-read setup now calls (carried (lineOf setup) now reachable new calls typed) (waits-same (lineOf setup) now reachable new calls typed)

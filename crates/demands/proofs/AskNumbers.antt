@@ -164,7 +164,7 @@ handing-numbers panel words room whole a told (acceptedFrame command content ∷
 
 pub ask-number : (now : Moment) → Sound (now .panel) → numberGiven now ask ≡ firstNumber (printed now ask)
 unfolding numberGiven printed reporting reportNumber lent wordsNotLent roomTooSmall firstNumber
-ask-number now sound = go (eqb (length (now .words)) wordCount) refl (leb leastRoom (length (now .room))) refl
+ask-number now sound = go (eqb (length (now .lent .words)) wordCount) refl (leb leastRoom (length (now .lent .room))) refl
   where
     panel : Panel
     panel = now .panel
@@ -172,12 +172,12 @@ ask-number now sound = go (eqb (length (now .words)) wordCount) refl (leb leastR
     a : Asked
     a = asked (panel .reader)
 
-    go : (w : Bool) → eqb (length (now .words)) wordCount ≡ w → (r : Bool) → leb leastRoom (length (now .room)) ≡ r
-        → reportNumber (reporting panel (now .words) (now .room) .reported .handed)
-        ≡ cond (not w || ltb (length (now .room)) leastRoom) 14 (firstNumber (waitingNumbers (panel .setup) (waitingReport panel)))
+    go : (w : Bool) → eqb (length (now .lent .words)) wordCount ≡ w → (r : Bool) → leb leastRoom (length (now .lent .room)) ≡ r
+        → reportNumber (reporting panel (now .lent) .reported .handed)
+        ≡ cond (not w || ltb (length (now .lent .room)) leastRoom) 14 (firstNumber (waitingNumbers (panel .setup) (waitingReport panel)))
     go true w true r =
-        rw (w, r, le-ltb (length (now .room)) leastRoom (leb-true leastRoom (length (now .room)) r))
-        (handing-numbers panel (now .words) (now .room) (eqb-true (length (now .words)) wordCount w) a (a .report) (waitingReport panel) (asked-report panel sound)
+        rw (w, r, le-ltb (length (now .lent .room)) leastRoom (leb-true leastRoom (length (now .lent .room)) r))
+        (handing-numbers panel (now .lent) (eqb-true (length (now .lent .words)) wordCount w) a (a .report) (waitingReport panel) (asked-report panel sound)
         (asked-payload panel sound))
-    go true w false r = rw (w, r, lt-ltb (length (now .room)) leastRoom (leb-false leastRoom (length (now .room)) r))
+    go true w false r = rw (w, r, lt-ltb (length (now .lent .room)) leastRoom (leb-false leastRoom (length (now .lent .room)) r))
     go false w r s = rw w

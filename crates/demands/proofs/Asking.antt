@@ -87,7 +87,7 @@ unfolding numberGiven handedOver
 asking-leaves now reached = go (handedOver now ask) refl
   where
     by : Reporting
-    by = reporting (now .panel) (now .words) (now .room)
+    by = reporting (now .panel) (now .lent)
 
     frame : (command : ℕ) (content : List ℕ) → handedOver now ask ≡ acceptedFrame command content ∷ [] → (b : Bool) → ltb 0 (numberGiven now ask) ≡ b → AskLeaves now
     frame command content hands true above =

@@ -24,12 +24,12 @@ handed-then now (call ∷ first) second =
 -- every call leaves a panel that can be reached from a start
 pub call-reached : (now : Moment) (call : Call) → Typed call → Reachable (now .panel) → Reachable (after now call .panel)
 unfolding after Typed
-call-reached now (lend words room) typed reached = reached
+call-reached now (lend lent) typed reached = reached
 call-reached now (byte b) typed reached = by-byte (now .panel) b typed reached
 call-reached now (bytes bs) typed reached = by-bytes (now .panel) bs typed reached
 call-reached now mark typed reached = by-mark (now .panel) reached
-call-reached now ask typed reached = by-report (now .panel) (now .words) (now .room) reached
-call-reached now (contact table x y) typed reached = by-contact (now .panel) table (now .words) x y reached
+call-reached now ask typed reached = by-report (now .panel) (now .lent) reached
+call-reached now (contact c) typed reached = by-contact (now .panel) table (now .lent .words) x y reached
 call-reached now lift typed reached = by-lift (now .panel) reached
 
 pub calls-reached : (now : Moment) (calls : List Call) → AllTyped calls → Reachable (now .panel) → Reachable (afterAll now calls .panel)
@@ -44,10 +44,10 @@ unfolding afterAll AllTyped
 calls-arise now [] typed arises = arises
 calls-arise now (call ∷ calls) typed arises = calls-arise (after now call) calls (typed .1) (by-call now call (typed .0) arises)
 
-pub sequence-arises : (setup : Setup) (table words room : List ℕ) → setup .h1 < 256 → setup .h2 < 256 → Halfwords words
-    → started setup table .answer ≡ start.Started → (calls : List Call) → AllTyped calls → Arises (afterAll (begun setup table words room) calls)
+pub sequence-arises : (setup : Setup) (table : List ℕ) (lent : Lent) → setup .h1 < 256 → setup .h2 < 256 → Halfwords words
+    → started setup table .answer ≡ start.Started → (calls : List Call) → AllTyped calls → Arises (afterAll (begun setup table lent) calls)
 sequence-arises setup table words room h1 h2 are is calls typed =
-    calls-arise (begun setup table words room) calls typed (from-start setup table words room h1 h2 are is)
+    calls-arise (begun setup table lent) calls typed (from-start setup table words room h1 h2 are is)
 
 pub arises-reachable : (now : Moment) → Arises now → Reachable (now .panel)
 arises-reachable _ (from-start setup table words room h1 h2 are is) = by-start setup table is

@@ -83,19 +83,19 @@ module _ (pad : Pad) (table words : List ℕ) (x y : ℕ) (fits : Fits (pad .cat
 
 call-fits : (now : Moment) (call : Call) → Typed call → Fits (now .panel .catch) → Fits (after now call .panel .catch)
 unfolding after Typed fedByte fedBytes fedMark handing Contact.lifted
-call-fits now (lend words room) typed fits = fits
+call-fits now (lend lent) typed fits = fits
 call-fits now (byte b) typed fits = fits
 call-fits now (bytes bs) typed fits = fits
 call-fits now mark typed fits = fits
 call-fits now ask typed fits =
-    report-ways (now .panel) (now .words) (now .room) (λ r. Fits (r .reported .panel .catch)) (λ h payload. fits) (λ command is. fits)
+    report-ways (now .panel) (now .lent) (λ r. Fits (r .reported .panel .catch)) (λ h payload. fits) (λ command is. fits)
     (λ command count is.
     let content = take count (asked (now .panel .reader) .payload) in
-    let done = accepting (now .panel .setup) (now .panel .registers) command content (now .words) (now .room) in
+    let done = accepting (now .panel .setup) (now .panel .registers) command content (now .lent) in
     either-fits (done .effected .performed .paged) Free (now .panel .catch) free-fits fits)
-call-fits now (contact table x y) typed fits =
-    contact-ways (now .panel) table (now .words) x y (λ c. Fits (c .contacted .panel .catch)) (λ answer. fits)
-    (λ good. touched-fits (padOf (now .panel)) table (now .words) x y fits (typed .0))
+call-fits now (contact c) typed fits =
+    contact-ways (now .panel) table (now .lent .words) x y (λ c. Fits (c .contacted .panel .catch)) (λ answer. fits)
+    (λ good. touched-fits (padOf (now .panel)) table (now .lent .words) x y fits (typed .0))
 call-fits now lift typed fits = lift-ways (now .panel) (λ l. Fits (l .panel .catch)) fits fits free-fits
 
 always-fits : (now : Moment) → Arises now → Fits (now .panel .catch)
@@ -106,9 +106,9 @@ always-fits _ (from-start setup table words room h1 h2 are is) = λ r f caught k
 always-fits _ (by-call now call typed arises) = call-fits now call typed (always-fits now arises)
 
 -- "Contact while down: .. a caught slider stores for the point moved to the nearest place in its area"
-pub dragged-slider-stores : (now : Moment) → Arises now → (table : List ℕ) (x y : ℕ) → numberGiven now (contact table x y) ≡ 0
+pub dragged-slider-stores : (now : Moment) → Arises now → (c : Contact) → numberGiven now (contact c) ≡ 0
     → isDown (now .panel .registers) ≡ true → (r : Record) → now .panel .catch ≡ Caught r → (f : SliderFields) → r .kind ≡ Slider f
-    → valueIn (digitMode (r .mode)) (wordAtAddress (after now (contact table x y) .words) (r .word))
+    → valueIn (digitMode (r .mode)) (wordAtAddress (after now (contact c) .words) (r .word))
     ≡ slidTo roundedDown (signed (f .begin)) (signed (f .end)) (firstEdge (r .mode) (r .area)) (lastEdge (r .mode) (r .area)) (along (r .mode) x y)
 unfolding afterContact numberGiven draggedOf
 dragged-slider-stores now arises table x y done down r caught f kind =
@@ -116,11 +116,11 @@ dragged-slider-stores now arises table x y done down r caught f kind =
     let good = sound .pad .caught-good r caught .0 in
     let fit = always-fits now arises r f caught kind in
     let small = good-word (now .panel .setup) r good in
-    let whole = contact-done (now .panel) table (now .words) x y done .whole in
-    let inside : r .word < length (now .words) = omega arith in
-    let old = wordAtAddress (now .words) (r .word) in
-    ap (λ (m : Moment). valueIn (digitMode (r .mode)) (wordAtAddress (m .words) (r .word))) (contact-leaves now table x y done)
-    ∙ ap (λ (l : List ℕ). valueIn (digitMode (r .mode)) (wordAtAddress l (r .word))) (dragged-words (padOf (now .panel)) table (now .words) x y r down caught)
-    ∙ ap (valueIn (digitMode (r .mode))) (word-set (now .words) (r .word) (draggedOf r old x y) inside)
+    let whole = contact-done (now .panel) table (now .lent .words) x y done .whole in
+    let inside : r .word < length (now .lent .words) = omega arith in
+    let old = wordAtAddress (now .lent .words) (r .word) in
+    ap (λ (m : Moment). valueIn (digitMode (r .mode)) (wordAtAddress (m .lent .words) (r .word))) (contact-leaves now table x y done)
+    ∙ ap (λ (l : List ℕ). valueIn (digitMode (r .mode)) (wordAtAddress l (r .word))) (dragged-words (padOf (now .panel)) table (now .lent .words) x y r down caught)
+    ∙ ap (valueIn (digitMode (r .mode))) (word-set (now .lent .words) (r .word) (draggedOf r old x y) inside)
     ∙ ap (λ (k : Kind). valueIn (digitMode (r .mode)) (cond (isSlider k) (actedOf r old x y) old)) kind
     ∙ slider-acts-as-printed r old x y (good-kind (now .panel .setup) r good) f kind (fit .0) (fit .1)

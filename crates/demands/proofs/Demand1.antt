@@ -51,8 +51,8 @@ module _ (now : Moment) (arises : Arises now) (call : Call) (fits : Typed call) 
   given-wherever-printed under = answers-as-listed now arises call fits ∙ FirstNumber.given-is-first (printed now call) n under
 
 -- 13: "the first wrong one is named"
-pub contact-names-first-wrong : (now : Moment) (table : List ℕ) (x y i : ℕ)
-    → contacting (now .panel) table (now .words) x y .contacted .answer ≡ contact-answer.WrongRecord i
+pub contact-names-first-wrong : (now : Moment) (c : Contact) (i : ℕ)
+    → contacting (now .panel) c (now .lent) .contacted .answer ≡ contact-answer.WrongRecord i
     → NamesFirstWrong (now .panel .setup) table i
 contact-names-first-wrong = TableNumbers.contact-names-first-wrong
 

@@ -109,50 +109,50 @@ pub what-82-wrote-83-replies : (now : Moment) → Arises now → (content : List
 what-82-wrote-83-replies now arises = WrittenReads.what-82-wrote-83-replies now (arises-reachable now arises)
 
 -- "touch effects are those of ..": all that a contact and a lift leave that are answered 0
-pub contact-leaves : (now : Moment) (table : List ℕ) (x y : ℕ) → numberGiven now (contact table x y) ≡ 0 → after now (contact table x y) ≡ afterContact now table x y
+pub contact-leaves : (now : Moment) (c : Contact) → numberGiven now (contact c) ≡ 0 → after now (contact c) ≡ afterContact now table x y
 contact-leaves = TouchEffects.contact-leaves
 
 pub lift-leaves : (now : Moment) → numberGiven now lift ≡ 0 → after now lift ≡ afterLift now
 lift-leaves = TouchEffects.lift-leaves
 
 -- "Contact while up: .. The first record of the current page holding the point acts": what it stores
-module _ (now : Moment) (table : List ℕ) (are : Bytes table) (x y : ℕ) (done : numberGiven now (contact table x y) ≡ 0)
+module _ (now : Moment) (table : List ℕ) (are : Bytes table) (x y : ℕ) (done : numberGiven now (contact c) ≡ 0)
     (up : isDown (now .panel .registers) ≡ false) (i : ℕ) (r : Record) (acts : found table (pageOf (now .panel .registers)) x y ≡ At i r) where
   -- Key: "mode 0 whole word, 1 high byte, 2 low byte; 14 code"
   pub key-stores : (code : ℕ) → r .kind ≡ Key code
-      → wordAtAddress (after now (contact table x y) .words) (r .word) ≡ keyStores (r .mode) (wordAtAddress (now .words) (r .word)) code
+      → wordAtAddress (after now (contact c) .words) (r .word) ≡ keyStores (r .mode) (wordAtAddress (now .lent .words) (r .word)) code
   key-stores = TouchEffects.key-stores now table are x y done up i r acts
 
   -- "Step: t is the value with the step added or taken, as whole numbers. If t is within the ends, store t. Otherwise ..": read in its mode
   pub step-stores : (f : StepFields) → r .kind ≡ Step f
-      → valueIn (r .mode) (wordAtAddress (after now (contact table x y) .words) (r .word))
+      → valueIn (r .mode) (wordAtAddress (after now (contact c) .words) (r .word))
       ≡ fenced (stepsUp f) (goesRound f) (signed (f .least)) (signed (f .greatest))
-      (stepped (stepsUp f) (valueIn (r .mode) (wordAtAddress (now .words) (r .word))) (f .step))
+      (stepped (stepsUp f) (valueIn (r .mode) (wordAtAddress (now .lent .words) (r .word))) (f .step))
   step-stores = TouchEffects.step-stores now table are x y done up i r acts
 
   -- "Slider: .. |end − begin|·d / w rounded down is moved from begin towards end.", upward and downward alike: read in its mode
   pub slider-stores : (f : SliderFields) → r .kind ≡ Slider f
-      → valueIn (digitMode (r .mode)) (wordAtAddress (after now (contact table x y) .words) (r .word))
+      → valueIn (digitMode (r .mode)) (wordAtAddress (after now (contact c) .words) (r .word))
       ≡ slidTo roundedDown (signed (f .begin)) (signed (f .end)) (firstEdge (r .mode) (r .area)) (lastEdge (r .mode) (r .area)) (along (r .mode) x y)
   slider-stores = TouchEffects.slider-stores now table are x y done up i r acts
 
 -- "Contact while down: .. a caught slider stores for the point moved to the nearest place in its area"
-pub dragged-slider-stores : (now : Moment) → Arises now → (table : List ℕ) (x y : ℕ) → numberGiven now (contact table x y) ≡ 0
+pub dragged-slider-stores : (now : Moment) → Arises now → (c : Contact) → numberGiven now (contact c) ≡ 0
     → isDown (now .panel .registers) ≡ true → (r : Record) → now .panel .catch ≡ Caught r → (f : SliderFields) → r .kind ≡ Slider f
-    → valueIn (digitMode (r .mode)) (wordAtAddress (after now (contact table x y) .words) (r .word))
+    → valueIn (digitMode (r .mode)) (wordAtAddress (after now (contact c) .words) (r .word))
     ≡ slidTo roundedDown (signed (f .begin)) (signed (f .end)) (firstEdge (r .mode) (r .area)) (lastEdge (r .mode) (r .area)) (along (r .mode) x y)
 dragged-slider-stores = Caught.dragged-slider-stores
 
 -- "What our frame writer writes, our reader reads back as the same command and data.": what it wrote into any room, under the header and the choice that
 -- are set up, given to the panel while nothing is held or waiting
 pub writer-reads-back : (now : Moment) → Arises now → NothingHeldOrWaiting (rulesOf (now .panel)) (keptOf (now .panel .reader))
-    → length (now .words) ≡ wordCount → leastRoom ≤ length (now .room) → (command : ℕ) (payload room : List ℕ) (n : ℕ)
+    → length (now .lent .words) ≡ wordCount → leastRoom ≤ length (now .lent .room) → (command : ℕ) (payload room : List ℕ) (n : ℕ)
     → writing (checkingOf (now .panel .setup)) (headerOf (now .panel .setup)) command payload room .answer ≡ Frame n
     → ReadsBack now (take n (writing (checkingOf (now .panel .setup)) (headerOf (now .panel .setup)) command payload room .room)) command payload
 writer-reads-back now arises = ReadBack.writer-reads-back now (arises-reachable now arises)
 
 -- "No word or register changes but those the command or touch rule names.": over any sequence of calls
-pub no-other-word-changes : (now : Moment) (calls : List Call) (k : ℕ) → wordAtAddress (afterAll now calls .words) k ≢ wordAtAddress (now .words) k
+pub no-other-word-changes : (now : Moment) (calls : List Call) (k : ℕ) → wordAtAddress (afterAll now calls .words) k ≢ wordAtAddress (now .lent .words) k
     → Some (λ then call. NamesWord then k call) now calls
 no-other-word-changes now calls k differs = ⊎-elim (λ same. absurd (differs same)) (λ named. named) (Named.word-stays-or-is-named now calls k)
 
@@ -167,5 +167,5 @@ no-other-register-changes now arises calls typed address differs =
 pub registers-are-bytes : (now : Moment) → Arises now → (address : ℕ) → panelRegister (now .panel) address < 256
 registers-are-bytes = Sizes.registers-are-bytes
 
-pub words-are-16-bit : (now : Moment) → Arises now → (k : ℕ) → wordAtAddress (now .words) k < 65536
+pub words-are-16-bit : (now : Moment) → Arises now → (k : ℕ) → wordAtAddress (now .lent .words) k < 65536
 words-are-16-bit = Sizes.words-are-16-bit

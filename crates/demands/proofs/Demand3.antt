@@ -76,7 +76,7 @@ unfolding newPanel
 demand3-after-mark setup table words room is calls typed before came none-waits =
     let line = lineOf setup in
     let new = new-reader setup table words room is in
-    let now = begun setup table words room in
+    let now = begun setup table lent in
     let reachable = by-start setup table is in
     let c = carried line now reachable new calls typed in
     let last = afterAll now calls in
@@ -84,13 +84,13 @@ demand3-after-mark setup table words room is calls typed before came none-waits 
     c .reads ∙ ap (readerOf line) (after-mark (rulesFor line) (c .events) before (c .gives ∙ came) (sym (waits-same line now reachable new calls typed) ∙ none-waits)) in
     record {
       new-reader = as-new;
-      reads-as-new = read-alike last (begun setup table (last .words) (last .room)) (as-new ∙ sym new) refl refl;
+      reads-as-new = read-alike last (begun setup table (last .lent)) (as-new ∙ sym new) refl refl;
     }
 
 pub demand3-ready-again : ReadyAgain
 unfolding newPanel reportWaits
 demand3-ready-again setup table words room arises is calls typed before came none-waits checking =
-    let now = begun setup table words room in
+    let now = begun setup table lent in
     let new = demand3-after-mark setup table words room is calls typed before came none-waits .new-reader in
     record {
       arises = calls-arise now calls typed arises;

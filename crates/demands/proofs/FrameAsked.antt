@@ -44,15 +44,15 @@ use Rattle.demands.proofs.Rooms.{acknowledged-laid, acknowledgement-sho
 
 -- what is known where an accepted frame is handed over
 pub record Asks (now : Moment) (command : ℕ) (content : List ℕ) : Type 0 where
-  pub whole : length (now .words) ≡ wordCount
-  pub large : leastRoom ≤ length (now .room)
+  pub whole : length (now .lent .words) ≡ wordCount
+  pub large : leastRoom ≤ length (now .lent .room)
   pub count : ℕ
   pub told : asked (now .panel .reader) .report ≡ line.Accepted command count
   pub content-is : take count (asked (now .panel .reader) .payload) ≡ content
 
 pub handed-asks : (now : Moment) (command : ℕ) (content : List ℕ) → handedOver now ask ≡ acceptedFrame command content ∷ [] → Asks now command content
 unfolding handedOver reporting handing reportHanded lent
-handed-asks now command content = go (lent (length (now .words)) (length (now .room))) refl (a .report) refl
+handed-asks now command content = go (wellLent (now .lent)) refl (a .report) refl
   where
     panel : Panel
     panel = now .panel
@@ -61,9 +61,9 @@ handed-asks now command content = go (lent (length (now .words)) (length (now .r
     a = asked (panel .reader)
 
     done : Bool → Report → Reporting
-    done enough told = reportedBy panel (now .words) (now .room) enough a told
+    done enough told = reportedBy panel (now .lent) enough a told
 
-    go : (l : Bool) → lent (length (now .words)) (length (now .room)) ≡ l → (told : Report) → a .report ≡ told
+    go : (l : Bool) → wellLent (now .lent) ≡ l → (told : Report) → a .report ≡ told
         → reportHanded (done l told .reported .handed) (done l told .reported .payload) ≡ acceptedFrame command content ∷ []
         → Asks now command content
     go false is told tells hands = never (cc)
@@ -72,8 +72,8 @@ handed-asks now command content = go (lent (length (now .words)) (length (now .r
     go true is (line.Accepted c n) tells hands =
         let same : c ≡ command = cc in
         record {
-          whole = eqb-true (length (now .words)) wordCount (and-left (eqb (length (now .words)) wordCount) (leb leastRoom (length (now .room))) is);
-          large = leb-true leastRoom (length (now .room)) (and-right (eqb (length (now .words)) wordCount) (leb leastRoom (length (now .room))) is);
+          whole = eqb-true (length (now .lent .words)) wordCount (and-left (eqb (length (now .lent .words)) wordCount) (leb leastRoom (length (now .lent .room))) is);
+          large = leb-true leastRoom (length (now .lent .room)) (and-right (eqb (length (now .lent .words)) wordCount) (leb leastRoom (length (now .lent .room))) is);
           count = n;
           told = tells ∙ ap (λ (k : ℕ). line.Accepted k n) same;
           content-is = cc;
@@ -97,7 +97,7 @@ module _ (now : Moment) (sound : Sound (now .panel)) (command : ℕ) (content : 
   leftWith : List ℕ → Laid → Reader → Moment
   leftWith came answered reader =
       let done =
-      performance (now .panel .registers) (setup .pages) (checkingOf setup) (headerOf setup) command came (now .words) (drop (answered .count) (answered .room)) in
+      performance (now .panel .registers) (setup .pages) (checkingOf setup) (headerOf setup) command came (now .lent .words) (drop (answered .count) (answered .room)) in
       record {
         panel = record {
           setup = setup;
@@ -109,34 +109,34 @@ module _ (now : Moment) (sound : Sound (now .panel)) (command : ℕ) (content : 
         room = take (answered .count) (answered .room) ++ done .room;
       }
 
-  after-frame : after now ask ≡ leftWith content (lays (length answer) (over answer (now .room))) (readBehind (now .panel) .reader)
+  after-frame : after now ask ≡ leftWith content (lays (length answer) (over answer (now .lent .room))) (readBehind (now .panel) .reader)
   unfolding after handing accepting leftWith readBehind
   after-frame =
       let a = asked (now .panel .reader) in
       ap momentAsked
-      (frame-reporting (now .panel) (now .words) (now .room) (asks .whole) (asks .large) command (asks .count) (asks .told))
-      ∙ ap (λ (came : List ℕ). leftWith came (acknowledged setup command true (now .room)) (a .reader)) (asks .content-is)
-      ∙ ap (λ (answered : Laid). leftWith content answered (a .reader)) (acknowledged-laid setup command true (now .room) (asks .large))
-      ∙ ap (leftWith content (lays (length answer) (over answer (now .room)))) (asked-reader (now .panel) sound)
+      (frame-reporting (now .panel) (now .lent) (asks .whole) (asks .large) command (asks .count) (asks .told))
+      ∙ ap (λ (came : List ℕ). leftWith came (acknowledged setup command true (now .lent .room)) (a .reader)) (asks .content-is)
+      ∙ ap (λ (answered : Laid). leftWith content answered (a .reader)) (acknowledged-laid setup command true (now .lent .room) (asks .large))
+      ∙ ap (leftWith content (lays (length answer) (over answer (now .lent .room)))) (asked-reader (now .panel) sound)
 
   pub done-number : numberGiven now ask ≡ Outcome.numberOfOutcome (outcome (setup .pages) wordCount (checkingOf setup) command content)
   unfolding numberGiven handing reportNumber accepting
   done-number =
       let a = asked (now .panel .reader) in
       let came = take (asks .count) (a .payload) in
-      let answered = acknowledged setup command true (now .room) in
+      let answered = acknowledged setup command true (now .lent .room) in
       ap (λ (r : Reporting). reportNumber (r .reported .handed))
-      (frame-reporting (now .panel) (now .words) (now .room) (asks .whole) (asks .large) command (asks .count) (asks .told))
+      (frame-reporting (now .panel) (now .lent) (asks .whole) (asks .large) command (asks .count) (asks .told))
       ∙ ap Outcome.numberOfOutcome
-      (performs-outcome (now .panel .registers) (setup .pages) (checkingOf setup) (headerOf setup) command came (now .words) (drop (answered .count) (answered .room)))
+      (performs-outcome (now .panel .registers) (setup .pages) (checkingOf setup) (headerOf setup) command came (now .lent .words) (drop (answered .count) (answered .room)))
       ∙ ap (λ (n : ℕ). Outcome.numberOfOutcome (outcome (setup .pages) n (checkingOf setup) command came)) (asks .whole)
       ∙ ap (λ (c : List ℕ). Outcome.numberOfOutcome (outcome (setup .pages) wordCount (checkingOf setup) command c)) (asks .content-is)
 
   -- a command that does this to registers, page, words and room leaves this
   pub performance-leaves : (registers : Registers) (paged : Bool) (words reply : List ℕ) (o : Outcome) (count : ℕ)
-      → performance (now .panel .registers) (setup .pages) (checkingOf setup) (headerOf setup) command content (now .words)
-      (drop (length answer) (over answer (now .room)))
-      ≡ performs (record { outcome = o; registers = registers; paged = paged; count = count }) words (over reply (drop (length answer) (over answer (now .room))))
+      → performance (now .panel .registers) (setup .pages) (checkingOf setup) (headerOf setup) command content (now .lent .words)
+      (drop (length answer) (over answer (now .lent .room)))
+      ≡ performs (record { outcome = o; registers = registers; paged = paged; count = count }) words (over reply (drop (length answer) (over answer (now .lent .room))))
       → after now ask ≡ leaving now command registers (cond paged Free (now .panel .catch)) words reply
   unfolding leaving leftWith
   performance-leaves registers paged words reply o count does =
@@ -149,7 +149,7 @@ module _ (now : Moment) (sound : Sound (now .panel)) (command : ℕ) (content : 
           reader = readBehind (now .panel) .reader;
         };
         words = d .words;
-        room = take (length answer) (over answer (now .room)) ++ d .room;
+        room = take (length answer) (over answer (now .lent .room)) ++ d .room;
       }) does
       ∙ ap (λ (r : List ℕ). record {
         panel = record {
@@ -162,16 +162,16 @@ module _ (now : Moment) (sound : Sound (now .panel)) (command : ℕ) (content : 
         room = r;
       }) room-is
     where
-      room-is : take (length answer) (over answer (now .room)) ++ over reply (drop (length answer) (over answer (now .room))) ≡ over (answer ++ reply) (now .room)
-      room-is = rw (take-over answer (now .room) (length answer) refl, drop-over answer (now .room) (length answer) refl) (reply-behind answer reply (now .room))
+      room-is : take (length answer) (over answer (now .lent .room)) ++ over reply (drop (length answer) (over answer (now .lent .room))) ≡ over (answer ++ reply) (now .lent .room)
+      room-is = rw (take-over answer (now .lent .room) (length answer) refl, drop-over answer (now .lent .room) (length answer) refl) (reply-behind answer reply (now .lent .room))
 
   -- behind an acknowledgement there is room for every frame
   pub part-holds : (payload : List ℕ) (c : ℕ) → length payload ≤ mostData (checkingOf setup)
-      → length (frameOf (checkingOf setup) (headerOf setup) c payload) ≤ length (drop (length answer) (over answer (now .room)))
+      → length (frameOf (checkingOf setup) (headerOf setup) c payload) ≤ length (drop (length answer) (over answer (now .lent .room)))
   unfolding headerBytes
   part-holds payload c within =
       let short = acknowledgement-short setup command true in
       let large = asks .large in
-      let long = length-over answer (now .room) (omega arith) in
+      let long = length-over answer (now .lent .room) (omega arith) in
       let most = length-most (checkingOf setup) in
-      rw (length-frameOf (checkingOf setup) (headerOf setup) c payload, length-drop (length answer) (over answer (now .room)), long) (omega arith)
+      rw (length-frameOf (checkingOf setup) (headerOf setup) c payload, length-drop (length answer) (over answer (now .lent .room)), long) (omega arith)

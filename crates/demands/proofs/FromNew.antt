@@ -56,23 +56,23 @@ module _ (line : Declared.Line) (now : Moment) (reachable : Reachable (now .pane
       ∙ waiting-is line (run (rulesFor line) fresh (carried .events) .kept) (carried .reached)
 
 -- a start that is done
-pub new-reader : (setup : Setup) (table words room : List ℕ) → started setup table .answer ≡ start.Started
-    → begun setup table words room .panel .reader ≡ readerOf (lineOf setup) fresh
+pub new-reader : (setup : Setup) (table : List ℕ) (lent : Lent) → started setup table .answer ≡ start.Started
+    → begun setup table lent .panel .reader ≡ readerOf (lineOf setup) fresh
 unfolding newPanel
 new-reader setup table words room is = ap (λ (p : Panel). p .reader) (started-new setup table is)
 
 -- no call changes the setup
 setup-stays : (now : Moment) (call : Call) → after now call .panel .setup ≡ now .panel .setup
 unfolding after fedByte fedMark fedBytes handing
-setup-stays now (lend words room) = refl
+setup-stays now (lend lent) = refl
 setup-stays now (byte b) = refl
 setup-stays now (bytes bs) = refl
 setup-stays now mark = refl
 setup-stays now ask =
-    report-ways (now .panel) (now .words) (now .room) (λ r. r .reported .panel .setup ≡ now .panel .setup) (λ h payload. refl) (λ command is. refl)
+    report-ways (now .panel) (now .lent) (λ r. r .reported .panel .setup ≡ now .panel .setup) (λ h payload. refl) (λ command is. refl)
     (λ command count is. refl)
-setup-stays now (contact table x y) =
-    contact-ways (now .panel) table (now .words) x y (λ c. c .contacted .panel .setup ≡ now .panel .setup) (λ answer. refl) (λ good. refl)
+setup-stays now (contact c) =
+    contact-ways (now .panel) table (now .lent .words) x y (λ c. c .contacted .panel .setup ≡ now .panel .setup) (λ answer. refl) (λ good. refl)
 setup-stays now lift = lift-ways (now .panel) (λ l. l .panel .setup ≡ now .panel .setup) refl refl refl
 
 pub all-setup-stays : (now : Moment) (calls : List Call) → afterAll now calls .panel .setup ≡ now .panel .setup
@@ -80,6 +80,6 @@ unfolding afterAll
 all-setup-stays now [] = refl
 all-setup-stays now (call ∷ calls) = all-setup-stays (after now call) calls ∙ setup-stays now call
 
-pub begun-setup : (setup : Setup) (table words room : List ℕ) → started setup table .answer ≡ start.Started → begun setup table words room .panel .setup ≡ setup
+pub begun-setup : (setup : Setup) (table : List ℕ) (lent : Lent) → started setup table .answer ≡ start.Started → begun setup table lent .panel .setup ≡ setup
 unfolding newPanel
 begun-setup setup table words room is = ap (λ (p : Panel). p .setup) (started-new setup table is)

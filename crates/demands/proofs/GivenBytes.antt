@@ -42,12 +42,12 @@ unless-mark Waits = tt
 
 given-bytes : (now : Moment) (call : Call) → Typed call → AreBytes (given now call)
 unfolding AreBytes given Typed
-given-bytes now (lend words room) typed = tt
+given-bytes now (lend lent) typed = tt
 given-bytes now (byte b) typed = unless-byte (fedByte (now .panel) b .answer) b typed
 given-bytes now (bytes bs) typed = are-mapped (fedBytes (now .panel) bs .used) bs typed
 given-bytes now mark typed = unless-mark (fedMark (now .panel) .answer)
 given-bytes now ask typed = tt
-given-bytes now (contact table x y) typed = tt
+given-bytes now (contact c) typed = tt
 given-bytes now lift typed = tt
 
 pub all-given-bytes : (now : Moment) (calls : List Call) → AllTyped calls → AreBytes (givenAll now calls)

@@ -200,7 +200,7 @@ module _ (left : LeftByAsking) (demand : DoesCommands left) where
   word-is-500 : wordAtAddress (left (fed zeros storeFrame) .words) 0x0010 ≡ 500
   unfolding computingCalls allBytes
   word-is-500 =
-      ap (λ (m : Moment). wordAtAddress (m .words) 0x0010)
+      ap (λ (m : Moment). wordAtAddress (m .lent .words) 0x0010)
       (demand .stores (fed zeros storeFrame) (fed-arises 0 storeFrame (omega arith) refl) (0x00 ∷ 0x10 ∷ 0x01 ∷ 0xF4 ∷ []) (all-done .storing .done) (all-done .storing .hands))
 
   word-was-0 : wordAtAddress (fed zeros storeFrame .words) 0x0010 ≡ 0
@@ -217,7 +217,7 @@ module _ (left : LeftByAsking) (demand : DoesCommands left) where
   pub does-a-command : RefusesEveryCommand left → ⊥
   unfolding leaving
   does-a-command idle =
-      let stands : left (fed zeros storeFrame) .words ≡ (fed zeros storeFrame) .words = ap (λ (m : Moment). m .words) (idle (fed zeros storeFrame) 0x82 (0x00 ∷ 0x10 ∷ 0x01 ∷ 0xF4 ∷ []) (all-done .storing .hands)) in
+      let stands : left (fed zeros storeFrame) .words ≡ (fed zeros storeFrame) .words = ap (λ (m : Moment). m .lent .words) (idle (fed zeros storeFrame) 0x82 (0x00 ∷ 0x10 ∷ 0x01 ∷ 0xF4 ∷ []) (all-done .storing .hands)) in
       let same : _≡_ {A = ℕ} 500 0 = sym word-is-500 ∙ ap (λ (ws : List ℕ). wordAtAddress ws 0x0010) stands ∙ word-was-0 in
       omega arith
 
@@ -239,11 +239,11 @@ module _ (left : LeftByAsking) (demand : DoesCommands left) where
   -- the replies: byte 8 of the one is the word's low byte, byte 6 of the other the register
   replied-0 : getD (left (fed zeros fetchFrame) .room) 8 0 ≡ 0
   unfolding computingCalls allBytes
-  replied-0 = ap (λ (m : Moment). getD (m .room) 8 0) (demand .fetches (fed zeros fetchFrame) (fed-arises 0 fetchFrame (omega arith) refl) (0x00 ∷ 0x10 ∷ 0x01 ∷ []) (all-done .fetching-0 .done) (all-done .fetching-0 .hands))
+  replied-0 = ap (λ (m : Moment). getD (m .lent .room) 8 0) (demand .fetches (fed zeros fetchFrame) (fed-arises 0 fetchFrame (omega arith) refl) (0x00 ∷ 0x10 ∷ 0x01 ∷ []) (all-done .fetching-0 .done) (all-done .fetching-0 .hands))
 
   replied-1 : getD (left (fed ones fetchFrame) .room) 8 0 ≡ 1
   unfolding computingCalls allBytes
-  replied-1 = ap (λ (m : Moment). getD (m .room) 8 0) (demand .fetches (fed ones fetchFrame) (fed-arises 1 fetchFrame (omega arith) refl) (0x00 ∷ 0x10 ∷ 0x01 ∷ []) (all-done .fetching-1 .done) (all-done .fetching-1 .hands))
+  replied-1 = ap (λ (m : Moment). getD (m .lent .room) 8 0) (demand .fetches (fed ones fetchFrame) (fed-arises 1 fetchFrame (omega arith) refl) (0x00 ∷ 0x10 ∷ 0x01 ∷ []) (all-done .fetching-1 .done) (all-done .fetching-1 .hands))
 
   -- "replying alike to all reads", against demand 2 (`reads-words`)
   pub replies-by-words : RepliesAlike 0x83 left → ⊥
@@ -255,11 +255,11 @@ module _ (left : LeftByAsking) (demand : DoesCommands left) where
 
   replied-version : getD (left (fed zeros versionFrame) .room) 6 0 ≡ 0x10
   unfolding computingCalls allBytes
-  replied-version = ap (λ (m : Moment). getD (m .room) 6 0) (demand .reads (fed zeros versionFrame) (fed-arises 0 versionFrame (omega arith) refl) (0x00 ∷ 0x01 ∷ []) (all-done .reading-version .done) (all-done .reading-version .hands))
+  replied-version = ap (λ (m : Moment). getD (m .lent .room) 6 0) (demand .reads (fed zeros versionFrame) (fed-arises 0 versionFrame (omega arith) refl) (0x00 ∷ 0x01 ∷ []) (all-done .reading-version .done) (all-done .reading-version .hands))
 
   replied-light : getD (left (fed zeros lightFrame) .room) 6 0 ≡ 0x3F
   unfolding computingCalls allBytes
-  replied-light = ap (λ (m : Moment). getD (m .room) 6 0) (demand .reads (fed zeros lightFrame) (fed-arises 0 lightFrame (omega arith) refl) (0x01 ∷ 0x01 ∷ []) (all-done .reading-light .done) (all-done .reading-light .hands))
+  replied-light = ap (λ (m : Moment). getD (m .lent .room) 6 0) (demand .reads (fed zeros lightFrame) (fed-arises 0 lightFrame (omega arith) refl) (0x01 ∷ 0x01 ∷ []) (all-done .reading-light .done) (all-done .reading-light .hands))
 
   -- the same of registers, against demand 2 (`reads-registers`)
   pub replies-by-registers : RepliesAlike 0x81 left → ⊥

@@ -126,7 +126,7 @@ parts-long n front later same =
     ∙ ap length (take-append-drop n front)
 
 module _ (panel : Panel) (words room : List ℕ) where
-  pub reported-words-long : length (reporting panel words room .words) ≡ length words
+  pub reported-words-long : length (reporting panel lent .words) ≡ length words
   unfolding handing accepting
   reported-words-long =
       report-ways panel words room (λ r. length (r .words) ≡ length words) (λ h payload. refl) (λ command is. refl)
@@ -135,7 +135,7 @@ module _ (panel : Panel) (words room : List ℕ) where
       performed-words-long (panel .registers) (panel .setup .pages) (checkingOf (panel .setup)) (headerOf (panel .setup)) command
       (take count (asked (panel .reader) .payload)) words (drop (answer .count) (answer .room)))
 
-  pub reported-room-long : length (reporting panel words room .room) ≡ length room
+  pub reported-room-long : length (reporting panel lent .room) ≡ length room
   unfolding handing accepting
   reported-room-long =
       report-ways panel words room (λ r. length (r .room) ≡ length room) (λ h payload. refl) (λ command is. answer-long (panel .setup) command false room)
@@ -168,6 +168,6 @@ touched-long pad table words x y = go (isDown (pad .registers))
     go true = dragged-long (pad .catch) words x y
     go false = acted-long (found table (pageOf (pad .registers)) x y) (withPlace (withStatus (pad .registers) 0x01) x y) (pad .catch) words x y
 
-pub contacted-words-long : (panel : Panel) (table words : List ℕ) (x y : ℕ) → length (contacting panel table words x y .words) ≡ length words
+pub contacted-words-long : (panel : Panel) (table words : List ℕ) (x y : ℕ) → length (contacting panel c lent .words) ≡ length words
 contacted-words-long panel table words x y =
     contact-ways panel table words x y (λ c. length (c .words) ≡ length words) (λ answer. refl) (λ good. touched-long (padOf panel) table words x y)

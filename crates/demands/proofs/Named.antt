@@ -85,7 +85,7 @@ record StoredWord (k : ℕ) (r : Reporting) : Type 0 where
   below : k < wordAt content 0 + length (wordsOf (drop 2 content))
 
 asked-word : (panel : Panel) (words room : List ℕ) (k : ℕ)
-    → (wordAtAddress (reporting panel words room .words) k ≡ wordAtAddress words k) ⊎ StoredWord k (reporting panel words room)
+    → (wordAtAddress (reporting panel lent .words) k ≡ wordAtAddress words k) ⊎ StoredWord k (reporting panel lent)
 unfolding handing accepting outcome
 asked-word panel words room k =
     report-ways panel words room (λ r. (wordAtAddress (r .words) k ≡ wordAtAddress words k) ⊎ StoredWord k r) (λ h payload. inl refl) (λ command is. inl refl)
@@ -104,49 +104,49 @@ asked-word panel words room k =
 
 -- a word over a contact
 contacted-word : (now : Moment) (table : List ℕ) (x y k : ℕ)
-    → (wordAtAddress (contacting (now .panel) table (now .words) x y .words) k ≡ wordAtAddress (now .words) k) ⊎ NamesWord now k (contact table x y)
+    → (wordAtAddress (contacting (now .panel) c (now .lent) .words) k ≡ wordAtAddress (now .lent .words) k) ⊎ NamesWord now k (contact c)
 unfolding numberGiven contactNumber
 contacted-word now table x y k =
     ⊎-elim inl (λ named. inr (by-touch (named .0) (named .1)))
-    (contact-ways (now .panel) table (now .words) x y
-    (λ c. (wordAtAddress (c .words) k ≡ wordAtAddress (now .words) k)
+    (contact-ways (now .panel) table (now .lent .words) x y
+    (λ c. (wordAtAddress (c .words) k ≡ wordAtAddress (now .lent .words) k)
     ⊎ ((contactNumber (c .contacted .answer) ≡ 0) × Touch.NamesWord (padOf (now .panel)) table x y k))
     (λ answer. inl refl)
-    (λ good. ⊎-elim inl (λ named. inr (refl, named)) (Touch.word-named (padOf (now .panel)) table (now .words) x y k)))
+    (λ good. ⊎-elim inl (λ named. inr (refl, named)) (Touch.word-named (padOf (now .panel)) table (now .lent .words) x y k)))
   where
-    by-touch : contactNumber (contacting (now .panel) table (now .words) x y .contacted .answer) ≡ 0 → Touch.NamesWord (padOf (now .panel)) table x y k
-        → NamesWord now k (contact table x y)
+    by-touch : contactNumber (contacting (now .panel) c (now .lent) .contacted .answer) ≡ 0 → Touch.NamesWord (padOf (now .panel)) table x y k
+        → NamesWord now k (contact c)
     by-touch done (Touch.acts i r up is word) = by-acting table x y i r done up is word
     by-touch done (Touch.drags r down is word) = by-dragging table x y r done down is word
 
 -- a word over words lent anew
 lent-word : (now : Moment) (words room : List ℕ) (k : ℕ)
-    → (wordAtAddress words k ≡ wordAtAddress (now .words) k) ⊎ NamesWord now k (lend words room)
-lent-word now words room k = go (eqb (wordAtAddress words k) (wordAtAddress (now .words) k)) refl
+    → (wordAtAddress words k ≡ wordAtAddress (now .lent .words) k) ⊎ NamesWord now k (lend lent)
+lent-word now words room k = go (eqb (wordAtAddress words k) (wordAtAddress (now .lent .words) k)) refl
   where
-    go : (b : Bool) → eqb (wordAtAddress words k) (wordAtAddress (now .words) k) ≡ b
-        → (wordAtAddress words k ≡ wordAtAddress (now .words) k) ⊎ NamesWord now k (lend words room)
-    go true is = inl (eqb-true (wordAtAddress words k) (wordAtAddress (now .words) k) is)
-    go false is = inr (by-lending words room (eqb-false (wordAtAddress words k) (wordAtAddress (now .words) k) is))
+    go : (b : Bool) → eqb (wordAtAddress words k) (wordAtAddress (now .lent .words) k) ≡ b
+        → (wordAtAddress words k ≡ wordAtAddress (now .lent .words) k) ⊎ NamesWord now k (lend lent)
+    go true is = inl (eqb-true (wordAtAddress words k) (wordAtAddress (now .lent .words) k) is)
+    go false is = inr (by-lending words room (eqb-false (wordAtAddress words k) (wordAtAddress (now .lent .words) k) is))
 
 -- a word over any call: it stays, or the call names it
 pub call-names-word : (now : Moment) (call : Call) (k : ℕ)
-    → (wordAtAddress (after now call .words) k ≡ wordAtAddress (now .words) k) ⊎ NamesWord now k call
+    → (wordAtAddress (after now call .words) k ≡ wordAtAddress (now .lent .words) k) ⊎ NamesWord now k call
 unfolding after numberGiven handedOver
-call-names-word now (lend words room) k = lent-word now words room k
+call-names-word now (lend lent) k = lent-word now words room k
 call-names-word now (byte b) k = inl refl
 call-names-word now (bytes bs) k = inl refl
 call-names-word now mark k = inl refl
 call-names-word now ask k =
     ⊎-elim inl
     (λ stored. inr (by-store (stored .content) (stored .handing .handed) (stored .handing .done) (stored .from) (stored .below)))
-    (asked-word (now .panel) (now .words) (now .room) k)
-call-names-word now (contact table x y) k = contacted-word now table x y k
+    (asked-word (now .panel) (now .lent) k)
+call-names-word now (contact c) k = contacted-word now table x y k
 call-names-word now lift k = inl refl
 
 -- a word over any sequence of calls: it stays, or some call of the sequence names it
 pub word-stays-or-is-named : (now : Moment) (calls : List Call) (k : ℕ)
-    → (wordAtAddress (afterAll now calls .words) k ≡ wordAtAddress (now .words) k) ⊎ Some (λ then call. NamesWord then k call) now calls
+    → (wordAtAddress (afterAll now calls .words) k ≡ wordAtAddress (now .lent .words) k) ⊎ Some (λ then call. NamesWord then k call) now calls
 unfolding afterAll
 word-stays-or-is-named now [] k = inl refl
 word-stays-or-is-named now (call ∷ calls) k =
@@ -163,7 +163,7 @@ record WrittenRegister (address : ℕ) (r : Reporting) : Type 0 where
   below : address < byteAt content 0 + length (drop 1 content)
 
 asked-register : (panel : Panel) → length (panel .registers .bytes) ≡ registerCount → (words room : List ℕ) (address : ℕ)
-    → (panelRegister (reporting panel words room .reported .panel) address ≡ panelRegister panel address) ⊎ WrittenRegister address (reporting panel words room)
+    → (panelRegister (reporting panel lent .reported .panel) address ≡ panelRegister panel address) ⊎ WrittenRegister address (reporting panel lent)
 unfolding handing accepting outcome
 asked-register panel whole words room address =
     report-ways panel words room (λ r. (panelRegister (r .reported .panel) address ≡ panelRegister panel address) ⊎ WrittenRegister address r)
@@ -183,19 +183,19 @@ asked-register panel whole words room address =
 
 -- a register over a contact
 contacted-register : (now : Moment) → length (now .panel .registers .bytes) ≡ registerCount → (table : List ℕ) (x y address : ℕ)
-    → (panelRegister (contacting (now .panel) table (now .words) x y .contacted .panel) address ≡ panelRegister (now .panel) address)
-    ⊎ NamesRegister now address (contact table x y)
+    → (panelRegister (contacting (now .panel) c (now .lent) .contacted .panel) address ≡ panelRegister (now .panel) address)
+    ⊎ NamesRegister now address (contact c)
 unfolding numberGiven contactNumber
 contacted-register now whole table x y address =
     ⊎-elim inl (λ named. inr (by-touch (named .0) (named .1)))
-    (contact-ways (now .panel) table (now .words) x y
+    (contact-ways (now .panel) table (now .lent .words) x y
     (λ c. (panelRegister (c .contacted .panel) address ≡ panelRegister (now .panel) address)
     ⊎ ((contactNumber (c .contacted .answer) ≡ 0) × Touches (padOf (now .panel)) table x y address))
     (λ answer. inl refl)
-    (λ good. ⊎-elim inl (λ named. inr (refl, named)) (touched-register (padOf (now .panel)) whole table x y address (now .words))))
+    (λ good. ⊎-elim inl (λ named. inr (refl, named)) (touched-register (padOf (now .panel)) whole table x y address (now .lent .words))))
   where
-    by-touch : contactNumber (contacting (now .panel) table (now .words) x y .contacted .answer) ≡ 0 → Touches (padOf (now .panel)) table x y address
-        → NamesRegister now address (contact table x y)
+    by-touch : contactNumber (contacting (now .panel) c (now .lent) .contacted .answer) ≡ 0 → Touches (padOf (now .panel)) table x y address
+        → NamesRegister now address (contact c)
     by-touch done (Registers.status is) = by-status table x y done is
     by-touch done (Registers.place flag is) = by-place table x y done flag is
     by-touch done (Registers.page i r up is next at) = by-page table x y i r done up is next at
@@ -219,15 +219,15 @@ lifted-register now whole address =
 pub call-names-register : (now : Moment) → length (now .panel .registers .bytes) ≡ registerCount → (call : Call) (address : ℕ)
     → (panelRegister (after now call .panel) address ≡ panelRegister (now .panel) address) ⊎ NamesRegister now address call
 unfolding after numberGiven handedOver fedByte fedMark fedBytes
-call-names-register now whole (lend words room) address = inl refl
+call-names-register now whole (lend lent) address = inl refl
 call-names-register now whole (byte b) address = inl refl
 call-names-register now whole (bytes bs) address = inl refl
 call-names-register now whole mark address = inl refl
 call-names-register now whole ask address =
     ⊎-elim inl
     (λ stored. inr (by-write (stored .content) (stored .handing .handed) (stored .handing .done) (stored .from) (stored .below)))
-    (asked-register (now .panel) whole (now .words) (now .room) address)
-call-names-register now whole (contact table x y) address = contacted-register now whole table x y address
+    (asked-register (now .panel) whole (now .lent) address)
+call-names-register now whole (contact c) address = contacted-register now whole table x y address
 call-names-register now whole lift address = lifted-register now whole address
 
 -- a register over any sequence of calls, from a panel that is reached: it stays, or some call of the sequence names it

@@ -31,24 +31,24 @@ use Rattle.demands.proofs.Waits.{busy-waits, sound-ask-hands}
 use Rattle.demands.proofs.Lent.{reported-words-long, reported-room-long}
 use Rattle.demands.proofs.Reading.{ask-moves}
 
-is-lent : (now : Moment) → length (now .words) ≡ wordCount → leastRoom ≤ length (now .room) → lent (length (now .words)) (length (now .room)) ≡ true
+is-lent : (now : Moment) → length (now .lent .words) ≡ wordCount → leastRoom ≤ length (now .lent .room) → wellLent (now .lent) ≡ true
 unfolding lent
-is-lent now whole large = rw (eq-eqb (length (now .words)) wordCount whole, le-leb leastRoom (length (now .room)) large)
+is-lent now whole large = rw (eq-eqb (length (now .lent .words)) wordCount whole, le-leb leastRoom (length (now .lent .room)) large)
 
 -- n asks of a panel are n asks of the reading
 asks-move : (line : Declared.Line) (n : ℕ) (now : Moment) (kept : Kept) → Reached line kept → now .panel .reader ≡ readerOf line kept
-    → length (now .words) ≡ wordCount → leastRoom ≤ length (now .room)
+    → length (now .lent .words) ≡ wordCount → leastRoom ≤ length (now .lent .room)
     → (afterAll now (replicate n ask) .panel .reader ≡ readerOf line (run (rulesFor line) kept (asks n) .kept))
     × Reached line (run (rulesFor line) kept (asks n) .kept)
 unfolding afterAll after run asks
 asks-move line zero now kept reached reads whole large = (reads, reached)
 asks-move line (suc n) now kept reached reads whole large =
     let next = after now ask in
-    let same-words : length (next .words) ≡ wordCount = reported-words-long (now .panel) (now .words) (now .room) ∙ whole in
-    let same-room : length (next .room) ≡ length (now .room) = reported-room-long (now .panel) (now .words) (now .room) in
-    let same-large : leastRoom ≤ length (next .room) = rw same-room large in
+    let same-words : length (next .lent .words) ≡ wordCount = reported-words-long (now .panel) (now .lent) ∙ whole in
+    let same-room : length (next .lent .room) ≡ length (now .lent .room) = reported-room-long (now .panel) (now .lent) in
+    let same-large : leastRoom ≤ length (next .lent .room) = rw same-room large in
     asks-move line n next (afterReport (rulesFor line) kept) (reached-report line kept reached)
-    (ask-moves line (now .panel) kept reached (now .words) (now .room) reads (is-lent now whole large)) same-words same-large
+    (ask-moves line (now .panel) kept reached (now .lent) reads (is-lent now whole large)) same-words same-large
 
 asks-typed : (n : ℕ) → AllTyped (replicate n ask)
 unfolding AllTyped Typed
@@ -62,7 +62,7 @@ always-until-nothing now arises whole large =
       nothing-waits = λ nothing.
           handed-nothing (rulesOf (now .panel)) (keptOf (now .panel .reader))
           (sym (sound-ask-hands now sound whole large)
-          ∙ ap (λ (h : Handed). reportHanded h (reporting (now .panel) (now .words) (now .room) .reported .payload)) nothing);
+          ∙ ap (λ (h : Handed). reportHanded h (reporting (now .panel) (now .lent) .reported .payload)) nothing);
       comes =
           sym (busy-waits last (reachable-sound last (calls-reached now (replicate longestFrame ask) (asks-typed longestFrame) reachable)))
           ∙ ap (λ (r : Reader). busy r) (moved .0)

@@ -102,12 +102,12 @@ lift-number now sound = rw (← busy-waits (now .panel) sound) (go (busy (now .p
 -- each call, at a panel that is reached
 pub call-as-printed : (now : Moment) → Reachable (now .panel) → (call : Call) → Typed call → numberGiven now call ≡ firstNumber (printed now call)
 unfolding numberGiven printed firstNumber Typed
-call-as-printed now reached (lend words room) typed = refl
+call-as-printed now reached (lend lent) typed = refl
 call-as-printed now reached (byte b) typed = byte-number now (reachable-sound (now .panel) reached) b
 call-as-printed now reached (bytes bs) typed = bytes-number now reached bs typed
 call-as-printed now reached mark typed = mark-number now (reachable-sound (now .panel) reached)
 call-as-printed now reached ask typed = ask-number now (reachable-sound (now .panel) reached)
-call-as-printed now reached (contact table x y) typed = contact-number now (reachable-sound (now .panel) reached) table x y
+call-as-printed now reached (contact c) typed = contact-number now (reachable-sound (now .panel) reached) table x y
 call-as-printed now reached lift typed = lift-number now (reachable-sound (now .panel) reached)
 
 -- frame writer: "it refuses with 14, then 3"

@@ -153,7 +153,7 @@ empty-reader panel sound nothing =
 
 -- the panel takes a good frame whole, hands it over and holds nothing
 module _ (now : Moment) (sound : Sound (now .panel)) (nothing : NothingHeldOrWaiting (rulesOf (now .panel)) (keptOf (now .panel .reader)))
-    (whole : length (now .words) ≡ wordCount) (large : leastRoom ≤ length (now .room)) (frame : List ℕ) (good : Good (rulesOf (now .panel)) frame) where
+    (whole : length (now .lent .words) ≡ wordCount) (large : leastRoom ≤ length (now .lent .room)) (frame : List ℕ) (good : Good (rulesOf (now .panel)) frame) where
   abbrev line : Line
   line = lineOf (now .panel .setup)
 
@@ -219,7 +219,7 @@ wrote checking header command payload room n = go (ltb (length room) leastRoom) 
 -- At any panel that calls reach from a start, while nothing is held or waiting: what the writer wrote into any room, under the header and the choice that
 -- are set up.
 pub writer-reads-back : (now : Moment) → Reachable (now .panel) → NothingHeldOrWaiting (rulesOf (now .panel)) (keptOf (now .panel .reader))
-    → length (now .words) ≡ wordCount → leastRoom ≤ length (now .room) → (command : ℕ) (payload room : List ℕ) (n : ℕ)
+    → length (now .lent .words) ≡ wordCount → leastRoom ≤ length (now .lent .room) → (command : ℕ) (payload room : List ℕ) (n : ℕ)
     → writing (checkingOf (now .panel .setup)) (headerOf (now .panel .setup)) command payload room .answer ≡ Frame n
     → ReadsBack now (take n (writing (checkingOf (now .panel .setup)) (headerOf (now .panel .setup)) command payload room .room)) command payload
 writer-reads-back now reached nothing whole large command payload room n answer =

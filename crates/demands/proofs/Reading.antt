@@ -157,14 +157,14 @@ module _ (line : Declared.Line) (panel : Panel) (kept : Kept) (reached : Reached
 
   -- asking with words and room as they must be moves the reader as the reading's ask does
   pub ask-moves : panel .reader ≡ readerOf line kept → lent (length words) (length room) ≡ true
-      → reporting panel words room .reported .panel .reader ≡ readerOf line (afterReport rules kept)
+      → reporting panel lent .reported .panel .reader ≡ readerOf line (afterReport rules kept)
   unfolding reporting handed
   ask-moves reads is-lent =
       rw (is-lent, ap asked reads ∙ ask-carried line kept (reached .few)) (hands-as (look rules (kept .closed) (kept .bytes)) refl reads .1)
 
   carries-ask : panel .reader ≡ readerOf line kept
-      → Carries line kept [] (reportHanded (reporting panel words room .reported .handed) (reporting panel words room .reported .payload))
-      (reporting panel words room .reported .panel .reader)
+      → Carries line kept [] (reportHanded (reporting panel lent .reported .handed) (reporting panel lent .reported .payload))
+      (reporting panel lent .reported .panel .reader)
   unfolding reporting run handed reportHanded
   carries-ask reads = go (lent (length words) (length room))
     where
@@ -192,7 +192,7 @@ module _ (line : Declared.Line) (panel : Panel) (kept : Kept) (reached : Reached
       go false = still line kept reached (panel .reader) reads
 
 -- touches leave the reader
-pub contact-keeps-reader : (panel : Panel) (table words : List ℕ) (x y : ℕ) → contacting panel table words x y .contacted .panel .reader ≡ panel .reader
+pub contact-keeps-reader : (panel : Panel) (table words : List ℕ) (x y : ℕ) → contacting panel c lent .contacted .panel .reader ≡ panel .reader
 contact-keeps-reader panel table words x y = contact-ways panel table words x y (λ c. c .contacted .panel .reader ≡ panel .reader) (λ answer. refl) (λ good. refl)
 
 pub lift-keeps-reader : (panel : Panel) → lifting panel .panel .reader ≡ panel .reader
@@ -202,13 +202,13 @@ lift-keeps-reader panel = lift-ways panel (λ l. l .panel .reader ≡ panel .rea
 carries-call : (line : Declared.Line) (kept : Kept) (now : Moment) (call : Call) → Typed call → Reached line kept → now .panel .reader ≡ readerOf line kept
     → Carries line kept (given now call) (handedOver now call) (after now call .panel .reader)
 unfolding Typed given handedOver after fedByte fedMark fedBytes
-carries-call line kept now (lend words room) typed reached reads = still line kept reached (now .panel .reader) reads
+carries-call line kept now (lend lent) typed reached reads = still line kept reached (now .panel .reader) reads
 carries-call line kept now (byte b) typed reached reads = rw reads (carries-byte line kept reached b typed)
 carries-call line kept now (bytes bs) typed reached reads = rw reads (carries-bytes line bs kept reached typed)
 carries-call line kept now mark typed reached reads = rw reads (carries-mark line kept reached)
-carries-call line kept now ask typed reached reads = carries-ask line (now .panel) kept reached (now .words) (now .room) reads
-carries-call line kept now (contact table x y) typed reached reads =
-    still line kept reached (after now (contact table x y) .panel .reader) (contact-keeps-reader (now .panel) table (now .words) x y ∙ reads)
+carries-call line kept now ask typed reached reads = carries-ask line (now .panel) kept reached (now .lent) reads
+carries-call line kept now (contact c) typed reached reads =
+    still line kept reached (after now (contact c) .panel .reader) (contact-keeps-reader (now .panel) table (now .lent .words) x y ∙ reads)
 carries-call line kept now lift typed reached reads =
     still line kept reached (after now lift .panel .reader) (lift-keeps-reader (now .panel) ∙ reads)
 

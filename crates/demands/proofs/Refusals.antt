@@ -66,7 +66,7 @@ refused-numbers ReplyTooLong above = omega arith
 pub record CommandRefused (now : Moment) (command : ℕ) : Type 0 where
   pub at-least : 2 ≤ numberGiven now ask
   pub at-most : numberGiven now ask ≤ 7
-  pub left : after now ask ≡ leaving now command (now .panel .registers) (now .panel .catch) (now .words) []
+  pub left : after now ask ≡ leaving now command (now .panel .registers) (now .panel .catch) (now .lent .words) []
 
 pub command-refused : (now : Moment) → Sound (now .panel) → (command : ℕ) (content : List ℕ) → Asks now command content → 0 < numberGiven now ask
     → CommandRefused now command
@@ -76,15 +76,15 @@ command-refused now sound command content asks above =
     let number : numberGiven now ask ≡ Outcome.numberOfOutcome o = done-number now sound command content asks in
     let above-0 : 0 < Outcome.numberOfOutcome o = omega arith in
     let answer = acknowledgementOf setup command true in
-    let part = drop (length answer) (over answer (now .room)) in
-    let p = outcome (setup .pages) (length (now .words)) (checkingOf setup) command content in
+    let part = drop (length answer) (over answer (now .lent .room)) in
+    let p = outcome (setup .pages) (length (now .lent .words)) (checkingOf setup) command content in
     let refused : isDone p ≡ false = rw (asks .whole) (number-refuses o above-0) in
     record {
       at-least = omega (arith, refused-numbers o above-0);
       at-most = omega (arith, number-at-most-7 o);
-      left = performance-leaves now sound command content asks (now .panel .registers) false (now .words) [] p 0
-          (refusal-changes-nothing (now .panel .registers) (setup .pages) (checkingOf setup) (headerOf setup) content (now .words) part command refused
-          ∙ ap (λ (r : List ℕ). performs (besideReply (now .panel .registers) (noReply p)) (now .words) r) (sym (over-nil part)));
+      left = performance-leaves now sound command content asks (now .panel .registers) false (now .lent .words) [] p 0
+          (refusal-changes-nothing (now .panel .registers) (setup .pages) (checkingOf setup) (headerOf setup) content (now .lent .words) part command refused
+          ∙ ap (λ (r : List ℕ). performs (besideReply (now .panel .registers) (noReply p)) (now .lent .words) r) (sym (over-nil part)));
     }
 
 frame-refused : (now : Moment) → Sound (now .panel) → (command : ℕ) (content : List ℕ) → Asks now command content
@@ -99,23 +99,23 @@ frame-refused now sound command content asks hands above =
       content = content;
       handed-over = hands;
       only-read-on = ap (λ (m : Moment). m .panel) (only .left);
-      words-stand = ap (λ (m : Moment). m .words) (only .left);
-      only-acknowledged = ap (λ (m : Moment). m .room) (only .left) ∙ ap (λ (l : List ℕ). over l (now .room)) (append-nil answer);
+      words-stand = ap (λ (m : Moment). m .lent .words) (only .left);
+      only-acknowledged = ap (λ (m : Moment). m .lent .room) (only .left) ∙ ap (λ (l : List ℕ). over l (now .lent .room)) (append-nil answer);
     })
 
 -- an ask that is lent what it must be is refused only at an accepted frame
-lent-number : (now : Moment) → lent (length (now .words)) (length (now .room)) ≡ true → (told : Report) → asked (now .panel .reader) .report ≡ told
-    → numberGiven now ask ≡ reportNumber (handing (asked (now .panel .reader)) told (now .panel) (now .words) (now .room) .reported .handed)
+lent-number : (now : Moment) → wellLent (now .lent) ≡ true → (told : Report) → asked (now .panel .reader) .report ≡ told
+    → numberGiven now ask ≡ reportNumber (handing (asked (now .panel .reader)) told (now .panel) (now .lent) .reported .handed)
 unfolding numberGiven reporting
 lent-number now is told tells = rw (is, tells)
 
-lent-handed : (now : Moment) → lent (length (now .words)) (length (now .room)) ≡ true → (command count : ℕ)
+lent-handed : (now : Moment) → wellLent (now .lent) ≡ true → (command count : ℕ)
     → asked (now .panel .reader) .report ≡ line.Accepted command count
     → handedOver now ask ≡ acceptedFrame command (take count (asked (now .panel .reader) .payload)) ∷ []
 unfolding handedOver reporting handing reportHanded
 lent-handed now is command count tells = rw (is, tells)
 
-lent-refused : (now : Moment) → Sound (now .panel) → lent (length (now .words)) (length (now .room)) ≡ true → (told : Report)
+lent-refused : (now : Moment) → Sound (now .panel) → wellLent (now .lent) ≡ true → (told : Report)
     → asked (now .panel .reader) .report ≡ told → 0 < numberGiven now ask → RefusalLeaves now ask
 unfolding handing reportNumber
 lent-refused now sound is line.Nothing tells above = let none = lent-number now is line.Nothing tells in absurd (omega arith)
@@ -126,22 +126,22 @@ lent-refused now sound is (line.Accepted c n) tells above =
     frame-refused now sound c content (handed-asks now c content hands) hands above
 
 -- 14
-not-lent-refused : (now : Moment) → lent (length (now .words)) (length (now .room)) ≡ false → RefusalLeaves now ask
+not-lent-refused : (now : Moment) → wellLent (now .lent) ≡ false → RefusalLeaves now ask
 unfolding numberGiven after reporting reportNumber
 not-lent-refused now is =
     let number : numberGiven now ask ≡ 14 = rw is in
     as-it-stood ask (inr (omega arith))
     (ap momentAsked
-    (refused-report-14-changes-nothing (now .panel) (now .words) (now .room) is))
+    (refused-report-14-changes-nothing (now .panel) (now .lent) is))
 
 -- the panel put back as it stood
 same-moment : (now : Moment) (panel : Panel) → panel ≡ now .panel → withPanel now panel ≡ now
 same-moment now panel is = rw is
 
 ask-refused : (now : Moment) → Sound (now .panel) → 0 < numberGiven now ask → RefusalLeaves now ask
-ask-refused now sound above = go (lent (length (now .words)) (length (now .room))) refl (asked (now .panel .reader) .report) refl
+ask-refused now sound above = go (wellLent (now .lent)) refl (asked (now .panel .reader) .report) refl
   where
-    go : (l : Bool) → lent (length (now .words)) (length (now .room)) ≡ l → (told : Report) → asked (now .panel .reader) .report ≡ told → RefusalLeaves now ask
+    go : (l : Bool) → wellLent (now .lent) ≡ l → (told : Report) → asked (now .panel .reader) .report ≡ told → RefusalLeaves now ask
     go false is told tells = not-lent-refused now is
     go true is told tells = lent-refused now sound is told tells above
 
@@ -183,12 +183,12 @@ lift-numbers lift-answer.Done above = absurd (omega arith)
 lift-numbers lift-answer.Waits above = inl refl
 lift-numbers lift-answer.IsUp above = inr (omega arith)
 
-contact-refused : (now : Moment) (table : List ℕ) (x y : ℕ) → 0 < numberGiven now (contact table x y) → RefusalLeaves now (contact table x y)
+contact-refused : (now : Moment) (c : Contact) → 0 < numberGiven now (contact c) → RefusalLeaves now (contact c)
 unfolding numberGiven after
 contact-refused now table x y above =
-    as-it-stood (contact table x y) (contact-numbers (contacting (now .panel) table (now .words) x y .contacted .answer) above)
+    as-it-stood (contact c) (contact-numbers (contacting (now .panel) c (now .lent) .contacted .answer) above)
     (ap (momentTouched now)
-    (refused-contact-changes-nothing (now .panel) table (now .words) x y above))
+    (refused-contact-changes-nothing (now .panel) table (now .lent .words) x y above))
 
 lift-refused : (now : Moment) → 0 < numberGiven now lift → RefusalLeaves now lift
 unfolding numberGiven after
@@ -255,10 +255,10 @@ bytes-refused now reached bs are above =
 -- each call, at a panel that is reached
 pub call-refused : (now : Moment) → Reachable (now .panel) → (call : Call) → Typed call → 0 < numberGiven now call → RefusalLeaves now call
 unfolding numberGiven Typed
-call-refused now reached (lend words room) typed above = absurd (omega arith)
+call-refused now reached (lend lent) typed above = absurd (omega arith)
 call-refused now reached (byte b) typed above = byte-refused now b above
 call-refused now reached (bytes bs) typed above = bytes-refused now reached bs typed above
 call-refused now reached mark typed above = mark-refused now above
 call-refused now reached ask typed above = ask-refused now (reachable-sound (now .panel) reached) above
-call-refused now reached (contact table x y) typed above = contact-refused now table x y above
+call-refused now reached (contact c) typed above = contact-refused now table x y above
 call-refused now reached lift typed above = lift-refused now above

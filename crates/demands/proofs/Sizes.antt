@@ -36,37 +36,37 @@ use Rattle.demands.proofs.Storing.{start-bytes, status-bytes, touched-b
 -- over calls
 record Sized (now : Moment) : Type 0 where
   registers : Bytes (now .panel .registers .bytes)
-  words : Halfwords (now .words)
+  words : Halfwords (now .lent .words)
 
 asked-sized : (now : Moment) → Sound (now .panel) → Sized now → Sized (after now ask)
 unfolding after handing accepting
 asked-sized now sound sized =
     let both =
-    report-ways panel (now .words) (now .room) (λ r. Bytes (r .reported .panel .registers .bytes) × Halfwords (r .words))
+    report-ways panel (now .lent) (λ r. Bytes (r .reported .panel .registers .bytes) × Halfwords (r .words))
     (λ h payload. (sized .registers, sized .words)) (λ command is. (sized .registers, sized .words))
     (λ command count is.
     let setup = panel .setup in
-    let answer = acknowledged setup command true (now .room) in
+    let answer = acknowledged setup command true (now .lent .room) in
     let content = take count (asked (panel .reader) .payload) in
     let part = drop (answer .count) (answer .room) in
     let are = below-take 256 byte-some count (asked (panel .reader) .payload) (payload-bytes panel sound) in (
-      performed-bytes (panel .registers) (setup .pages) (checkingOf setup) (headerOf setup) command content (now .words) part are (sized .registers),
-      performed-words (panel .registers) (setup .pages) (checkingOf setup) (headerOf setup) command content (now .words) part are (sized .words),
+      performed-bytes (panel .registers) (setup .pages) (checkingOf setup) (headerOf setup) command content (now .lent .words) part are (sized .registers),
+      performed-words (panel .registers) (setup .pages) (checkingOf setup) (headerOf setup) command content (now .lent .words) part are (sized .words),
     )) in
     record { registers = both .0; words = both .1 }
   where
     panel : Panel
     panel = now .panel
 
-contacted-sized : (now : Moment) (table : List ℕ) (x y : ℕ) → Bytes table → x < 65536 → y < 65536 → Sized now → Sized (after now (contact table x y))
+contacted-sized : (now : Moment) (c : Contact) → Bytes table → x < 65536 → y < 65536 → Sized now → Sized (after now (contact c))
 unfolding after
 contacted-sized now table x y are in-x in-y sized =
     let both =
-    contact-ways (now .panel) table (now .words) x y (λ c. Bytes (c .contacted .panel .registers .bytes) × Halfwords (c .words))
+    contact-ways (now .panel) table (now .lent .words) x y (λ c. Bytes (c .contacted .panel .registers .bytes) × Halfwords (c .words))
     (λ answer. (sized .registers, sized .words))
     (λ good. (
-      touched-bytes (State.padOf (now .panel)) table (now .words) x y (sized .registers) are in-x in-y,
-      touched-words (State.padOf (now .panel)) table (now .words) x y (sized .registers) are in-x in-y (sized .words),
+      touched-bytes (State.padOf (now .panel)) table (now .lent .words) x y (sized .registers) are in-x in-y,
+      touched-words (State.padOf (now .panel)) table (now .lent .words) x y (sized .registers) are in-x in-y (sized .words),
     )) in
     record { registers = both .0; words = both .1 }
 
@@ -81,12 +81,12 @@ lifted-sized now sized =
 
 call-sized : (now : Moment) → Sound (now .panel) → (call : Call) → Typed call → Sized now → Sized (after now call)
 unfolding after Typed fedByte fedBytes fedMark
-call-sized now sound (lend words room) typed sized = record { registers = sized .registers; words = typed .0 }
+call-sized now sound (lend lent) typed sized = record { registers = sized .registers; words = typed .0 }
 call-sized now sound (byte b) typed sized = record { registers = sized .registers; words = sized .words }
 call-sized now sound (bytes bs) typed sized = record { registers = sized .registers; words = sized .words }
 call-sized now sound mark typed sized = record { registers = sized .registers; words = sized .words }
 call-sized now sound ask typed sized = asked-sized now sound sized
-call-sized now sound (contact table x y) typed sized = contacted-sized now table x y (typed .0) (typed .1 .0) (typed .1 .1) sized
+call-sized now sound (contact c) typed sized = contacted-sized now table x y (typed .0) (typed .1 .0) (typed .1 .1) sized
 call-sized now sound lift typed sized = lifted-sized now sized
 
 -- a start that is done gives a new panel
@@ -113,6 +113,6 @@ pub registers-are-bytes : (now : Moment) → Arises now → (address : ℕ) → 
 unfolding registerAt
 registers-are-bytes now arises address = sized now arises .registers address
 
-pub words-are-16-bit : (now : Moment) → Arises now → (k : ℕ) → wordAtAddress (now .words) k < 65536
+pub words-are-16-bit : (now : Moment) → Arises now → (k : ℕ) → wordAtAddress (now .lent .words) k < 65536
 unfolding wordAtAddress
 words-are-16-bit now arises k = sized now arises .words k

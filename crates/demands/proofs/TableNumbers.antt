@@ -79,22 +79,22 @@ module _ (panel : Panel) (table words : List ℕ) (x y : ℕ) where
       go false (At i r) = refl
       go false Nothing = on-number
 
-pub contact-number : (now : Moment) → Sound (now .panel) → (table : List ℕ) (x y : ℕ)
-    → numberGiven now (contact table x y) ≡ firstNumber (printed now (contact table x y))
+pub contact-number : (now : Moment) → Sound (now .panel) → (c : Contact)
+    → numberGiven now (contact c) ≡ firstNumber (printed now (contact c))
 unfolding numberGiven printed contacting contactNumber wordsNotLent firstNumber
-contact-number now sound table x y = rw (← busy-waits (now .panel) sound) (go (not (eqb (length (now .words)) wordCount)) (busy (now .panel .reader)))
+contact-number now sound table x y = rw (← busy-waits (now .panel) sound) (go (not (eqb (length (now .lent .words)) wordCount)) (busy (now .panel .reader)))
   where
     panel : Panel
     panel = now .panel
 
     go : (a b : Bool)
-        → contactNumber (cond a (contacts contact-answer.NotLent panel (now .words)) (cond b (contacts contact-answer.Waits panel (now .words))
-        (contactJudged (judged (panel .setup) table) panel table (now .words) x y)) .contacted .answer)
+        → contactNumber (cond a (contacts contact-answer.NotLent panel (now .lent .words)) (cond b (contacts contact-answer.Waits panel (now .lent .words))
+        (contactJudged (judged (panel .setup) table) panel table (now .lent .words) x y)) .contacted .answer)
         ≡ cond a 14 (cond b 1 (cond (notWholeRecords table) 12 (cond (oneWrong (panel .setup) (recordsOf table)) 13
         (cond (isTouchOff (panel .registers)) 9 (cond (offScreen (panel .setup) x y) 8 0)))))
     go true b = refl
     go false true = refl
-    go false false = judged-number panel table (now .words) x y
+    go false false = judged-number panel table (now .lent .words) x y
 
 -- "start 11, 12, 13"
 pub start-as-printed : (setup : Setup) (table : List ℕ) → startNumber (started setup table .answer) ≡ firstNumber (printedStart setup table)
@@ -153,23 +153,23 @@ on-names-none panel table words x y i = go (isTouchOff (panel .registers)) (not 
     go false true is = never (cc)
     go false false is = never (cc)
 
-pub contact-names-first-wrong : (now : Moment) (table : List ℕ) (x y i : ℕ)
-    → contacting (now .panel) table (now .words) x y .contacted .answer ≡ contact-answer.WrongRecord i
+pub contact-names-first-wrong : (now : Moment) (c : Contact) (i : ℕ)
+    → contacting (now .panel) c (now .lent) .contacted .answer ≡ contact-answer.WrongRecord i
     → NamesFirstWrong (now .panel .setup) table i
 unfolding contacting contactJudged
-contact-names-first-wrong now table x y i = go (not (eqb (length (now .words)) wordCount)) (busy (now .panel .reader)) (judged (now .panel .setup) table) refl
+contact-names-first-wrong now table x y i = go (not (eqb (length (now .lent .words)) wordCount)) (busy (now .panel .reader)) (judged (now .panel .setup) table) refl
   where
     panel : Panel
     panel = now .panel
 
     go : (a b : Bool) (v : Verdict) → judged (panel .setup) table ≡ v
-        → cond a (contacts contact-answer.NotLent panel (now .words)) (cond b (contacts contact-answer.Waits panel (now .words))
-        (contactJudged v panel table (now .words) x y)) .contacted .answer
+        → cond a (contacts contact-answer.NotLent panel (now .lent .words)) (cond b (contacts contact-answer.Waits panel (now .lent .words))
+        (contactJudged v panel table (now .lent .words) x y)) .contacted .answer
         ≡ contact-answer.WrongRecord i
         → NamesFirstWrong (panel .setup) table i
     go true b v judges is = never (cc)
     go false true v judges is = never (cc)
-    go false false Good judges is = absurd (on-names-none panel table (now .words) x y i is)
+    go false false Good judges is = absurd (on-names-none panel table (now .lent .words) x y i is)
     go false false NotRecords judges is = never (cc)
     go false false (Wrong j) judges is =
         let same : j ≡ i = cc in names-first (panel .setup) table i (judges ∙ ap (λ (k : ℕ). Wrong k) same)

@@ -56,7 +56,7 @@ use Rattle.demands.proofs.Storing.{word-below, record-bytes}
 pub record Touched (panel : Panel) (table words : List ℕ) (x y : ℕ) : Type 0 where
   pub whole : length words ≡ wordCount
   pub good : judged (panel .setup) table ≡ Good
-  pub touches : contacting panel table words x y
+  pub touches : contacting panel c lent
       ≡ contacts contact-answer.Done (withPad panel (touched (padOf panel) table words x y .pad)) (touched (padOf panel) table words x y .words)
 
 module _ (panel : Panel) (table words : List ℕ) (x y : ℕ) where
@@ -74,7 +74,7 @@ module _ (panel : Panel) (table words : List ℕ) (x y : ℕ) where
       go false true is = absurd (omega arith)
       go false false is = refl
 
-  pub contact-done : contactNumber (contacting panel table words x y .contacted .answer) ≡ 0 → Touched panel table words x y
+  pub contact-done : contactNumber (contacting panel c lent .contacted .answer) ≡ 0 → Touched panel table words x y
   unfolding contacting contactJudged contactNumber
   contact-done = go (eqb (length words) wordCount) refl (busy (panel .reader)) refl (judged (panel .setup) table) refl
     where
@@ -96,11 +96,11 @@ module _ (panel : Panel) (table words : List ℕ) (x y : ℕ) where
           }
 
 -- "Contact while up: ..", "Contact while down: .."
-pub contact-leaves : (now : Moment) (table : List ℕ) (x y : ℕ) → numberGiven now (contact table x y) ≡ 0 → after now (contact table x y) ≡ afterContact now table x y
+pub contact-leaves : (now : Moment) (c : Contact) → numberGiven now (contact c) ≡ 0 → after now (contact c) ≡ afterContact now table x y
 unfolding numberGiven after afterContact
 contact-leaves now table x y is =
     ap (momentTouched now)
-    (contact-done (now .panel) table (now .words) x y is .touches)
+    (contact-done (now .panel) table (now .lent .words) x y is .touches)
 
 -- "Lift: status 02, the catch is dropped."
 pub lift-leaves : (now : Moment) → numberGiven now lift ≡ 0 → after now lift ≡ afterLift now
@@ -179,46 +179,46 @@ unfolding wordSet wordAtAddress
 word-set words address value inside = getD-set-same words address value 0 inside
 
 -- "Contact while up: .. The first record of the current page holding the point acts"
-module _ (now : Moment) (table : List ℕ) (are : Bytes table) (x y : ℕ) (done : numberGiven now (contact table x y) ≡ 0)
+module _ (now : Moment) (table : List ℕ) (are : Bytes table) (x y : ℕ) (done : numberGiven now (contact c) ≡ 0)
     (up : isDown (now .panel .registers) ≡ false) (i : ℕ) (r : Record) (acts : found table (pageOf (now .panel .registers)) x y ≡ At i r) where
   acting-good : goodRecord (now .panel .setup) r ≡ true
   unfolding numberGiven
   acting-good =
-      found-good (now .panel .setup) table (pageOf (now .panel .registers)) x y i r (contact-done (now .panel) table (now .words) x y done .good) acts
+      found-good (now .panel .setup) table (pageOf (now .panel .registers)) x y i r (contact-done (now .panel) table (now .lent .words) x y done .good) acts
 
-  pub acted-word : wordAtAddress (after now (contact table x y) .words) (r .word) ≡ actedOf r (wordAtAddress (now .words) (r .word)) x y
+  pub acted-word : wordAtAddress (after now (contact c) .words) (r .word) ≡ actedOf r (wordAtAddress (now .lent .words) (r .word)) x y
   unfolding afterContact numberGiven
   acted-word =
       let small = good-word (now .panel .setup) r acting-good in
-      let whole = contact-done (now .panel) table (now .words) x y done .whole in
-      let inside : r .word < length (now .words) = omega arith in
-      ap (λ (m : Moment). wordAtAddress (m .words) (r .word)) (contact-leaves now table x y done)
-      ∙ ap (λ (l : List ℕ). wordAtAddress l (r .word)) (pressed-words (padOf (now .panel)) table (now .words) x y i r up acts)
-      ∙ word-set (now .words) (r .word) (actedOf r (wordAtAddress (now .words) (r .word)) x y) inside
+      let whole = contact-done (now .panel) table (now .lent .words) x y done .whole in
+      let inside : r .word < length (now .lent .words) = omega arith in
+      ap (λ (m : Moment). wordAtAddress (m .lent .words) (r .word)) (contact-leaves now table x y done)
+      ∙ ap (λ (l : List ℕ). wordAtAddress l (r .word)) (pressed-words (padOf (now .panel)) table (now .lent .words) x y i r up acts)
+      ∙ word-set (now .lent .words) (r .word) (actedOf r (wordAtAddress (now .lent .words) (r .word)) x y) inside
 
   same-record : r ≡ recordAt table i
   same-record = found-stands table (pageOf (now .panel .registers)) x y i r acts .0
 
   -- Key: "mode 0 whole word, 1 high byte, 2 low byte; 14 code"
   pub key-stores : (code : ℕ) → r .kind ≡ Key code
-      → wordAtAddress (after now (contact table x y) .words) (r .word) ≡ keyStores (r .mode) (wordAtAddress (now .words) (r .word)) code
+      → wordAtAddress (after now (contact c) .words) (r .word) ≡ keyStores (r .mode) (wordAtAddress (now .lent .words) (r .word)) code
   unfolding actedOf
-  key-stores code is = acted-word ∙ ap (λ (k : Kind). actedBy k r (wordAtAddress (now .words) (r .word)) x y) is
+  key-stores code is = acted-word ∙ ap (λ (k : Kind). actedBy k r (wordAtAddress (now .lent .words) (r .word)) x y) is
 
   -- "Step: t is the value with the step added or taken, as whole numbers. ..": the value that the mode finds in the word
   pub step-stores : (f : StepFields) → r .kind ≡ Step f
-      → valueIn (r .mode) (wordAtAddress (after now (contact table x y) .words) (r .word))
-      ≡ fenced (stepsUp f) (goesRound f) (signed (f .least)) (signed (f .greatest)) (stepped (stepsUp f) (valueIn (r .mode) (wordAtAddress (now .words) (r .word))) (f .step))
+      → valueIn (r .mode) (wordAtAddress (after now (contact c) .words) (r .word))
+      ≡ fenced (stepsUp f) (goesRound f) (signed (f .least)) (signed (f .greatest)) (stepped (stepsUp f) (valueIn (r .mode) (wordAtAddress (now .lent .words) (r .word))) (f .step))
   step-stores f is =
       let fit = step-fields-fit table are i f (ap (λ (q : Record). q .kind) (sym same-record) ∙ is) in
       ap (valueIn (r .mode)) acted-word
-      ∙ step-acts-as-printed r (wordAtAddress (now .words) (r .word)) x y (good-kind (now .panel .setup) r acting-good) f is (fit .0) (fit .1)
+      ∙ step-acts-as-printed r (wordAtAddress (now .lent .words) (r .word)) x y (good-kind (now .panel .setup) r acting-good) f is (fit .0) (fit .1)
 
   -- "Slider: with d the distance from the first edge and w the edge-to-edge distance, |end − begin|·d / w rounded down is moved from begin towards end."
   pub slider-stores : (f : SliderFields) → r .kind ≡ Slider f
-      → valueIn (digitMode (r .mode)) (wordAtAddress (after now (contact table x y) .words) (r .word))
+      → valueIn (digitMode (r .mode)) (wordAtAddress (after now (contact c) .words) (r .word))
       ≡ slidTo roundedDown (signed (f .begin)) (signed (f .end)) (firstEdge (r .mode) (r .area)) (lastEdge (r .mode) (r .area)) (along (r .mode) x y)
   slider-stores f is =
       let fit = slider-fields-fit table are i f (ap (λ (q : Record). q .kind) (sym same-record) ∙ is) in
       ap (valueIn (digitMode (r .mode))) acted-word
-      ∙ slider-acts-as-printed r (wordAtAddress (now .words) (r .word)) x y (good-kind (now .panel .setup) r acting-good) f is (fit .0) (fit .1)
+      ∙ slider-acts-as-printed r (wordAtAddress (now .lent .words) (r .word)) x y (good-kind (now .panel .setup) r acting-good) f is (fit .0) (fit .1)

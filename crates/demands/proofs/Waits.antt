@@ -76,7 +76,7 @@ handing-hands panel words room a told rules (accepted body) is payload =
     rw (is, same)
 
 pub ask-hands : (now : Moment) (kept : Kept) → now .panel .reader ≡ readerOf (lineOf (now .panel .setup)) kept → length (kept .bytes) ≤ longestFrame
-    → length (now .words) ≡ wordCount → leastRoom ≤ length (now .room) → handedOver now ask ≡ handed (rulesOf (now .panel)) kept
+    → length (now .lent .words) ≡ wordCount → leastRoom ≤ length (now .lent .room) → handedOver now ask ≡ handed (rulesOf (now .panel)) kept
 unfolding handedOver reporting lent handed
 ask-hands now kept is few whole large =
     let line = lineOf (now .panel .setup) in
@@ -86,12 +86,12 @@ ask-hands now kept is few whole large =
       payload = payloadAs (handed rules kept);
       reader = readerOf line (afterReport rules kept);
     } = ap (λ (r : Reader). asked r) is ∙ ask-carried line kept few in
-    rw (eq-eqb (length (now .words)) wordCount whole, le-leb leastRoom (length (now .room)) large)
-    (handing-hands (now .panel) (now .words) (now .room) (asked (now .panel .reader)) (asked (now .panel .reader) .report) rules
+    rw (eq-eqb (length (now .lent .words)) wordCount whole, le-leb leastRoom (length (now .lent .room)) large)
+    (handing-hands (now .panel) (now .lent) (asked (now .panel .reader)) (asked (now .panel .reader) .report) rules
     (look rules (kept .closed) (kept .bytes)) (ap (λ (a : Asked). a .report) tells) (ap (λ (a : Asked). a .payload) tells))
 
 -- of a panel that is reached
-pub sound-ask-hands : (now : Moment) → Sound (now .panel) → length (now .words) ≡ wordCount → leastRoom ≤ length (now .room) → handedOver now ask ≡ waitingReport (now .panel)
+pub sound-ask-hands : (now : Moment) → Sound (now .panel) → length (now .lent .words) ≡ wordCount → leastRoom ≤ length (now .lent .room) → handedOver now ask ≡ waitingReport (now .panel)
 unfolding waitingReport
 sound-ask-hands now sound whole large =
     let long : length (keptOf (now .panel .reader) .bytes) ≡ length (sound .reads .kept .bytes) = ap (λ (k : Kept). length (k .bytes)) (kept-same (now .panel) sound) in
@@ -101,14 +101,14 @@ sound-ask-hands now sound whole large =
 -- asking with words and room as they must be, where an accepted frame waits
 pub frame-reporting : (panel : Panel) (words room : List ℕ) → length words ≡ wordCount → leastRoom ≤ length room → (command count : ℕ)
     → asked (panel .reader) .report ≡ line.Accepted command count
-    → reporting panel words room ≡ handing (asked (panel .reader)) (line.Accepted command count) panel words room
+    → reporting panel lent ≡ handing (asked (panel .reader)) (line.Accepted command count) panel words room
 unfolding reporting lent
-frame-reporting panel words room whole large command count told =
+frame-reporting panel lent whole large command count told =
     rw (eq-eqb (length words) wordCount whole, le-leb leastRoom (length room) large, told)
 
 -- it leaves the reader behind the frame
-pub ask-reads-on : (now : Moment) → length (now .words) ≡ wordCount → leastRoom ≤ length (now .room) → (command count : ℕ)
+pub ask-reads-on : (now : Moment) → length (now .lent .words) ≡ wordCount → leastRoom ≤ length (now .lent .room) → (command count : ℕ)
     → asked (now .panel .reader) .report ≡ line.Accepted command count → after now ask .panel .reader ≡ asked (now .panel .reader) .reader
 unfolding after handing
 ask-reads-on now whole large command count told =
-    ap (λ (r : Reporting). r .reported .panel .reader) (frame-reporting (now .panel) (now .words) (now .room) whole large command count told)
+    ap (λ (r : Reporting). r .reported .panel .reader) (frame-reporting (now .panel) (now .lent) whole large command count told)

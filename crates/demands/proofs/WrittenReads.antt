@@ -71,7 +71,7 @@ module _ (now : Moment) (reached : Reachable (now .panel)) (content : List ℕ) 
 
   reached-next : Reachable (after now ask .panel)
   unfolding after
-  reached-next = by-report (now .panel) (now .words) (now .room) reached
+  reached-next = by-report (now .panel) (now .lent) reached
 
   run-still : registerRun (afterAll (after now ask) calls .panel .registers) (byteAt content 0) (length (drop 1 content)) ≡ drop 1 content
   run-still =
@@ -91,9 +91,9 @@ module _ (now : Moment) (reached : Reachable (now .panel)) (content : List ℕ) 
       let setup = then .panel .setup in
       let there = calls-reached (after now ask) calls typed reached-next in
       let answered = read-of-written-is-done now reached content writes done then there reads in
-      ap (λ (m : Moment). m .room) (reads-registers then there (byteAt content 0 ∷ length (drop 1 content) ∷ []) answered reads)
+      ap (λ (m : Moment). m .lent .room) (reads-registers then there (byteAt content 0 ∷ length (drop 1 content) ∷ []) answered reads)
       ∙ ap (λ (run : List ℕ).
-      over (acknowledgementOf setup 0x81 true ++ frameOf (checkingOf setup) (headerOf setup) 0x81 (byteAt content 0 ∷ length (drop 1 content) ∷ run)) (then .room)) run-still
+      over (acknowledgementOf setup 0x81 true ++ frameOf (checkingOf setup) (headerOf setup) 0x81 (byteAt content 0 ∷ length (drop 1 content) ∷ run)) (then .lent .room)) run-still
 
 -- words that agree over a run read alike
 same-words : (a b : List ℕ) (address n : ℕ) → address + n ≤ length a → address + n ≤ length b
@@ -120,21 +120,21 @@ module _ (now : Moment) (reached : Reachable (now .panel)) (content : List ℕ) 
   unfolding outcome
   passed = words-passed wordCount content (is-done now reached content done 0x82 (handed-asks now 0x82 content writes))
 
-  fits-words : wordAt content 0 + n ≤ length (now .words)
+  fits-words : wordAt content 0 + n ≤ length (now .lent .words)
   fits-words = let whole = handed-asks now 0x82 content writes .whole in omega (arith, passed .fits)
 
-  words-now : after now ask .words ≡ wordsWritten (now .words) (wordAt content 0) (drop 2 content)
+  words-now : after now ask .words ≡ wordsWritten (now .lent .words) (wordAt content 0) (drop 2 content)
   unfolding afterStore leaving
-  words-now = ap (λ (m : Moment). m .words) (writes-words now reached content done writes)
+  words-now = ap (λ (m : Moment). m .lent .words) (writes-words now reached content done writes)
 
-  words-still : length (then .words) ≡ wordCount → wordRun (then .words) (wordAt content 0) n ≡ wordsOf (drop 2 content)
+  words-still : length (then .lent .words) ≡ wordCount → wordRun (then .lent .words) (wordAt content 0) n ≡ wordsOf (drop 2 content)
   words-still whole =
-      let long : length (after now ask .words) ≡ length (now .words) =
-      ap length words-now ∙ still-as-many (now .words) (drop 2 content) (wordAt content 0) fits-words in
-      same-words (then .words) (after now ask .words) (wordAt content 0) n (omega (arith, passed .fits)) (omega (arith, fits-words))
+      let long : length (after now ask .words) ≡ length (now .lent .words) =
+      ap length words-now ∙ still-as-many (now .lent .words) (drop 2 content) (wordAt content 0) fits-words in
+      same-words (then .lent .words) (after now ask .words) (wordAt content 0) n (omega (arith, passed .fits)) (omega (arith, fits-words))
       (λ i inside. not-named (word-stays-or-is-named (after now ask) calls (wordAt content 0 + i)) (none i inside))
       ∙ ap (λ (w : List ℕ). wordRun w (wordAt content 0) n) words-now
-      ∙ words-read-back (now .words) (drop 2 content) (wordAt content 0) fits-words
+      ∙ words-read-back (now .lent .words) (drop 2 content) (wordAt content 0) fits-words
 
   -- "Reply 0x83, address, count, words": the data that was written, as a frame right behind the acknowledgement
   pub what-82-wrote-83-replies :
@@ -147,7 +147,7 @@ module _ (now : Moment) (reached : Reachable (now .panel)) (content : List ℕ) 
   what-82-wrote-83-replies reads few =
       let setup = then .panel .setup in
       let question = byteAt content 0 ∷ byteAt content 1 ∷ n ∷ [] in
-      let there : Reachable (then .panel) = calls-reached (after now ask) calls typed (by-report (now .panel) (now .words) (now .room) reached) in
+      let there : Reachable (then .panel) = calls-reached (after now ask) calls typed (by-report (now .panel) (now .lent) reached) in
       let answered = fetch-of-stored-is-done now reached content writes done few then there reads in
       let are : Bytes content = content-bytes now reached 0x82 content writes in
       let low : byteAt content 1 < 256 = are 1 in
@@ -155,8 +155,8 @@ module _ (now : Moment) (reached : Reachable (now .panel)) (content : List ℕ) 
       let second : lowByte (wordAt content 0) ≡ byteAt content 1 = omega arith in
       let rest : Bytes (drop 2 content) = bytes-drop 2 content are in
       let even : length (drop 2 content) % 2 ≡ 0 = simp length-drop (omega (arith, passed .even, passed .long)) in
-      let run : bytesOf (wordRun (then .words) (wordAt content 0) n) ≡ drop 2 content =
+      let run : bytesOf (wordRun (then .lent .words) (wordAt content 0) n) ≡ drop 2 content =
       ap bytesOf (words-still (handed-asks then 0x83 question reads .whole)) ∙ bytesOf-wordsOf (drop 2 content) rest even in
-      ap (λ (m : Moment). m .room) (reads-words then there question answered reads)
-      ∙ ap (λ (data′ : List ℕ). over (acknowledgementOf setup 0x83 true ++ frameOf (checkingOf setup) (headerOf setup) 0x83 data′) (then .room))
+      ap (λ (m : Moment). m .lent .room) (reads-words then there question answered reads)
+      ∙ ap (λ (data′ : List ℕ). over (acknowledgementOf setup 0x83 true ++ frameOf (checkingOf setup) (headerOf setup) 0x83 data′) (then .lent .room))
       (rw (first, second, run))

@@ -12,6 +12,7 @@ use Rattle.reading.specs.Stretch.{reports}
 use Rattle.reading.specs.Line.{lineReports}
 use Rattle.reading.specs.Run.{lineHeld}
 use Rattle.line.specs.State.{rulesFor, keptOf}
+use Rattle.commands.specs.Lent.{Lent}
 use Rattle.touch.specs.declared.Setup.{Setup}
 use Rattle.panel.specs.declared.Panel.{Panel}
 use Rattle.panel.specs.declared.StartAnswer.the-variants as start
@@ -19,7 +20,7 @@ use Rattle.panel.specs.Start.{started}
 use Rattle.panel.specs.declared.Handed.the-variants as handed
 use Rattle.panel.specs.Sound.{lineOf}
 use Rattle.panel.specs.Reporting.{reporting}
-use Rattle.demands.specs.Calls.{Moment, Call, ask, begun, afterAll, handedOverAll, AllTyped, Arises}
+use Rattle.demands.specs.Calls.{Moment, WellLent, Call, ask, begun, afterAll, handedOverAll, AllTyped, Arises}
 use Rattle.demands.specs.Reports.{reportWaits}
 use Rattle.demands.specs.Given.{givenAll}
 
@@ -49,15 +50,15 @@ pub record AsRead (setup : Setup) (now : Moment) (calls : List Call) : Type 0 wh
 
 abbrev pub AlwaysAsRead : Type 0
 AlwaysAsRead =
-    (setup : Setup) (table words room : List ℕ) → started setup table .answer ≡ start.Started
-    → (calls : List Call) → AllTyped calls → AsRead setup (begun setup table words room) calls
+    (setup : Setup) (table : List ℕ) (lent : Lent) → started setup table .answer ≡ start.Started
+    → (calls : List Call) → AllTyped calls → AsRead setup (begun setup table lent) calls
 
 -- "reports are then asked for one at a time until the answer is 'nothing'": at a panel that is lent what it must be, the answer says
 -- that no report waits, and 258 asks are enough for it
 pub record AskedUntilNothing (now : Moment) : Type 0 where
-  pub nothing-waits : reporting (now .panel) (now .words) (now .room) .reported .handed ≡ handed.Nothing → reportWaits (now .panel) ≡ false
+  pub nothing-waits : reporting (now .panel) (now .lent) .reported .handed ≡ handed.Nothing → reportWaits (now .panel) ≡ false
   pub comes : reportWaits (afterAll now (replicate longestFrame ask) .panel) ≡ false
 
 abbrev pub AlwaysUntilNothing : Type 0
 AlwaysUntilNothing =
-    (now : Moment) → Arises now → length (now .words) ≡ wordCount → leastRoom ≤ length (now .room) → AskedUntilNothing now
+    (now : Moment) → Arises now → WellLent (now .lent) → AskedUntilNothing now

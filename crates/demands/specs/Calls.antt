@@ -1,14 +1,17 @@
 -- Sequences of calls of one panel. Demand 1: "No sequence of line bytes, quiet marks, contacts, lifts, tables or lent buffers ..".
 use Prim.{Unit}
-use Prim.Native.Nat.{ℕ, _<_}
+use Prim.Native.Nat.{ℕ, _≤_, _<_}
 use mathlib.Core.Path.{_≡_}
 use mathlib.Core.Bool.{cond}
 use mathlib.Core.List.{List, [], _∷_, _++_}
 use lib.Dec.{eqb}
 use lib.ListN.{length, take, getD}
+use Rattle.wire.specs.Addresses.{wordCount}
 use Rattle.wire.specs.Bytes.{Bytes}
+use Rattle.frame.specs.Writer.{leastRoom}
 use Rattle.reading.specs.Place.{Report, badCheck, acceptedFrame}
 use Rattle.line.specs.Methods as Line
+use Rattle.commands.specs.Lent.{Lent}
 use Rattle.touch.specs.declared.Setup.{Setup}
 use Rattle.panel.specs.declared.Panel.{Panel}
 use Rattle.panel.specs.declared.StartAnswer.the-variants as start
@@ -18,44 +21,48 @@ use Rattle.panel.specs.Numbers.{reportNumber, contactNumber, liftNumber}
 use Rattle.panel.specs.Start.{started}
 use Rattle.panel.specs.Inputs.{fedByte, fedMark, fedBytes}
 use Rattle.panel.specs.Reporting.{reporting}
-use Rattle.panel.specs.Contacts.{contacting, lifting}
+use Rattle.panel.specs.Contacts.{Contact, contacting, lifting}
 
--- the panel, and the variable words and the reply room that are lent to it, as the last call left them
+-- the panel, and what is lent to it (the variable words and the reply room), as the last call left them
 pub record Moment : Type 0 where
   pub panel : Panel
-  pub words : List ℕ
-  pub room : List ℕ
+  pub lent : Lent
 
 -- a line byte, line bytes one after the other, a quiet mark, asking for a report, a contact with the table it is lent, a lift. `lend` is no call
--- of the panel: the caller lends other words and another room from then on.
+-- of the panel: the caller lends other things from then on.
 pub data Call : Type 0 where
-  lend : (words room : List ℕ) → Call
+  lend : (lent : Lent) → Call
   byte : (b : ℕ) → Call
   bytes : (bs : List ℕ) → Call
   mark : Call
   ask : Call
-  contact : (table : List ℕ) (x y : ℕ) → Call
+  contact : (c : Contact) → Call
   lift : Call
 
 abbrev pub withPanel : Moment → Panel → Moment
-withPanel now panel = record { panel = panel; words = now .words; room = now .room }
+withPanel now panel = record { panel = panel; lent = now .lent }
 
 -- the panel started, with what is lent to it. "A refused start gives no panel."
-abbrev pub begun : Setup → (table words room : List ℕ) → Moment
-begun setup table words room = record { panel = started setup table .panel; words = words; room = room }
+abbrev pub begun : Setup → (table : List ℕ) → Lent → Moment
+begun setup table lent = record { panel = started setup table .panel; lent = lent }
+
+-- what must be lent, so that asking is not answered 14: "words lent aren't 28,672, or reply .. room below 265"
+pub record WellLent (lent : Lent) : Type 0 where
+  pub words : length (lent .words) ≡ wordCount
+  pub room : leastRoom ≤ length (lent .room)
 
 -- what a call leaves
 unfoldable pub after : Moment → Call → Moment
-after now (lend words room) = record { panel = now .panel; words = words; room = room }
+after now (lend lent) = record { panel = now .panel; lent = lent }
 after now (byte b) = withPanel now (fedByte (now .panel) b .panel)
 after now (bytes bs) = withPanel now (fedBytes (now .panel) bs .panel)
 after now mark = withPanel now (fedMark (now .panel) .panel)
 after now ask =
-    let done = reporting (now .panel) (now .words) (now .room) in
-    record { panel = done .reported .panel; words = done .words; room = done .room }
-after now (contact table x y) =
-    let done = contacting (now .panel) table (now .words) x y in
-    record { panel = done .contacted .panel; words = done .words; room = now .room }
+    let done = reporting (now .panel) (now .lent) in
+    record { panel = done .reported .panel; lent = done .lent }
+after now (contact c) =
+    let done = contacting (now .panel) c (now .lent) in
+    record { panel = done .contacted .panel; lent = done .lent }
 after now lift = withPanel now (lifting (now .panel) .panel)
 
 unfoldable pub afterAll : Moment → List Call → Moment
@@ -64,12 +71,12 @@ afterAll now (call ∷ calls) = afterAll (after now call) calls
 
 -- "Numbers given back": what a call is answered. Of bytes one after the other the one that is not taken is answered 1.
 unfoldable pub numberGiven : Moment → Call → ℕ
-numberGiven now (lend words room) = 0
+numberGiven now (lend lent) = 0
 numberGiven now (byte b) = Line.numberOfAnswer (fedByte (now .panel) b .answer)
 numberGiven now (bytes bs) = cond (eqb (fedBytes (now .panel) bs .used) (length bs)) 0 1
 numberGiven now mark = Line.numberOfAnswer (fedMark (now .panel) .answer)
-numberGiven now ask = reportNumber (reporting (now .panel) (now .words) (now .room) .reported .handed)
-numberGiven now (contact table x y) = contactNumber (contacting (now .panel) table (now .words) x y .contacted .answer)
+numberGiven now ask = reportNumber (reporting (now .panel) (now .lent) .reported .handed)
+numberGiven now (contact c) = contactNumber (contacting (now .panel) c (now .lent) .contacted .answer)
 numberGiven now lift = liftNumber (lifting (now .panel) .answer)
 
 -- the report that an answer hands over: of an accepted frame "its command and data", which stands beside the answer
@@ -81,14 +88,14 @@ reportHanded (handed.Accepted command count outcome acknowledged replied) payloa
 
 -- the reports that a call hands over: only asking does
 unfoldable pub handedOver : Moment → Call → List Report
-handedOver now (lend words room) = []
+handedOver now (lend lent) = []
 handedOver now (byte b) = []
 handedOver now (bytes bs) = []
 handedOver now mark = []
 handedOver now ask =
-    let done = reporting (now .panel) (now .words) (now .room) .reported in
+    let done = reporting (now .panel) (now .lent) .reported in
     reportHanded (done .handed) (done .payload)
-handedOver now (contact table x y) = []
+handedOver now (contact c) = []
 handedOver now lift = []
 
 unfoldable pub handedOverAll : Moment → List Call → List Report
@@ -99,21 +106,25 @@ handedOverAll now (call ∷ calls) = handedOver now call ++ handedOverAll (after
 abbrev pub Halfwords : List ℕ → Type 0
 Halfwords ws = (i : ℕ) → getD ws i 0 < 65536
 
+pub record LentTyped (lent : Lent) : Type 0 where
+  pub words : Halfwords (lent .words)
+  pub room : Bytes (lent .room)
+
 unfoldable pub Typed : Call → Type 0
-Typed (lend words room) = Halfwords words × Bytes room
+Typed (lend lent) = LentTyped lent
 Typed (byte b) = b < 256
 Typed (bytes bs) = Bytes bs
 Typed mark = Unit
 Typed ask = Unit
-Typed (contact table x y) = Bytes table × ((x < 65536) × (y < 65536))
+Typed (contact c) = Bytes (c .table) × ((c .x < 65536) × (c .y < 65536))
 Typed lift = Unit
 
 unfoldable pub AllTyped : List Call → Type 0
 AllTyped [] = Unit
 AllTyped (call ∷ calls) = Typed call × AllTyped calls
 
--- the moments that calls lead to from a start: any setup and table that are not refused, any words and room
+-- the moments that calls lead to from a start: any setup and table that are not refused, whatever is lent
 pub data Arises : Moment → Type 0 where
-  from-start : (setup : Setup) (table words room : List ℕ) → setup .h1 < 256 → setup .h2 < 256 → Halfwords words
-      → started setup table .answer ≡ start.Started → Arises (begun setup table words room)
+  from-start : (setup : Setup) (table : List ℕ) (lent : Lent) → setup .h1 < 256 → setup .h2 < 256 → Halfwords (lent .words)
+      → started setup table .answer ≡ start.Started → Arises (begun setup table lent)
   by-call : (now : Moment) (call : Call) → Typed call → Arises now → Arises (after now call)

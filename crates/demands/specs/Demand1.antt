@@ -19,10 +19,11 @@ use Rattle.registers.specs.Run.{unwritableRun, wrongValue}
 use Rattle.registers.specs.Touched.{isDown, isTouchOff}
 use Rattle.words.specs.Words.{wordsOf}
 use Rattle.commands.specs.Outcome.{replyTooLong}
+use Rattle.commands.specs.Lent.{withRoom}
 use Rattle.touch.specs.declared.Setup.{Setup}
 use Rattle.touch.specs.declared.Record.{Record}
 use Rattle.touch.specs.Setup.{checkingOf, goodSetup}
-use Rattle.touch.specs.Table.{recordAt, recordsOf}
+use Rattle.touch.specs.Table.{mostRecords, recordBytes, recordAt, recordsOf}
 use Rattle.touch.specs.Judge.{goodRecord}
 use Rattle.panel.specs.declared.Panel.{Panel}
 use Rattle.panel.specs.Inputs.{fedByte}
@@ -122,7 +123,7 @@ roomTooSmall room = ltb (length room) leastRoom
 
 -- 12: "table longer than 128 records or not whole records". "records of 32 bytes"
 unfoldable pub notWholeRecords : List ℕ → Bool
-notWholeRecords table = ltb (128 * 32) (length table) || not (eqb (length table % 32) 0)
+notWholeRecords table = ltb (mostRecords * recordBytes) (length table) || not (eqb (length table % recordBytes) 0)
 
 -- 13: "a record is wrong"
 unfoldable pub oneWrong : Setup → List Record → Bool
@@ -135,14 +136,14 @@ offScreen setup x y = not (ltb x (setup .width) && ltb y (setup .height))
 
 -- "Order: asking for a report 14, then 2 to 7 in turn; byte or mark 1; contact 14, 1, 12, 13, 9, 8; lift 1, 10"
 unfoldable pub printed : Moment → Call → List Condition
-printed now (lend words room) = []
+printed now (lend lent) = []
 printed now (byte b) = (1 when reportWaits (now .panel)) ∷ []
 printed now (bytes bs) = (1 when oneComesWhileWaiting (now .panel) bs) ∷ []
 printed now mark = (1 when reportWaits (now .panel)) ∷ []
 printed now ask =
     let setup = now .panel .setup in
     let report = waitingReport (now .panel) in
-    (14 when wordsNotLent (now .words) || roomTooSmall (now .room))
+    (14 when wordsNotLent (now .lent .words) || roomTooSmall (now .lent .room))
     ∷ (2 when ofFrame report notCommand)
     ∷ (3 when ofFrame report wrongData)
     ∷ (4 when ofFrame report passesEnd)
@@ -150,14 +151,14 @@ printed now ask =
     ∷ (6 when ofFrame report (valueWrong (setup .pages)))
     ∷ (7 when ofFrame report (replyPasses (checkingOf setup)))
     ∷ []
-printed now (contact table x y) =
+printed now (contact c) =
     let setup = now .panel .setup in
-    (14 when wordsNotLent (now .words))
+    (14 when wordsNotLent (now .lent .words))
     ∷ (1 when reportWaits (now .panel))
-    ∷ (12 when notWholeRecords table)
-    ∷ (13 when oneWrong setup (recordsOf table))
+    ∷ (12 when notWholeRecords (c .table))
+    ∷ (13 when oneWrong setup (recordsOf (c .table)))
     ∷ (9 when isTouchOff (now .panel .registers))
-    ∷ (8 when offScreen setup x y)
+    ∷ (8 when offScreen setup (c .x) (c .y))
     ∷ []
 printed now lift = (1 when reportWaits (now .panel)) ∷ (10 when not (isDown (now .panel .registers))) ∷ []
 
@@ -178,14 +179,13 @@ pub record NamesFirstWrong (setup : Setup) (table : List ℕ) (i : ℕ) : Type 0
   pub first : (k : ℕ) → k < i → goodRecord setup (recordAt table k) ≡ true
 
 -- "A refused command is still handed over and acknowledged as printed": its report is, the reader goes on behind it, and the acknowledgement is laid over
--- the room; "beyond that" panel, words and room are as they stood
+-- the room; "beyond that" the panel and what is lent are as they stood
 pub record OnlyHandedOver (now later : Moment) : Type 0 where
   pub command : ℕ
   pub content : List ℕ
   pub handed-over : handedOver now ask ≡ acceptedFrame command content ∷ []
   pub only-read-on : later .panel ≡ readBehind (now .panel)
-  pub words-stand : later .words ≡ now .words
-  pub only-acknowledged : later .room ≡ over (acknowledgementOf (now .panel .setup) command true) (now .room)
+  pub only-acknowledged : later .lent ≡ withRoom (now .lent) (over (acknowledgementOf (now .panel .setup) command true) (now .lent .room))
 
 -- what a refused call leaves, by its number
 pub data RefusalLeaves (now : Moment) : Call → Type 0 where

@@ -16,7 +16,8 @@ use Rattle.reading.specs.Moves.{fresh}
 use Rattle.line.specs.State.{keptOf}
 use Rattle.registers.specs.declared.Registers.{Registers}
 use Rattle.registers.specs.Table.{registerAt, registerRun}
-use Rattle.registers.specs.Run.{covers, written}
+use Rattle.commands.specs.Lent.{Lent, withWords, withRoom}
+use Rattle.commands.specs.Effect.{registersLeft, catchDropped}
 use Rattle.registers.specs.Touched.{pageOf, isDown}
 use Rattle.words.specs.Words.{wordAtAddress, wordsOf, bytesOf, wordRun, wordsWritten}
 use Rattle.touch.specs.declared.Record.{Record}
@@ -26,7 +27,8 @@ use Rattle.touch.specs.Record.{noNext}
 use Rattle.touch.specs.Find.{found}
 use Rattle.contact.specs.declared.Catch.{Catch}
 use Rattle.contact.specs.declared.Catch.the-variants.{Free, Caught}
-use Rattle.contact.specs.Contact as Contact
+use Rattle.contact.specs.Contact as Touch
+use Rattle.panel.specs.Contacts.{Contact}
 use Rattle.panel.specs.State.{headerOf, padOf, withPad}
 use Rattle.demands.specs.Calls.{Moment, Call, lend, bytes, ask, contact, lift, after, numberGiven, handedOver}
 use Rattle.demands.specs.Reports.{readBehind, acknowledgementOf}
@@ -37,13 +39,13 @@ pub data NamesWord (now : Moment) (k : ℕ) : Call → Type 0 where
   by-store : (content : List ℕ) → handedOver now ask ≡ acceptedFrame 0x82 content ∷ [] → numberGiven now ask ≡ 0
       → wordAt content 0 ≤ k → k < wordAt content 0 + length (wordsOf (drop 2 content)) → NamesWord now k ask
   -- "Contact while up: .. The first record of the current page holding the point acts"
-  by-acting : (table : List ℕ) (x y i : ℕ) (r : Record) → numberGiven now (contact table x y) ≡ 0 → isDown (now .panel .registers) ≡ false
-      → found table (pageOf (now .panel .registers)) x y ≡ At i r → k ≡ r .word → NamesWord now k (contact table x y)
+  by-acting : (c : Contact) (i : ℕ) (r : Record) → numberGiven now (contact c) ≡ 0 → isDown (now .panel .registers) ≡ false
+      → found (c .table) (pageOf (now .panel .registers)) (c .x) (c .y) ≡ At i r → k ≡ r .word → NamesWord now k (contact c)
   -- "Contact while down: .. a caught slider stores ..; nothing else acts"
-  by-dragging : (table : List ℕ) (x y : ℕ) (r : Record) → numberGiven now (contact table x y) ≡ 0 → isDown (now .panel .registers) ≡ true
-      → now .panel .catch ≡ Caught r → k ≡ r .word → NamesWord now k (contact table x y)
+  by-dragging : (c : Contact) (r : Record) → numberGiven now (contact c) ≡ 0 → isDown (now .panel .registers) ≡ true
+      → now .panel .catch ≡ Caught r → k ≡ r .word → NamesWord now k (contact c)
   -- the caller lends other words, with another number there
-  by-lending : (words room : List ℕ) → wordAtAddress words k ≢ wordAtAddress (now .words) k → NamesWord now k (lend words room)
+  by-lending : (lent : Lent) → wordAtAddress (lent .words) k ≢ wordAtAddress (now .lent .words) k → NamesWord now k (lend lent)
 
 -- the register is named by the call, which is done
 pub data NamesRegister (now : Moment) (address : ℕ) : Call → Type 0 where
@@ -51,14 +53,14 @@ pub data NamesRegister (now : Moment) (address : ℕ) : Call → Type 0 where
   by-write : (content : List ℕ) → handedOver now ask ≡ acceptedFrame 0x80 content ∷ [] → numberGiven now ask ≡ 0
       → byteAt content 0 ≤ address → address < byteAt content 0 + length (drop 1 content) → NamesRegister now address ask
   -- "Contact while up: status 01"; "Contact while down: status 03"
-  by-status : (table : List ℕ) (x y : ℕ) → numberGiven now (contact table x y) ≡ 0 → address ≡ 0x06 → NamesRegister now address (contact table x y)
+  by-status : (c : Contact) → numberGiven now (contact c) ≡ 0 → address ≡ 0x06 → NamesRegister now address (contact c)
   -- "if the flag isn't 5A, X and Y are stored and the flag becomes 5A": 05 and 07-0A
-  by-place : (table : List ℕ) (x y : ℕ) → numberGiven now (contact table x y) ≡ 0 → registerAt (now .panel .registers) 0x05 ≢ 0x5A
-      → (address ≡ 0x05) ⊎ ((0x07 ≤ address) × (address < 0x0B)) → NamesRegister now address (contact table x y)
+  by-place : (c : Contact) → numberGiven now (contact c) ≡ 0 → registerAt (now .panel .registers) 0x05 ≢ 0x5A
+      → (address ≡ 0x05) ⊎ ((0x07 ≤ address) × (address < 0x0B)) → NamesRegister now address (contact c)
   -- "The first record of the current page holding the point acts, then its next page is shown.": 03-04
-  by-page : (table : List ℕ) (x y i : ℕ) (r : Record) → numberGiven now (contact table x y) ≡ 0 → isDown (now .panel .registers) ≡ false
-      → found table (pageOf (now .panel .registers)) x y ≡ At i r → noNext r ≡ false → (address ≡ 0x03) ⊎ (address ≡ 0x04)
-      → NamesRegister now address (contact table x y)
+  by-page : (c : Contact) (i : ℕ) (r : Record) → numberGiven now (contact c) ≡ 0 → isDown (now .panel .registers) ≡ false
+      → found (c .table) (pageOf (now .panel .registers)) (c .x) (c .y) ≡ At i r → noNext r ≡ false → (address ≡ 0x03) ⊎ (address ≡ 0x04)
+      → NamesRegister now address (contact c)
   -- "Lift: status 02"
   by-lifting : numberGiven now lift ≡ 0 → address ≡ 0x06 → NamesRegister now address lift
 
@@ -78,24 +80,21 @@ pub record ReadsBack (now : Moment) (frame : List ℕ) (command : ℕ) (payload 
 abbrev pub withReply : Moment → (command : ℕ) → (payload : List ℕ) → List ℕ
 withReply now command payload =
     let setup = now .panel .setup in
-    over (acknowledgementOf setup command true ++ frameOf (checkingOf setup) (headerOf setup) command payload) (now .room)
+    over (acknowledgementOf setup command true ++ frameOf (checkingOf setup) (headerOf setup) command payload) (now .lent .room)
 
--- "An accepted frame takes effect when its report is handed over": what asking leaves, with the registers, catch, words and reply frame that the command
--- makes. "The reply follows the acknowledgement at once in the same room. .. bytes past the reported count stay."
-unfoldable pub leaving : Moment → (command : ℕ) → Registers → Catch → (words reply : List ℕ) → Moment
-leaving now command registers catch words reply =
+-- "An accepted frame takes effect when its report is handed over": what asking leaves, with the registers, the catch, what is lent but for the room,
+-- and the reply frame that the command makes. "The reply follows the acknowledgement at once in the same room. .. bytes past the reported count stay."
+unfoldable pub leaving : Moment → (command : ℕ) → Registers → Catch → Lent → (reply : List ℕ) → Moment
+leaving now command registers catch lent reply =
     record {
       panel = record { setup = now .panel .setup; registers = registers; catch = catch; reader = readBehind (now .panel) .reader };
-      words = words;
-      room = over (acknowledgementOf (now .panel .setup) command true ++ reply) (now .room);
+      lent = withRoom lent (over (acknowledgementOf (now .panel .setup) command true ++ reply) (now .lent .room));
     }
 
 -- "0x80, address (1), one or more bytes: write registers." "Every page write by a command .. drops the catch."
 unfoldable pub afterWrite : Moment → List ℕ → Moment
 afterWrite now content =
-    let address = byteAt content 0 in
-    let run = drop 1 content in
-    leaving now 0x80 (written (now .panel .registers) address run) (cond (covers address (length run) 0x03) Free (now .panel .catch)) (now .words) []
+    leaving now 0x80 (registersLeft (now .panel .registers) content) (cond (catchDropped content) Free (now .panel .catch)) (now .lent) []
 
 -- "0x81, address (1), count (1): read registers. Reply 0x81, address, count, bytes."
 unfoldable pub afterRead : Moment → List ℕ → Moment
@@ -103,13 +102,14 @@ afterRead now content =
     let setup = now .panel .setup in
     let address = byteAt content 0 in
     let count = byteAt content 1 in
-    leaving now 0x81 (now .panel .registers) (now .panel .catch) (now .words)
+    leaving now 0x81 (now .panel .registers) (now .panel .catch) (now .lent)
     (frameOf (checkingOf setup) (headerOf setup) 0x81 (address ∷ count ∷ registerRun (now .panel .registers) address count))
 
 -- "0x82, address (2), one or more words: write variables."
 unfoldable pub afterStore : Moment → List ℕ → Moment
 afterStore now content =
-    leaving now 0x82 (now .panel .registers) (now .panel .catch) (wordsWritten (now .words) (wordAt content 0) (drop 2 content)) []
+    leaving now 0x82 (now .panel .registers) (now .panel .catch)
+    (withWords (now .lent) (wordsWritten (now .lent .words) (wordAt content 0) (drop 2 content))) []
 
 -- "0x83, address (2), count (1): read variables. Reply 0x83, address, count, words."
 unfoldable pub afterFetch : Moment → List ℕ → Moment
@@ -117,26 +117,25 @@ afterFetch now content =
     let setup = now .panel .setup in
     let address = wordAt content 0 in
     let count = byteAt content 2 in
-    leaving now 0x83 (now .panel .registers) (now .panel .catch) (now .words)
-    (frameOf (checkingOf setup) (headerOf setup) 0x83 (highFirst address ++ (count ∷ bytesOf (wordRun (now .words) address count))))
+    leaving now 0x83 (now .panel .registers) (now .panel .catch) (now .lent)
+    (frameOf (checkingOf setup) (headerOf setup) 0x83 (highFirst address ++ (count ∷ bytesOf (wordRun (now .lent .words) address count))))
 
 -- "each bad check by the same with 0x00"
 unfoldable pub afterBadCheck : Moment → (command : ℕ) → Moment
 afterBadCheck now command =
     record {
       panel = readBehind (now .panel);
-      words = now .words;
-      room = over (acknowledgementOf (now .panel .setup) command false) (now .room);
+      lent = withRoom (now .lent) (over (acknowledgementOf (now .panel .setup) command false) (now .lent .room));
     }
 
 -- "touch effects": what a contact and a lift leave, sentence by sentence in crate contact's specs/Contact
-unfoldable pub afterContact : Moment → (table : List ℕ) → (x y : ℕ) → Moment
-afterContact now table x y =
-    let done = Contact.touched (padOf (now .panel)) table (now .words) x y in
-    record { panel = withPad (now .panel) (done .pad); words = done .words; room = now .room }
+unfoldable pub afterContact : Moment → Contact → Moment
+afterContact now c =
+    let done = Touch.touched (now .panel .setup) (padOf (now .panel)) (c .table) (now .lent .words) (c .x) (c .y) in
+    record { panel = withPad (now .panel) (done .pad); lent = withWords (now .lent) (done .words) }
 
 unfoldable pub afterLift : Moment → Moment
-afterLift now = record { panel = withPad (now .panel) (Contact.lifted (padOf (now .panel))); words = now .words; room = now .room }
+afterLift now = record { panel = withPad (now .panel) (Touch.lifted (padOf (now .panel))); lent = now .lent }
 
 -- what the four commands leave where they are done
 unfoldable pub afterCommand : Moment → (command : ℕ) → List ℕ → Moment
@@ -152,6 +151,6 @@ pub data AskLeaves (now : Moment) : Type 0 where
   hands-bad-check : (command : ℕ) → handedOver now ask ≡ badCheck command ∷ [] → numberGiven now ask ≡ 0 → after now ask ≡ afterBadCheck now command
       → AskLeaves now
   refuses-command : (command : ℕ) (content : List ℕ) → handedOver now ask ≡ acceptedFrame command content ∷ [] → 2 ≤ numberGiven now ask → numberGiven now ask ≤ 7
-      → after now ask ≡ leaving now command (now .panel .registers) (now .panel .catch) (now .words) [] → AskLeaves now
+      → after now ask ≡ leaving now command (now .panel .registers) (now .panel .catch) (now .lent) [] → AskLeaves now
   does-command : (command : ℕ) (content : List ℕ) → handedOver now ask ≡ acceptedFrame command content ∷ [] → numberGiven now ask ≡ 0
       → 0x80 ≤ command → command ≤ 0x83 → after now ask ≡ afterCommand now command content → AskLeaves now

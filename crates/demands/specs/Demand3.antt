@@ -8,8 +8,9 @@ use lib.ListN.{length}
 use Rattle.reading.specs.Place.{Report}
 use Rattle.reading.specs.Line as Line
 use Rattle.reading.specs.Line.{Input}
-use Rattle.reading.specs.Demand3.{GoodFrames, joined, Cut, BeginsNone, acceptedOf, reportOfFrame, NothingHeldOrWaiting}
+use Rattle.reading.specs.Demand3.{oneLessThanLongest, GoodFrames, joined, Cut, BeginsNone, acceptedOf, reportOfFrame, NothingHeldOrWaiting}
 use Rattle.line.specs.State.{keptOf}
+use Rattle.commands.specs.Lent.{Lent}
 use Rattle.touch.specs.declared.Setup.{Setup}
 use Rattle.touch.specs.Setup.{checkingOf}
 use Rattle.panel.specs.declared.StartAnswer.the-variants as start
@@ -41,7 +42,7 @@ OnAnOpenLine handsOver =
     → (damage : List ℕ) (frames : List (List ℕ)) (tail : List ℕ) → GoodFrames (rulesOf (now .panel)) frames → Cut (rulesOf (now .panel)) tail
     → givenAll now calls ≡ map Line.byte (damage ++ (joined frames ++ tail))
     → BeginsNone (rulesOf (now .panel)) damage (joined frames ++ tail)
-    → 257 ≤ length (joined frames ++ tail)
+    → oneLessThanLongest (rulesOf (now .panel) .header) ≤ length (joined frames ++ tail)
     → AllAskedFor now calls
     → acceptedOf (handsOver now calls) ≡ map (reportOfFrame (rulesOf (now .panel))) frames
 
@@ -65,21 +66,21 @@ pub record ReadAlike (one other : Moment) : Type 0 where
 -- that of a new panel which is lent the same.
 pub record AsNew (setup : Setup) (table : List ℕ) (now : Moment) : Type 0 where
   pub new-reader : now .panel .reader ≡ newPanel setup .reader
-  pub reads-as-new : ReadAlike now (begun setup table (now .words) (now .room))
+  pub reads-as-new : ReadAlike now (begun setup table (now .lent))
 
 abbrev pub AfterAMark : Type 0
 AfterAMark =
-    (setup : Setup) (table words room : List ℕ) → started setup table .answer ≡ start.Started
+    (setup : Setup) (table : List ℕ) (lent : Lent) → started setup table .answer ≡ start.Started
     → (calls : List Call) → AllTyped calls
-    → (before : List Input) → givenAll (begun setup table words room) calls ≡ before ++ (Line.mark ∷ [])
-    → AllAskedFor (begun setup table words room) calls
-    → AsNew setup table (afterAll (begun setup table words room) calls)
+    → (before : List Input) → givenAll (begun setup table lent) calls ≡ before ++ (Line.mark ∷ [])
+    → AllAskedFor (begun setup table lent) calls
+    → AsNew setup table (afterAll (begun setup table lent) calls)
 
 -- and so, where checking is on, the first sentence applies again
 abbrev pub ReadyAgain : Type 0
 ReadyAgain =
-    (setup : Setup) (table words room : List ℕ) → Arises (begun setup table words room) → started setup table .answer ≡ start.Started
+    (setup : Setup) (table : List ℕ) (lent : Lent) → Arises (begun setup table lent) → started setup table .answer ≡ start.Started
     → (calls : List Call) → AllTyped calls
-    → (before : List Input) → givenAll (begun setup table words room) calls ≡ before ++ (Line.mark ∷ [])
-    → AllAskedFor (begun setup table words room) calls
-    → checkingOf setup ≡ true → Ready (afterAll (begun setup table words room) calls)
+    → (before : List Input) → givenAll (begun setup table lent) calls ≡ before ++ (Line.mark ∷ [])
+    → AllAskedFor (begun setup table lent) calls
+    → checkingOf setup ≡ true → Ready (afterAll (begun setup table lent) calls)

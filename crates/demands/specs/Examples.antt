@@ -17,7 +17,10 @@ use Rattle.stores.specs.Store.{signed, wordOf}
 use Rattle.stores.specs.Step.{stepStores}
 use Rattle.stores.specs.Slider.{sliderStores}
 use Rattle.words.specs.Words.{wordAtAddress}
+use Rattle.commands.specs.Lent.{lending}
 use Rattle.commands.specs.declared.Outcome.the-variants.{Done}
+use Rattle.touch.specs.declared.Setup.{Setup}
+use Rattle.touch.specs.Rounding.{roundingOf}
 use Rattle.panel.specs.declared.Panel.{Panel}
 use Rattle.panel.specs.declared.Handed.{Handed}
 use Rattle.panel.specs.declared.Handed.the-variants as handed
@@ -48,13 +51,17 @@ AllRight (row ∷ rows) = Right row × AllRight rows
 abbrev pub header : List ℕ
 header = 0x5A ∷ 0xA5 ∷ []
 
--- a panel started with it, with 01's trace example's pages and screen, and an empty table; flags 1 is checking on, 0 off
+-- a setup with it, and with 01's trace example's pages and screen; flags 1 is checking on, 0 off
+abbrev pub setupWith : (flags : ℕ) → Setup
+setupWith flags = record { h1 = 0x5A; h2 = 0xA5; flags = flags; pages = 2; width = 800; height = 480 }
+
+-- a panel started so, with an empty table
 abbrev pub startedWith : (flags : ℕ) → Panel
-startedWith flags = started (record { h1 = 0x5A; h2 = 0xA5; flags = flags; pages = 2; width = 800; height = 480 }) [] .panel
+startedWith flags = started (setupWith flags) [] .panel
 
 -- asking it for a report, lent 28,672 words of 0 and a reply room of 265 bytes
 abbrev pub asking : Panel → Reporting
-asking panel = reporting panel (replicate wordCount 0) (replicate leastRoom 0)
+asking panel = reporting panel (lending (replicate wordCount 0) (replicate leastRoom 0))
 
 -- e, to a panel: the bytes and the mark are given, then two reports are asked for
 abbrev pub noiseAndRead : List ℕ
@@ -76,7 +83,7 @@ stepUp value step least greatest round = stepStores 0 value true round step leas
 
 -- h to j: a slider from 100 to 300 on a whole word, whose begin, end and stored word are read as signed numbers
 abbrev pub slider : (begin end : ℤ) (at : ℕ) → ℤ
-slider begin end at = signed (sliderStores 0 0 (wordOf begin) (wordOf end) 100 300 at)
+slider begin end at = signed (sliderStores (roundingOf (setupWith 0)) 0 0 (wordOf begin) (wordOf end) 100 300 at)
 
 abbrev pub examples : List Row
 examples =
@@ -92,7 +99,7 @@ examples =
     reading (lineReports (checked 0x5A 0xA5) (map byte noiseAndRead ++ (mark ∷ []))) (acceptedFrame 0x81 (0x00 ∷ 0x01 ∷ []) ∷ []) ∷
     answered (firstAsked .reported .handed ∷ secondAsked .reported .handed ∷ []) (handed.Accepted 0x81 2 Done 0 9 ∷ handed.Nothing ∷ []) ∷
     -- f. "Checking off, 5A A5 05 82 00 10 01 F4: word 0010 becomes 500."
-    number (wordAtAddress (writeAsked .words) 0x0010) 500 ∷
+    number (wordAtAddress (writeAsked .lent .words) 0x0010) 500 ∷
     -- g. "98 up 5 in 0..100: stop 100, round 0."
     number (stepUp 98 5 0 100 false) 100 ∷
     number (stepUp 98 5 0 100 true) 0 ∷

@@ -15,12 +15,12 @@ unlessRefused Waits input = []
 
 -- the inputs that a call gives: a byte, a mark, or as many of the bytes as were taken
 unfoldable pub given : Moment → Call → List Input
-given now (lend words room) = []
+given now (lend lent) = []
 given now (byte b) = unlessRefused (fedByte (now .panel) b .answer) (Line.byte b)
 given now (bytes bs) = map Line.byte (take (fedBytes (now .panel) bs .used) bs)
 given now mark = unlessRefused (fedMark (now .panel) .answer) Line.mark
 given now ask = []
-given now (contact table x y) = []
+given now (contact c) = []
 given now lift = []
 
 -- "all that was given", in order

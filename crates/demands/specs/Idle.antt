@@ -33,7 +33,7 @@ ReadsFirstStretchOnly handsOver =
     (first : Moment) (earlier : List Call) (before behind : List Input) → givenAll first earlier ≡ before ++ (Line.mark ∷ behind)
     → (calls : List Call) → acceptedOf (handsOver (afterAll first earlier) calls) ≡ []
 
--- Commands, demand 2. What a build leaves of panel, words and room when a report is asked for; ours is `leftByAsking`.
+-- Commands, demand 2. What a build leaves of the panel and of what is lent when a report is asked for; ours is `leftByAsking`.
 abbrev pub LeftByAsking : Type 0
 LeftByAsking = Moment → Moment
 
@@ -55,20 +55,20 @@ pub record DoesCommands (left : LeftByAsking) : Type 0 where
 abbrev pub RefusesEveryCommand : LeftByAsking → Type 0
 RefusesEveryCommand left =
     (now : Moment) (command : ℕ) (content : List ℕ) → handedOver now ask ≡ acceptedFrame command content ∷ []
-    → left now ≡ leaving now command (now .panel .registers) (now .panel .catch) (now .words) []
+    → left now ≡ leaving now command (now .panel .registers) (now .panel .catch) (now .lent) []
 
 -- "replying alike to all reads" by this command: the room that is left does not go by what is asked for or by what stands there
 abbrev pub RepliesAlike : (command : ℕ) → LeftByAsking → Type 0
 RepliesAlike command left =
     (one other : Moment) (content content′ : List ℕ) → handedOver one ask ≡ acceptedFrame command content ∷ []
-    → handedOver other ask ≡ acceptedFrame command content′ ∷ [] → one .room ≡ other .room → left one .room ≡ left other .room
+    → handedOver other ask ≡ acceptedFrame command content′ ∷ [] → one .lent .room ≡ other .lent .room → left one .lent .room ≡ left other .lent .room
 
 -- "taking frames without storing": asking changes no register; it changes no word
 abbrev pub StoresNoRegister : LeftByAsking → Type 0
 StoresNoRegister left = (now : Moment) → left now .panel .registers ≡ now .panel .registers
 
 abbrev pub StoresNoWord : LeftByAsking → Type 0
-StoresNoWord left = (now : Moment) → left now .words ≡ now .words
+StoresNoWord left = (now : Moment) → left now .lent .words ≡ now .lent .words
 
 -- a build that is none of the four
 pub record NotIdle (handsOver : HandsOver) (left : LeftByAsking) : Type 0 where

@@ -6,6 +6,7 @@ use lib.ListN.{replicate}
 use Rattle.wire.specs.Addresses.{wordCount}
 use Rattle.frame.specs.Writer.{leastRoom}
 use Rattle.reading.specs.Place.{Report, acceptedFrame}
+use Rattle.commands.specs.Lent.{lending}
 use Rattle.touch.specs.declared.Setup.{Setup}
 use Rattle.demands.specs.Calls.{Moment, Call, bytes, ask, begun}
 
@@ -21,7 +22,7 @@ abbrev pub storySetup : Setup
 storySetup = record { h1 = 0x5A; h2 = 0xA5; flags = 1; pages = 2; width = 800; height = 480 }
 
 abbrev pub new : Moment
-new = begun storySetup [] (replicate wordCount 0) (replicate leastRoom 0)
+new = begun storySetup [] (lending (replicate wordCount 0) (replicate leastRoom 0))
 
 -- two header bytes and a length byte: the head of a frame of 67 bytes that never existed
 abbrev pub noise : List ℕ
