@@ -20,7 +20,7 @@ use Rattle.line.specs.declared.Reader.{Reader}
 use Rattle.line.specs.declared.Step.{Step}
 use Rattle.line.specs.declared.Fed.{Fed}
 use Rattle.line.specs.declared.Gave.{Gave}
-use Rattle.line.specs.Inner.{stepOf, decidedAt, leftOf, opened}
+use Rattle.line.specs.Inner.{decidedAt, leftOf, opened, stepOf}
 use Rattle.line.specs.State.{rulesFor, padded, settledReader}
 use Rattle.line.specs.Methods.{isAnswer, takes, busy, givenByte, gave, plus, givenBytes}
 use Rattle.line.proofs.Padding.{take-padded}

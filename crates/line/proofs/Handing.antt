@@ -25,9 +25,9 @@ use Rattle.line.specs.declared.Report.the-variants.{Nothing}
 use Rattle.line.specs.declared.Handover.{Handover}
 use Rattle.line.specs.declared.Asked.{Asked}
 use Rattle.line.specs.declared.Fed.{Fed}
-use Rattle.line.specs.Inner.{answerWithReport, askedWith, readerWith, opened}
+use Rattle.line.specs.Inner.{readerWith, opened, askedWith, answerWithReport}
 use Rattle.line.specs.State.{rulesFor, padded, settledReader}
-use Rattle.line.specs.Methods.{bodyLength, span, told, busy, gave, givenBytes, asked}
+use Rattle.line.specs.Methods.{busy, gave, givenBytes, bodyLength, span, told, asked}
 use Rattle.line.proofs.Padding.{drop-take, length-padded, laid-empty, set-behind}
 use Rattle.line.proofs.Fronts.{content-part}
 use Rattle.line.proofs.Settling.{stop-inside, settled-is}

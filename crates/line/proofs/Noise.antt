@@ -20,7 +20,7 @@ use Rattle.place.proofs.Stops.{look-nothing}
 use Rattle.line.specs.declared.Line.{Line}
 use Rattle.line.specs.declared.Reader.{Reader}
 use Rattle.line.specs.declared.Gave.{Gave}
-use Rattle.line.specs.Inner.{noiseLength, opened}
+use Rattle.line.specs.Inner.{opened, noiseLength}
 use Rattle.line.specs.State.{rulesFor, padded, settledReader}
 use Rattle.line.specs.Methods.{takes, givenByte, gave, plus, givenBytes}
 use Rattle.line.proofs.Truths.{and-left, and-right}

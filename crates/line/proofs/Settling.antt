@@ -18,7 +18,7 @@ use Rattle.place.proofs.Stops.{look-nothing, still-there, still-over}
 use Rattle.line.specs.declared.Line.{Line}
 use Rattle.line.specs.declared.Reader.{Reader}
 use Rattle.line.specs.declared.Rest.{Rest}
-use Rattle.line.specs.Inner.{restOf, leftOf}
+use Rattle.line.specs.Inner.{leftOf, restOf}
 use Rattle.line.specs.State.{rulesFor, padded, settledReader}
 use Rattle.line.proofs.Padding.{drop-take, length-padded}
 

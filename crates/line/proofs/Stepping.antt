@@ -11,7 +11,7 @@ use Rattle.reading.specs.Moves.{settled}
 use Rattle.line.specs.declared.Line.{Line}
 use Rattle.line.specs.declared.Rest.{Rest}
 use Rattle.line.specs.declared.Step.{Step}
-use Rattle.line.specs.Inner.{stepOf, decidedAt, restOf, leftOf}
+use Rattle.line.specs.Inner.{decidedAt, leftOf, restOf, stepOf}
 use Rattle.line.specs.State.{padded}
 use Rattle.line.proofs.Padding.{length-padded, take-padded, set-behind}
 

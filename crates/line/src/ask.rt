@@ -15,7 +15,7 @@ ghost use lib.ListN.{length, take, drop};
 ghost use Rattle.frame.specs.Frame.{headerBytes, contentOf, longestFrame, mostPayload};
 ghost use Rattle.line.specs.State.{padded};
 ghost use Rattle.line.specs.declared.Report.the-variants.{Nothing};
-ghost use Rattle.line.specs.Inner.{answerWithReport, askedWith};
+ghost use Rattle.line.specs.Inner.{askedWith, answerWithReport};
 ghost use Rattle.line.specs.Methods.{bodyLength, span, told, asked};
 
 // How much a is above b.

@@ -10,7 +10,7 @@ ghost use mathlib.Core.List.{[], _∷_, _++_};
 ghost use Prim.Native.Nat.{_+_, _≤_, _<_};
 ghost use lib.ListN.{length, take};
 ghost use Rattle.frame.specs.Frame.{longestFrame};
-ghost use Rattle.line.specs.Inner.{noiseLength, stepOf, leftOf, opened};
+ghost use Rattle.line.specs.Inner.{leftOf, opened, stepOf, noiseLength};
 ghost use Rattle.line.specs.State.{padded};
 ghost use Rattle.place.specs.declared.Look.the-variants.{Wait};
 ghost use Rattle.line.specs.Methods.{gave, givenBytes};

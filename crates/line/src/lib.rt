@@ -65,6 +65,8 @@ pub struct Asked {
     pub reader: Reader,
 }
 
+// The structs below are what the modules hand each other.
+
 // How many bytes are left once all that is passed over has been, and what stands at the first of them.
 struct Rest {
     len: usize,

@@ -10,7 +10,7 @@ ghost use mathlib.Core.List.{[]};
 ghost use Prim.Native.Nat.{_-_, _≤_};
 ghost use lib.ListN.{length, take, drop};
 ghost use Rattle.frame.specs.Frame.{longestFrame};
-ghost use Rattle.line.specs.Inner.{readerWith, restOf, leftOf};
+ghost use Rattle.line.specs.Inner.{leftOf, restOf, readerWith};
 ghost use Rattle.line.specs.State.{rulesFor, padded, settledReader};
 ghost use Rattle.place.specs.Looks.{stopOf};
 

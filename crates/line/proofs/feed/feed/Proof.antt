@@ -11,8 +11,8 @@ use Rattle.line.specs.Inner.{opened}
 use Rattle.line.specs.State.{rulesFor, padded}
 use Rattle.line.specs.Methods.{plus, givenBytes}
 use Rattle.line.proofs.Blindness.{Blind, blind-nothing}
-use Rattle.line.proofs.Blocks.{fed-block, block-less, block-inside, block-blind, block-front}
-use Rattle.line.proofs.Noise.{fed-noise, noise-less, noise-inside}
+use Rattle.line.proofs.Blocks.{block-front, block-blind, block-inside, block-less, fed-block}
+use Rattle.line.proofs.Noise.{noise-inside, noise-less, fed-noise}
 use Rattle.line.proofs.Feeding.{more-left, room-left, turn-inside, turn-less, some-left, fed-start, fed-byte, step-front, step-blind, all-fed}
 use Rattle.line.proofs.feed.feed.Statement.{statement}
 use Rattle.line.proofs.feed.feed.Tie as tie

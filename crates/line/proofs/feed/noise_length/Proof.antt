@@ -5,7 +5,7 @@ use native.Mathlib.Omega.{arith}
 use borrow.Author.Needs.{needs}
 use lib.ListN.{length, drop}
 use Rattle.line.specs.Inner.{noiseLength}
-use Rattle.line.proofs.Noise.{noise-ends, noise-stops, noise-more}
+use Rattle.line.proofs.Noise.{noise-more, noise-stops, noise-ends}
 use Rattle.line.proofs.feed.noise_length.Statement.{statement}
 use Rattle.line.proofs.feed.noise_length.Tie as tie
 

@@ -1,5 +1,5 @@
 -- `line::feed::take_block` meets its contract.
-use Rattle.line.proofs.Blocks.{byte-behind, block-laid, block-room, block-counted}
+use Rattle.line.proofs.Blocks.{block-laid, block-counted, block-room, byte-behind}
 use borrow.Author.Needs.{needs}
 use Rattle.line.proofs.feed.take_block.Statement.{statement}
 use Rattle.line.proofs.feed.take_block.Tie as tie
