@@ -4,14 +4,11 @@ use mathlib.Core.Bool.{Bool, true, false}
 use mathlib.Core.List.{List, [], _∷_}
 use Prim.Native.Nat.{ℕ, _≤_}
 use native.Mathlib.Omega.{arith}
-use borrow.Author.Tests.{leb-true}
-use lib.Dec.{eqb, leb}
 use lib.ListN.{length, drop}
 use Rattle.wire.specs.Room.{over, Laid}
 use Rattle.wire.specs.ByteOrder.{byteAt, wordAt}
 use Rattle.wire.proofs.Over.{over-nil}
 use Rattle.frame.specs.Frame.{mostData, frameOf}
-use Rattle.frame.specs.Writer.{leastRoom}
 use Rattle.frame.proofs.Writers.{frame-laid}
 use Rattle.reading.specs.Place.{badCheck, acceptedFrame}
 use Rattle.line.specs.declared.Reader.{Reader}
@@ -19,22 +16,21 @@ use Rattle.line.specs.declared.Report.{Report}
 use Rattle.line.specs.declared.Report.the-variants as line
 use Rattle.line.specs.declared.Asked.{Asked}
 use Rattle.line.specs.Methods.{asked}
-use Rattle.line.proofs.Truths.{never, and-right}
+use Rattle.line.proofs.Truths.{never}
 use Rattle.wire.specs.Addresses.{wordCount}
 use Rattle.words.specs.Words.{wordsWritten}
-use Rattle.registers.specs.Run.{covers, written}
 use Rattle.commands.specs.declared.Outcome.{Outcome}
 use Rattle.commands.specs.Outcome as Outcome
 use Rattle.commands.specs.declared.Outcome.the-variants.{Done, UnknownCommand, WrongData, PastEnd, Unwritable, WrongValue, ReplyTooLong}
-use Rattle.commands.specs.Outcome.{writeRegistersOutcome, readRegistersOutcome, writeWordsOutcome, readWordsOutcome, outcome}
-use Rattle.commands.specs.Effect.{isDone, registersWritten, wordsWriting, replying, registersReplying, wordsReplying}
+use Rattle.commands.specs.Outcome.{writeRegistersOutcome, readRegistersOutcome, writeWordsOutcome, readWordsOutcome, outcome, isDone}
+use Rattle.commands.specs.Effect.{wordsWriting, replying, registersReplying, wordsReplying, answered, catchDropped, registersWriting}
 use Rattle.commands.specs.Perform.{performance}
 use Rattle.commands.specs.Reply.{registersReply, wordsReply}
 use Rattle.commands.proofs.Reading.{registers-short, words-within, words-short}
 use Rattle.commands.proofs.Replies.{length-registersReply, length-wordsReply}
 use Rattle.touch.specs.Setup.{checkingOf}
-use Rattle.panel.specs.State.{headerOf, withReader}
-use Rattle.panel.specs.Reporting.{lent, acknowledged, Reporting, handing, reporting}
+use Rattle.panel.specs.State.{headerOf, withReader, fixedFor}
+use Rattle.panel.specs.Reporting.{acknowledged, Reporting, handing, reporting, wellLent, handingOver}
 use Rattle.panel.specs.Sound.{Sound}
 use Rattle.panel.specs.Reachable.{Reachable}
 use Rattle.panel.proofs.Invariant.{reachable-sound}
@@ -44,6 +40,9 @@ use Rattle.demands.specs.Demand2.{afterWrite, afterRead, afterStore, aft
 use Rattle.demands.proofs.Answers.{reportedBy, momentAsked}
 use Rattle.demands.proofs.Waits.{asked-reader}
 use Rattle.demands.proofs.Rooms.{acknowledged-laid}
+use Rattle.commands.specs.Lent.{withWords, withRoom}
+use Rattle.line.proofs.Asking.{nothing-keeps}
+use Rattle.demands.proofs.WellLent.{tested-well}
 use Rattle.demands.proofs.FrameAsked.{Asks, handed-asks, done-number, performance-leaves, part-holds}
 
 -- what has number 0 is done
@@ -62,20 +61,20 @@ module _ (now : Moment) (reached : Reachable (now .panel)) (content : List ℕ) 
   sound = reachable-sound (now .panel) reached
 
   pub is-done : (command : ℕ) → Asks now command content
-      → isDone (outcome (now .panel .setup .pages) wordCount (checkingOf (now .panel .setup)) command content) ≡ true
+      → isDone (outcome (fixedFor (now .panel .setup)) wordCount command content) ≡ true
   is-done command asks =
-      zero-done (outcome (now .panel .setup .pages) wordCount (checkingOf (now .panel .setup)) command content)
+      zero-done (outcome (fixedFor (now .panel .setup)) wordCount command content)
       (sym (done-number now sound command content asks) ∙ done)
 
   -- "0x80, address (1), one or more bytes: write registers."
   pub writes-registers : handedOver now ask ≡ acceptedFrame 0x80 content ∷ [] → after now ask ≡ afterWrite now content
-  unfolding afterWrite outcome performance registersWritten
+  unfolding afterWrite outcome performance registersWriting
   writes-registers hands =
       let setup = now .panel .setup in
       let asks = handed-asks now 0x80 content hands in
       let part = drop (length (acknowledgementOf setup 0x80 true)) (over (acknowledgementOf setup 0x80 true) (now .lent .room)) in
-      performance-leaves now sound 0x80 content asks (written (now .panel .registers) (byteAt content 0) (drop 1 content))
-      (covers (byteAt content 0) (length (drop 1 content)) 0x03) (now .lent .words) [] (writeRegistersOutcome (setup .pages) content) 0
+      performance-leaves now sound 0x80 content asks
+      (record { outcome = writeRegistersOutcome (setup .pages) content; writes = true; drops = catchDropped content; replied = 0 }) (now .lent) []
       (rw (is-done 0x80 asks, over-nil part))
 
   -- "0x82, address (2), one or more words: write variables."
@@ -85,9 +84,9 @@ module _ (now : Moment) (reached : Reachable (now .panel)) (content : List ℕ) 
       let setup = now .panel .setup in
       let asks = handed-asks now 0x82 content hands in
       let part = drop (length (acknowledgementOf setup 0x82 true)) (over (acknowledgementOf setup 0x82 true) (now .lent .room)) in
-      let stored : isDone (writeWordsOutcome (length (now .lent .words)) content) ≡ true = rw (asks .whole) (is-done 0x82 asks) in
-      performance-leaves now sound 0x82 content asks (now .panel .registers) false (wordsWritten (now .lent .words) (wordAt content 0) (drop 2 content)) []
-      (writeWordsOutcome (length (now .lent .words)) content) 0
+      let stored : isDone (writeWordsOutcome (length (now .lent .words)) content) ≡ true = rw (asks .well .words) (is-done 0x82 asks) in
+      performance-leaves now sound 0x82 content asks (answered (writeWordsOutcome (length (now .lent .words)) content) 0)
+      (withWords (now .lent) (wordsWritten (now .lent .words) (wordAt content 0) (drop 2 content))) []
       (rw (stored, over-nil part))
 
   -- "0x81, address (1), count (1): read registers. Reply 0x81, address, count, bytes."
@@ -102,10 +101,10 @@ module _ (now : Moment) (reached : Reachable (now .panel)) (content : List ℕ) 
       let payload = registersReply (now .panel .registers) (byteAt content 0) (byteAt content 1) in
       let read = is-done 0x81 asks in
       let long = length-registersReply (now .panel .registers) (byteAt content 0) (byteAt content 1) in
-      let short = registers-short checking content (readRegistersOutcome checking content) true refl (sym read) (byteAt content 0) (byteAt content 1) refl refl refl in
+      let short = registers-short (fixedFor setup) content (readRegistersOutcome checking content) true refl (sym read) (byteAt content 0) (byteAt content 1) refl refl refl in
       let within : length payload ≤ mostData checking = rw long short in
-      performance-leaves now sound 0x81 content asks (now .panel .registers) false (now .lent .words) (frameOf checking (headerOf setup) 0x81 payload) (readRegistersOutcome checking content)
-      (length (frameOf checking (headerOf setup) 0x81 payload))
+      performance-leaves now sound 0x81 content asks (answered (readRegistersOutcome checking content) (length (frameOf checking (headerOf setup) 0x81 payload)))
+      (now .lent) (frameOf checking (headerOf setup) 0x81 payload)
       (rw (read, frame-laid checking (headerOf setup) 0x81 payload part within (part-holds now sound 0x81 content asks payload 0x81 within)))
 
   -- "0x83, address (2), count (1): read variables. Reply 0x83, address, count, words."
@@ -118,14 +117,14 @@ module _ (now : Moment) (reached : Reachable (now .panel)) (content : List ℕ) 
       let answer = acknowledgementOf setup 0x83 true in
       let part = drop (length answer) (over answer (now .lent .room)) in
       let payload = wordsReply (now .lent .words) (wordAt content 0) (byteAt content 2) in
-      let read : isDone (readWordsOutcome (length (now .lent .words)) checking content) ≡ true = rw (asks .whole) (is-done 0x83 asks) in
+      let read : isDone (readWordsOutcome (length (now .lent .words)) checking content) ≡ true = rw (asks .well .words) (is-done 0x83 asks) in
       let o = readWordsOutcome (length (now .lent .words)) checking content in
-      let inside = words-within (now .lent .words) checking content o true refl (sym read) (wordAt content 0) (byteAt content 2) refl refl refl in
+      let inside = words-within (fixedFor setup) (now .lent .words) content o true refl (sym read) (wordAt content 0) (byteAt content 2) refl refl refl in
       let long = length-wordsReply (now .lent .words) (wordAt content 0) (byteAt content 2) inside in
-      let short = words-short (now .lent .words) checking content o true refl (sym read) (wordAt content 0) (byteAt content 2) refl refl refl in
+      let short = words-short (fixedFor setup) (now .lent .words) content o true refl (sym read) (wordAt content 0) (byteAt content 2) refl refl refl in
       let within : length payload ≤ mostData checking = rw long short in
-      performance-leaves now sound 0x83 content asks (now .panel .registers) false (now .lent .words) (frameOf checking (headerOf setup) 0x83 payload) o
-      (length (frameOf checking (headerOf setup) 0x83 payload))
+      performance-leaves now sound 0x83 content asks (answered o (length (frameOf checking (headerOf setup) 0x83 payload))) (now .lent)
+      (frameOf checking (headerOf setup) 0x83 payload)
       (rw (read, frame-laid checking (headerOf setup) 0x83 payload part within (part-holds now sound 0x83 content asks payload 0x83 within)))
 
 -- "each bad check by the same with 0x00"; "'Nothing' changes nothing, the reply room included."
@@ -137,7 +136,7 @@ module _ (now : Moment) where
   reported enough told = reportedBy (now .panel) (now .lent) enough a told
 
   pub answers-bad-check : Reachable (now .panel) → (command : ℕ) → handedOver now ask ≡ badCheck command ∷ [] → after now ask ≡ afterBadCheck now command
-  unfolding after handedOver reporting handing reportHanded lent afterBadCheck readBehind
+  unfolding after handedOver reporting handing handingOver reportHanded afterBadCheck readBehind
   answers-bad-check reached command = go (wellLent (now .lent)) refl (a .report)
     where
       go : (l : Bool) → wellLent (now .lent) ≡ l → (told : Report)
@@ -148,27 +147,24 @@ module _ (now : Moment) where
       go true is (line.Accepted c n) hands = never (cc)
       go true is (line.BadCheck c) hands =
           let same : c ≡ command = cc in
-          let large = leb-true leastRoom (length (now .lent .room)) (and-right (eqb (length (now .lent .words)) wordCount) (leb leastRoom (length (now .lent .room))) is) in
           ap (λ (k : ℕ). record {
             panel = withReader (now .panel) (a .reader);
-            words = now .lent .words;
-            room = acknowledged (now .panel .setup) k false (now .lent .room) .room;
+            lent = withRoom (now .lent) (acknowledged (now .panel .setup) k false (now .lent .room) .room);
           }) same
-          ∙ ap (λ (laid : Laid). record { panel = withReader (now .panel) (a .reader); words = now .lent .words; room = laid .room })
-          (acknowledged-laid (now .panel .setup) command false (now .lent .room) large)
+          ∙ ap (λ (laid : Laid). record { panel = withReader (now .panel) (a .reader); lent = withRoom (now .lent) (laid .room) })
+          (acknowledged-laid (now .panel .setup) command false (now .lent .room) (tested-well (now .lent) is .room))
           ∙ ap (λ (r : Reader). record {
             panel = withReader (now .panel) r;
-            words = now .lent .words;
-            room = over (acknowledgementOf (now .panel .setup) command false) (now .lent .room);
+            lent = withRoom (now .lent) (over (acknowledgementOf (now .panel .setup) command false) (now .lent .room));
           }) (asked-reader (now .panel) (reachable-sound (now .panel) reached))
 
   pub nothing-changes-nothing : handedOver now ask ≡ [] → after now ask ≡ now
-  unfolding after handedOver reporting handing reportHanded
-  nothing-changes-nothing = go (wellLent (now .lent)) (a .report)
+  unfolding after handedOver reporting handing handingOver reportHanded
+  nothing-changes-nothing = go (wellLent (now .lent)) (a .report) refl
     where
-      go : (l : Bool) (told : Report) → reportHanded (reported l told .reported .handed) (reported l told .reported .payload) ≡ []
+      go : (l : Bool) (told : Report) → a .report ≡ told → reportHanded (reported l told .reported .handed) (reported l told .reported .payload) ≡ []
           → momentAsked (reported l told) ≡ now
-      go false told hands = refl
-      go true line.Nothing hands = refl
-      go true (line.Accepted c n) hands = never (cc)
-      go true (line.BadCheck c) hands = never (cc)
+      go false told is hands = refl
+      go true line.Nothing is hands = rw (nothing-keeps (now .panel .reader) is)
+      go true (line.Accepted c n) is hands = never (cc)
+      go true (line.BadCheck c) is hands = never (cc)

@@ -14,12 +14,13 @@ use Rattle.line.specs.Methods.{givenByte, givenMark, givenBytes, asked}
 use Rattle.panel.specs.declared.Panel.{Panel}
 use Rattle.panel.specs.Inputs.{fedByte, fedMark, fedBytes}
 use Rattle.panel.specs.Reporting as Reporting
-use Rattle.panel.specs.Reporting.{lent, reporting}
+use Rattle.panel.specs.Reporting.{reporting}
 use Rattle.demands.specs.Calls.{Moment, Call, lend, byte, bytes, mark, ask, contact, lift, after, reportHanded, handedOver, handedOverAll}
 use Rattle.demands.specs.Given.{unlessRefused, given, givenAll}
 use Rattle.demands.specs.Demand3.{ReadAlike}
 use Rattle.demands.proofs.Answers.{reportedBy}
-use Rattle.demands.proofs.Lent.{reported-words-long, reported-room-long, contacted-words-long}
+use Rattle.demands.proofs.Lent.{reported-words-long, reported-room-long, contacted-words-long, contacted-room-stands}
+use Rattle.commands.specs.Lent.{Lent}
 use Rattle.demands.proofs.Reading.{contact-keeps-reader, lift-keeps-reader}
 
 -- what an ask hands over and the reader that it leaves, by the reader alone and whether enough is lent
@@ -28,35 +29,29 @@ handedFrom line.Nothing payload = []
 handedFrom (line.BadCheck command) payload = Place.badCheck command ∷ []
 handedFrom (line.Accepted command count) payload = Place.acceptedFrame command (take count payload) ∷ []
 
-abbrev goneOn : Report → (old next : Reader) → Reader
-goneOn line.Nothing old next = old
-goneOn (line.BadCheck command) old next = next
-goneOn (line.Accepted command count) old next = next
-
-module _ (panel : Panel) (words room : List ℕ) where
+module _ (panel : Panel) (lent : Lent) where
   abbrev result : Bool → Asked → Reporting.Reporting
-  result enough a = reportedBy panel words room enough a (a .report)
+  result enough a = reportedBy panel lent enough a (a .report)
 
   handing-told : (a : Asked) (report : Report)
-      → (reportHanded (Reporting.handing a report panel words room .reported .handed) (Reporting.handing a report panel words room .reported .payload) ≡ handedFrom report (a .payload))
-      × (Reporting.handing a report panel words room .reported .panel .reader ≡ goneOn report (panel .reader) (a .reader))
-  unfolding Reporting.handing reportHanded
+      → (reportHanded (Reporting.handing a report panel lent .reported .handed) (Reporting.handing a report panel lent .reported .payload) ≡ handedFrom report (a .payload))
+      × (Reporting.handing a report panel lent .reported .panel .reader ≡ a .reader)
+  unfolding Reporting.handing Reporting.handingOver reportHanded
   handing-told a line.Nothing = (refl, refl)
   handing-told a (line.BadCheck command) = (refl, refl)
   handing-told a (line.Accepted command count) = (refl, refl)
 
   ask-told : (reportHanded (reporting panel lent .reported .handed) (reporting panel lent .reported .payload)
-      ≡ cond (lent (length words) (length room)) (handedFrom (asked (panel .reader) .report) (asked (panel .reader) .payload)) [])
-      × (reporting panel lent .reported .panel .reader
-      ≡ cond (lent (length words) (length room)) (goneOn (asked (panel .reader) .report) (panel .reader) (asked (panel .reader) .reader)) (panel .reader))
+      ≡ cond (Reporting.wellLent lent) (handedFrom (asked (panel .reader) .report) (asked (panel .reader) .payload)) [])
+      × (reporting panel lent .reported .panel .reader ≡ cond (Reporting.wellLent lent) (asked (panel .reader) .reader) (panel .reader))
   unfolding reporting reportHanded
-  ask-told = go (lent (length words) (length room))
+  ask-told = go (Reporting.wellLent lent)
     where
       a : Asked
       a = asked (panel .reader)
 
       go : (b : Bool) → (reportHanded (result b a .reported .handed) (result b a .reported .payload) ≡ cond b (handedFrom (a .report) (a .payload)) [])
-          × (result b a .reported .panel .reader ≡ cond b (goneOn (a .report) (panel .reader) (a .reader)) (panel .reader))
+          × (result b a .reported .panel .reader ≡ cond b (a .reader) (panel .reader))
       go true = handing-told a (a .report)
       go false = (refl, refl)
 
@@ -105,12 +100,12 @@ module _ (one other : Moment) (same : Shared one other) where
   shared-after (contact c) =
       record {
         reader =
-            contact-keeps-reader (one .panel) table (one .lent .words) x y
+            contact-keeps-reader (one .panel) c (one .lent)
             ∙ same .reader
-            ∙ sym (contact-keeps-reader (other .panel) table (other .lent .words) x y);
+            ∙ sym (contact-keeps-reader (other .panel) c (other .lent));
         words =
-            contacted-words-long (one .panel) table (one .lent .words) x y ∙ same .words ∙ sym (contacted-words-long (other .panel) table (other .lent .words) x y);
-        room = same .room;
+            contacted-words-long (one .panel) c (one .lent) ∙ same .words ∙ sym (contacted-words-long (other .panel) c (other .lent));
+        room = rw (contacted-room-stands (one .panel) c (one .lent), contacted-room-stands (other .panel) c (other .lent)) (same .room);
       }
   shared-after lift =
       record {

@@ -13,7 +13,7 @@ use Rattle.reading.specs.Place.{badCheck, acceptedFrame}
 use Rattle.line.proofs.Truths.{never}
 use Rattle.commands.specs.Outcome as Outcome
 use Rattle.commands.specs.Outcome.{outcome}
-use Rattle.touch.specs.Setup.{checkingOf}
+use Rattle.panel.specs.State.{fixedFor}
 use Rattle.panel.specs.declared.Handed.{Handed}
 use Rattle.panel.specs.declared.Handed.the-variants as handed
 use Rattle.panel.specs.Numbers.{reportNumber}
@@ -56,7 +56,7 @@ module _ (now : Moment) (reached : Reachable (now .panel)) (command : ℕ) (cont
   known a b c d =
       let setup = now .panel .setup in
       let number = done-number now (reachable-sound (now .panel) reached) command content (handed-asks now command content hands) in
-      let unknown : Outcome.numberOfOutcome (outcome (setup .pages) wordCount (checkingOf setup) command content) ≡ 2 = rw (a, b, c, d) in
+      let unknown : Outcome.numberOfOutcome (outcome (fixedFor setup) wordCount command content) ≡ 2 = rw (a, b, c, d) in
       omega arith
 
   command-done : AskLeaves now

@@ -6,6 +6,7 @@ use Rattle.touch.specs.declared.Setup.{Setup}
 use Rattle.panel.specs.declared.StartAnswer.the-variants as start
 use Rattle.panel.specs.Start.{started}
 use Rattle.panel.specs.Reachable.{Reachable, by-start, by-byte, by-mark, by-bytes, by-report, by-contact, by-lift}
+use Rattle.commands.specs.Lent.{Lent}
 use Rattle.demands.specs.Calls.{Moment, Call, lend, byte, bytes, mark, ask, contact, lift, begun, after, afterAll, handedOver, handedOverAll, Halfwords, Typed, AllTyped, Arises, from-start, by-call}
 
 -- one sequence and then another
@@ -29,7 +30,7 @@ call-reached now (byte b) typed reached = by-byte (now .panel) b typed reached
 call-reached now (bytes bs) typed reached = by-bytes (now .panel) bs typed reached
 call-reached now mark typed reached = by-mark (now .panel) reached
 call-reached now ask typed reached = by-report (now .panel) (now .lent) reached
-call-reached now (contact c) typed reached = by-contact (now .panel) table (now .lent .words) x y reached
+call-reached now (contact c) typed reached = by-contact (now .panel) c (now .lent) reached
 call-reached now lift typed reached = by-lift (now .panel) reached
 
 pub calls-reached : (now : Moment) (calls : List Call) → AllTyped calls → Reachable (now .panel) → Reachable (afterAll now calls .panel)
@@ -44,11 +45,11 @@ unfolding afterAll AllTyped
 calls-arise now [] typed arises = arises
 calls-arise now (call ∷ calls) typed arises = calls-arise (after now call) calls (typed .1) (by-call now call (typed .0) arises)
 
-pub sequence-arises : (setup : Setup) (table : List ℕ) (lent : Lent) → setup .h1 < 256 → setup .h2 < 256 → Halfwords words
+pub sequence-arises : (setup : Setup) (table : List ℕ) (lent : Lent) → setup .h1 < 256 → setup .h2 < 256 → Halfwords (lent .words)
     → started setup table .answer ≡ start.Started → (calls : List Call) → AllTyped calls → Arises (afterAll (begun setup table lent) calls)
-sequence-arises setup table words room h1 h2 are is calls typed =
-    calls-arise (begun setup table lent) calls typed (from-start setup table words room h1 h2 are is)
+sequence-arises setup table lent h1 h2 are is calls typed =
+    calls-arise (begun setup table lent) calls typed (from-start setup table lent h1 h2 are is)
 
 pub arises-reachable : (now : Moment) → Arises now → Reachable (now .panel)
-arises-reachable _ (from-start setup table words room h1 h2 are is) = by-start setup table is
+arises-reachable _ (from-start setup table lent h1 h2 are is) = by-start setup table is
 arises-reachable _ (by-call now call typed arises) = call-reached now call typed (arises-reachable now arises)

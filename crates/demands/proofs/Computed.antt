@@ -16,19 +16,19 @@ use Rattle.line.specs.Methods.{givenByte, givenMark, givenBytes, asked}
 use Rattle.stores.specs.Store.{inMode, signed, wordOf}
 use Rattle.stores.specs.Step.{stepped, fenced, stepStores}
 use Rattle.stores.specs.Slider.{nearest, roundedDown, slid, slidTo, sliderStores}
+use Rattle.touch.specs.Rounding.{roundingOf}
 use Rattle.touch.specs.Judge as Judge
 use Rattle.touch.specs.Table.{recordsFrom, firstOf}
-use Rattle.registers.specs.Table.{startRegisters, registerAt, registerRun, writable}
-use Rattle.registers.specs.Run as Run
-use Rattle.registers.specs.Run.{covers, allWritable, halfPage, unwritableRun, wrongValue, written}
+use Rattle.registers.specs.Table.{startRows, withRows, startRegisters, registerAt, registerRun, writable}
+use Rattle.registers.specs.Run.{covers, allWritable, halfPage, unwritableRun, byteFor, wrongValue, registersAfter, dropsCatch}
 use Rattle.words.specs.Words.{wordAtAddress, wordsOf, bytesOf, wordRun, wordsWritten}
 use Rattle.commands.specs.Outcome.{numberOfOutcome, replyTooLong, writeRegistersOutcome, readRegistersOutcome, writeWordsOutcome, readWordsOutcome}
 use Rattle.commands.specs.Reply.{registersReply, wordsReply}
-use Rattle.commands.specs.Effect.{replying, registersReplying, wordsReplying, registersWritten, wordsWriting}
+use Rattle.commands.specs.Effect.{replying, registersReplying, wordsReplying, registersLeft, catchDropped, registersWriting, wordsWriting}
 use Rattle.commands.specs.Perform.{performance}
 use Rattle.panel.specs.Start.{newPanel, startJudged, started}
 use Rattle.panel.specs.Inputs.{fedBytes, fedMark}
-use Rattle.panel.specs.Reporting.{lent, acknowledged, accepting, handing, reporting}
+use Rattle.panel.specs.Reporting.{enough, acknowledged, accepting, handingOver, handing, reporting}
 use Rattle.panel.specs.Numbers.{reportNumber}
 use Rattle.demands.specs.Calls.{after, afterAll, numberGiven, reportHanded, handedOver}
 use Rattle.demands.specs.Reports.{reportWaits, acknowledgementOf}
@@ -58,11 +58,11 @@ unfolding computingReading isPass isReport passes stillClosed settled waiting wi
 computingReader = tt
 
 unfoldable pub computingStores : Unit {0}
-unfolding inMode signed wordOf stepped fenced stepStores nearest roundedDown slid slidTo sliderStores
+unfolding inMode signed wordOf stepped fenced stepStores nearest roundingOf roundedDown slid slidTo sliderStores
 computingStores = tt
 
 unfoldable pub computingRegisters : Unit {0}
-unfolding laidAt startRegisters registerAt registerRun writable covers allWritable halfPage unwritableRun Run.given wrongValue written
+unfolding laidAt startRows withRows startRegisters registerAt registerRun writable covers allWritable halfPage unwritableRun byteFor wrongValue registersAfter dropsCatch
 computingRegisters = tt
 
 unfoldable pub computingWords : Unit {0}
@@ -74,7 +74,7 @@ unfolding computingRegisters computingWords numberOfOutcome replyTooLong writeRe
 computingOutcomes = tt
 
 unfoldable pub computingCommands : Unit {0}
-unfolding computingOutcomes computingFrames registersReply wordsReply replying registersReplying wordsReplying registersWritten wordsWriting performance
+unfolding computingOutcomes computingFrames registersReply wordsReply replying registersReplying wordsReplying registersLeft catchDropped registersWriting wordsWriting performance
 computingCommands = tt
 
 unfoldable pub computingStart : Unit {0}
@@ -82,7 +82,7 @@ unfolding Judge.judged recordsFrom firstOf headerBytes newPanel startJudged star
 computingStart = tt
 
 unfoldable pub computingPanel : Unit {0}
-unfolding computingReader computingCommands computingStart fedBytes fedMark lent acknowledged accepting handing reporting reportNumber
+unfolding computingReader computingCommands computingStart fedBytes fedMark enough acknowledged accepting handingOver handing reporting reportNumber
 computingPanel = tt
 
 unfoldable pub computingEffects : Unit {0}

@@ -1,17 +1,14 @@
 -- Asking where an accepted frame is handed over: what is known then, the command's number, and what is left by what the command does.
 use mathlib.Core.Path.{_≡_, refl, ap, _∙_}
-use mathlib.Core.Bool.{Bool, true, false, cond}
+use mathlib.Core.Bool.{Bool, true, false}
 use mathlib.Core.List.{List, [], _∷_, _++_, append-assoc}
 use Prim.Native.Nat.{ℕ, _+_, _≤_}
 use native.Mathlib.Omega.{arith}
-use borrow.Author.Tests.{leb-true, eqb-true}
-use lib.Dec.{eqb, leb}
 use lib.ListN.{length, take, drop, length-append, length-drop}
 use lib.Seq.{drop-drop}
 use Rattle.wire.specs.Room.{over, Laid, lays}
 use Rattle.wire.proofs.Over.{take-over, drop-over, length-over}
 use Rattle.frame.specs.Frame.{headerBytes, mostData, frameOf}
-use Rattle.frame.specs.Writer.{leastRoom}
 use Rattle.frame.proofs.Writers.{length-frameOf, length-most}
 use Rattle.reading.specs.Place.{acceptedFrame}
 use Rattle.line.specs.declared.Reader.{Reader}
@@ -19,39 +16,38 @@ use Rattle.line.specs.declared.Report.{Report}
 use Rattle.line.specs.declared.Report.the-variants as line
 use Rattle.line.specs.declared.Asked.{Asked}
 use Rattle.line.specs.Methods.{asked}
-use Rattle.line.proofs.Truths.{never, and-left, and-right}
+use Rattle.line.proofs.Truths.{never}
 use Rattle.wire.specs.Addresses.{wordCount}
-use Rattle.registers.specs.declared.Registers.{Registers}
-use Rattle.commands.specs.declared.Outcome.{Outcome}
 use Rattle.commands.specs.Outcome as Outcome
 use Rattle.commands.specs.Outcome.{outcome}
-use Rattle.commands.specs.Perform.{Performance, performs, performance}
+use Rattle.commands.specs.Perform.{Performance, performs, performance, registersBy}
 use Rattle.commands.proofs.Performance.{performs-outcome}
 use Rattle.touch.specs.declared.Setup.{Setup}
 use Rattle.touch.specs.Setup.{checkingOf}
-use Rattle.contact.specs.declared.Catch.the-variants.{Free}
 use Rattle.panel.specs.declared.Panel.{Panel}
 use Rattle.panel.specs.Numbers.{reportNumber}
-use Rattle.panel.specs.State.{headerOf}
-use Rattle.panel.specs.Reporting.{lent, acknowledged, accepting, catchAfter, Reporting, handing, reporting}
+use Rattle.panel.specs.State.{headerOf, fixedFor}
+use Rattle.panel.specs.Reporting.{acknowledged, accepting, catchAfter, Reporting, handing, reporting, wellLent, handingOver}
 use Rattle.panel.specs.Sound.{Sound}
-use Rattle.demands.specs.Calls.{Moment, ask, after, numberGiven, reportHanded, handedOver}
+use Rattle.demands.specs.Calls.{Moment, ask, after, numberGiven, reportHanded, handedOver, WellLent}
 use Rattle.demands.specs.Reports.{readBehind, acknowledgementOf}
 use Rattle.demands.specs.Demand2.{leaving}
 use Rattle.demands.proofs.Answers.{reportedBy, momentAsked}
 use Rattle.demands.proofs.Waits.{asked-reader, frame-reporting}
+use Rattle.commands.specs.Lent.{Lent, withRoom}
+use Rattle.commands.specs.declared.Performed.{Performed}
+use Rattle.demands.proofs.WellLent.{tested-well}
 use Rattle.demands.proofs.Rooms.{acknowledged-laid, acknowledgement-short}
 
 -- what is known where an accepted frame is handed over
 pub record Asks (now : Moment) (command : ℕ) (content : List ℕ) : Type 0 where
-  pub whole : length (now .lent .words) ≡ wordCount
-  pub large : leastRoom ≤ length (now .lent .room)
+  pub well : WellLent (now .lent)
   pub count : ℕ
   pub told : asked (now .panel .reader) .report ≡ line.Accepted command count
   pub content-is : take count (asked (now .panel .reader) .payload) ≡ content
 
 pub handed-asks : (now : Moment) (command : ℕ) (content : List ℕ) → handedOver now ask ≡ acceptedFrame command content ∷ [] → Asks now command content
-unfolding handedOver reporting handing reportHanded lent
+unfolding handedOver reporting handing handingOver reportHanded
 handed-asks now command content = go (wellLent (now .lent)) refl (a .report) refl
   where
     panel : Panel
@@ -72,8 +68,7 @@ handed-asks now command content = go (wellLent (now .lent)) refl (a .report) ref
     go true is (line.Accepted c n) tells hands =
         let same : c ≡ command = cc in
         record {
-          whole = eqb-true (length (now .lent .words)) wordCount (and-left (eqb (length (now .lent .words)) wordCount) (leb leastRoom (length (now .lent .room))) is);
-          large = leb-true leastRoom (length (now .lent .room)) (and-right (eqb (length (now .lent .words)) wordCount) (leb leastRoom (length (now .lent .room))) is);
+          well = tested-well (now .lent) is;
           count = n;
           told = tells ∙ ap (λ (k : ℕ). line.Accepted k n) same;
           content-is = cc;
@@ -96,70 +91,65 @@ module _ (now : Moment) (sound : Sound (now .panel)) (command : ℕ) (content : 
   -- by the data, the acknowledgement as laid and the reader behind the frame
   leftWith : List ℕ → Laid → Reader → Moment
   leftWith came answered reader =
-      let done =
-      performance (now .panel .registers) (setup .pages) (checkingOf setup) (headerOf setup) command came (now .lent .words) (drop (answered .count) (answered .room)) in
+      let done = performance (fixedFor setup) (now .panel .registers) command came (withRoom (now .lent) (drop (answered .count) (answered .room))) in
       record {
         panel = record {
           setup = setup;
-          registers = done .performed .registers;
-          catch = catchAfter (done .performed .paged) (now .panel .catch);
+          registers = registersBy (done .performed) (now .panel .registers) came;
+          catch = catchAfter (done .performed .drops) (now .panel .catch);
           reader = reader;
         };
-        words = done .words;
-        room = take (answered .count) (answered .room) ++ done .room;
+        lent = withRoom (done .lent) (take (answered .count) (answered .room) ++ done .lent .room);
       }
 
   after-frame : after now ask ≡ leftWith content (lays (length answer) (over answer (now .lent .room))) (readBehind (now .panel) .reader)
-  unfolding after handing accepting leftWith readBehind
+  unfolding after handing handingOver accepting leftWith readBehind
   after-frame =
       let a = asked (now .panel .reader) in
       ap momentAsked
-      (frame-reporting (now .panel) (now .lent) (asks .whole) (asks .large) command (asks .count) (asks .told))
+      (frame-reporting (now .panel) (now .lent) (asks .well) command (asks .count) (asks .told))
       ∙ ap (λ (came : List ℕ). leftWith came (acknowledged setup command true (now .lent .room)) (a .reader)) (asks .content-is)
-      ∙ ap (λ (answered : Laid). leftWith content answered (a .reader)) (acknowledged-laid setup command true (now .lent .room) (asks .large))
+      ∙ ap (λ (answered : Laid). leftWith content answered (a .reader)) (acknowledged-laid setup command true (now .lent .room) (asks .well .room))
       ∙ ap (leftWith content (lays (length answer) (over answer (now .lent .room)))) (asked-reader (now .panel) sound)
 
-  pub done-number : numberGiven now ask ≡ Outcome.numberOfOutcome (outcome (setup .pages) wordCount (checkingOf setup) command content)
-  unfolding numberGiven handing reportNumber accepting
+  pub done-number : numberGiven now ask ≡ Outcome.numberOfOutcome (outcome (fixedFor setup) wordCount command content)
+  unfolding numberGiven handing handingOver reportNumber accepting
   done-number =
       let a = asked (now .panel .reader) in
       let came = take (asks .count) (a .payload) in
       let answered = acknowledged setup command true (now .lent .room) in
       ap (λ (r : Reporting). reportNumber (r .reported .handed))
-      (frame-reporting (now .panel) (now .lent) (asks .whole) (asks .large) command (asks .count) (asks .told))
+      (frame-reporting (now .panel) (now .lent) (asks .well) command (asks .count) (asks .told))
       ∙ ap Outcome.numberOfOutcome
-      (performs-outcome (now .panel .registers) (setup .pages) (checkingOf setup) (headerOf setup) command came (now .lent .words) (drop (answered .count) (answered .room)))
-      ∙ ap (λ (n : ℕ). Outcome.numberOfOutcome (outcome (setup .pages) n (checkingOf setup) command came)) (asks .whole)
-      ∙ ap (λ (c : List ℕ). Outcome.numberOfOutcome (outcome (setup .pages) wordCount (checkingOf setup) command c)) (asks .content-is)
+      (performs-outcome (fixedFor setup) (now .panel .registers) command came (withRoom (now .lent) (drop (answered .count) (answered .room))))
+      ∙ ap (λ (n : ℕ). Outcome.numberOfOutcome (outcome (fixedFor setup) n command came)) (asks .well .words)
+      ∙ ap (λ (c : List ℕ). Outcome.numberOfOutcome (outcome (fixedFor setup) wordCount command c)) (asks .content-is)
 
-  -- a command that does this to registers, page, words and room leaves this
-  pub performance-leaves : (registers : Registers) (paged : Bool) (words reply : List ℕ) (o : Outcome) (count : ℕ)
-      → performance (now .panel .registers) (setup .pages) (checkingOf setup) (headerOf setup) command content (now .lent .words)
-      (drop (length answer) (over answer (now .lent .room)))
-      ≡ performs (record { outcome = o; registers = registers; paged = paged; count = count }) words (over reply (drop (length answer) (over answer (now .lent .room))))
-      → after now ask ≡ leaving now command registers (cond paged Free (now .panel .catch)) words reply
+  -- a command that answers this, and leaves this of what is lent with this reply, leaves this
+  pub performance-leaves : (p : Performed) (lent : Lent) (reply : List ℕ)
+      → performance (fixedFor setup) (now .panel .registers) command content (withRoom (now .lent) (drop (length answer) (over answer (now .lent .room))))
+      ≡ performs p (withRoom lent (over reply (drop (length answer) (over answer (now .lent .room)))))
+      → after now ask ≡ leaving now command (registersBy p (now .panel .registers) content) (catchAfter (p .drops) (now .panel .catch)) lent reply
   unfolding leaving leftWith
-  performance-leaves registers paged words reply o count does =
+  performance-leaves p lent reply does =
       after-frame
       ∙ ap (λ (d : Performance). record {
         panel = record {
           setup = setup;
-          registers = d .performed .registers;
-          catch = catchAfter (d .performed .paged) (now .panel .catch);
+          registers = registersBy (d .performed) (now .panel .registers) content;
+          catch = catchAfter (d .performed .drops) (now .panel .catch);
           reader = readBehind (now .panel) .reader;
         };
-        words = d .words;
-        room = take (length answer) (over answer (now .lent .room)) ++ d .room;
+        lent = withRoom (d .lent) (take (length answer) (over answer (now .lent .room)) ++ d .lent .room);
       }) does
       ∙ ap (λ (r : List ℕ). record {
         panel = record {
           setup = setup;
-          registers = registers;
-          catch = cond paged Free (now .panel .catch);
+          registers = registersBy p (now .panel .registers) content;
+          catch = catchAfter (p .drops) (now .panel .catch);
           reader = readBehind (now .panel) .reader;
         };
-        words = words;
-        room = r;
+        lent = withRoom lent r;
       }) room-is
     where
       room-is : take (length answer) (over answer (now .lent .room)) ++ over reply (drop (length answer) (over answer (now .lent .room))) ≡ over (answer ++ reply) (now .lent .room)
@@ -171,7 +161,7 @@ module _ (now : Moment) (sound : Sound (now .panel)) (command : ℕ) (content : 
   unfolding headerBytes
   part-holds payload c within =
       let short = acknowledgement-short setup command true in
-      let large = asks .large in
+      let large = asks .well .room in
       let long = length-over answer (now .lent .room) (omega arith) in
       let most = length-most (checkingOf setup) in
       rw (length-frameOf (checkingOf setup) (headerOf setup) c payload, length-drop (length answer) (over answer (now .lent .room)), long) (omega arith)

@@ -11,7 +11,7 @@ use Rattle.wire.specs.Room.{lays, laid, laidAt}
 use Rattle.wire.specs.ByteOrder.{wordAt}
 use Rattle.wire.proofs.Over.{length-over}
 use Rattle.wire.proofs.LaidAt.{length-laidAt}
-use Rattle.frame.specs.Frame.{frameOf, mostData}
+use Rattle.frame.specs.Frame.{headerBytes, frameOf, mostData}
 use Rattle.frame.specs.Acknowledgement.{acknowledgement}
 use Rattle.frame.specs.Writer.{frameLaid, acknowledgementLaid}
 use Rattle.registers.specs.declared.Registers.{Registers}
@@ -21,20 +21,21 @@ use Rattle.words.proofs.OneWord.{length-wordSet}
 use Rattle.touch.specs.declared.Setup.{Setup}
 use Rattle.touch.specs.declared.Found.{Found}
 use Rattle.touch.specs.declared.Found.the-variants as finds
-use Rattle.touch.specs.Setup.{checkingOf}
 use Rattle.touch.specs.Find.{found}
 use Rattle.contact.specs.declared.Catch.{Catch}
 use Rattle.contact.specs.declared.Catch.the-variants.{Free, Caught}
 use Rattle.contact.specs.declared.Pad.{Pad}
-use Rattle.contact.specs.Contact as Contact
-use Rattle.contact.specs.Contact.{acting, pressed, dragging, touched}
+use Rattle.contact.specs.Contact.{acting, pressed, dragging, heldDown, touched}
 use Rattle.commands.specs.declared.Outcome.{Outcome}
-use Rattle.commands.specs.Effect.{isDone, wordsWriting, replying, registersReplying, wordsReplying}
+use Rattle.commands.specs.declared.Fixed.{Fixed}
+use Rattle.commands.specs.Lent.{Lent, withRoom}
+use Rattle.commands.specs.Outcome.{isDone}
+use Rattle.commands.specs.Effect.{wordsWriting, replying, registersReplying, wordsReplying}
 use Rattle.commands.specs.Perform.{Performance, performance}
 use Rattle.panel.specs.declared.Panel.{Panel}
-use Rattle.panel.specs.State.{headerOf, answering, padOf}
-use Rattle.panel.specs.Reporting.{acknowledged, accepting, handing, reporting}
-use Rattle.panel.specs.Contacts.{contacting}
+use Rattle.panel.specs.State.{headerOf, fixedFor, answering, padOf}
+use Rattle.panel.specs.Reporting.{acknowledged, accepting, handingOver, handing, reporting}
+use Rattle.panel.specs.Contacts.{Contact, contacting}
 use Rattle.panel.proofs.Ways.{contact-ways, report-ways}
 use Rattle.line.specs.Methods.{asked}
 
@@ -70,13 +71,12 @@ answer-long setup command good room = go (answering setup)
     go true = laid-long frame room (leb (length frame) (length room)) (λ may. leb-true (length frame) (length room) may)
     go false = refl
 
-reply-long : (o : Outcome) (checking : Bool) (header : List ℕ) (command : ℕ) (payload room : List ℕ)
-    → length (replying o checking header command payload room .room) ≡ length room
+reply-long : (fixed : Fixed) (o : Outcome) (command : ℕ) (payload room : List ℕ) → length (replying fixed o command payload room .room) ≡ length room
 unfolding replying
-reply-long o checking header command payload room = go (isDone o)
+reply-long fixed o command payload room = go (isDone o)
   where
-    go : (b : Bool) → length (cond b (frameLaid checking header command payload room) (lays 0 room) .room) ≡ length room
-    go true = frame-long checking header command payload room
+    go : (b : Bool) → length (cond b (frameLaid (fixed .checking) (headerBytes (fixed .header)) command payload room) (lays 0 room) .room) ≡ length room
+    go true = frame-long (fixed .checking) (headerBytes (fixed .header)) command payload room
     go false = refl
 
 written-long : (words : List ℕ) (address : ℕ) (bs : List ℕ) → length (wordsWritten words address bs) ≡ length words
@@ -90,7 +90,7 @@ written-long words address bs = go (leb (address + length (wordsOf bs)) (length 
 
 store-long : (words content : List ℕ) → length (wordsWriting words content .words) ≡ length words
 unfolding wordsWriting
-store-long words content = go (isDone (wordsWriting words content .outcome))
+store-long words content = go (isDone (wordsWriting words content .performed .outcome))
   where
     go : (b : Bool) → length (cond b (wordsWritten words (wordAt content 0) (drop 2 content)) words) ≡ length words
     go true = written-long words (wordAt content 0) (drop 2 content)
@@ -105,18 +105,18 @@ of-five f r false false true d v w x y z i j k l m = k
 of-five f r false false false true v w x y z i j k l m = l
 of-five f r false false false false v w x y z i j k l m = m
 
-module _ (registers : Registers) (pages : ℕ) (checking : Bool) (header : List ℕ) (command : ℕ) (content words room : List ℕ) where
-  pub performed-words-long : length (performance registers pages checking header command content words room .words) ≡ length words
+module _ (fixed : Fixed) (registers : Registers) (command : ℕ) (content : List ℕ) (lent : Lent) where
+  pub performed-words-long : length (performance fixed registers command content lent .lent .words) ≡ length (lent .words)
   unfolding performance
   performed-words-long =
-      of-five (λ (p : Performance). length (p .words)) (length words) (eqb command 0x80) (eqb command 0x81) (eqb command 0x82) (eqb command 0x83) _ _ _ _ _
-      refl refl (store-long words content) refl refl
+      of-five (λ (p : Performance). length (p .lent .words)) (length (lent .words)) (eqb command 0x80) (eqb command 0x81) (eqb command 0x82) (eqb command 0x83)
+      _ _ _ _ _ refl refl (store-long (lent .words) content) refl refl
 
-  performed-room-long : length (performance registers pages checking header command content words room .room) ≡ length room
+  performed-room-long : length (performance fixed registers command content lent .lent .room) ≡ length (lent .room)
   unfolding performance registersReplying wordsReplying
   performed-room-long =
-      of-five (λ (p : Performance). length (p .room)) (length room) (eqb command 0x80) (eqb command 0x81) (eqb command 0x82) (eqb command 0x83) _ _ _ _ _
-      refl (reply-long _ checking header 0x81 _ room) refl (reply-long _ checking header 0x83 _ room) refl
+      of-five (λ (p : Performance). length (p .lent .room)) (length (lent .room)) (eqb command 0x80) (eqb command 0x81) (eqb command 0x82) (eqb command 0x83)
+      _ _ _ _ _ refl (reply-long fixed _ 0x81 _ (lent .room)) refl (reply-long fixed _ 0x83 _ (lent .room)) refl
 
 parts-long : (n : ℕ) (front later : List ℕ) → length later ≡ length (drop n front) → length (take n front ++ later) ≡ length front
 parts-long n front later same =
@@ -125,49 +125,53 @@ parts-long n front later same =
     ∙ sym (length-append (take n front) (drop n front))
     ∙ ap length (take-append-drop n front)
 
-module _ (panel : Panel) (words room : List ℕ) where
-  pub reported-words-long : length (reporting panel lent .words) ≡ length words
-  unfolding handing accepting
+module _ (panel : Panel) (lent : Lent) where
+  pub reported-words-long : length (reporting panel lent .lent .words) ≡ length (lent .words)
+  unfolding handing handingOver accepting
   reported-words-long =
-      report-ways panel words room (λ r. length (r .words) ≡ length words) (λ h payload. refl) (λ command is. refl)
+      report-ways panel lent (λ r. length (r .lent .words) ≡ length (lent .words)) (λ h payload. refl) (λ command is. refl)
       (λ command count is.
-      let answer = acknowledged (panel .setup) command true room in
-      performed-words-long (panel .registers) (panel .setup .pages) (checkingOf (panel .setup)) (headerOf (panel .setup)) command
-      (take count (asked (panel .reader) .payload)) words (drop (answer .count) (answer .room)))
+      let answer = acknowledged (panel .setup) command true (lent .room) in
+      performed-words-long (fixedFor (panel .setup)) (panel .registers) command (take count (asked (panel .reader) .payload))
+      (withRoom lent (drop (answer .count) (answer .room))))
 
-  pub reported-room-long : length (reporting panel lent .room) ≡ length room
-  unfolding handing accepting
+  pub reported-room-long : length (reporting panel lent .lent .room) ≡ length (lent .room)
+  unfolding handing handingOver accepting
   reported-room-long =
-      report-ways panel words room (λ r. length (r .room) ≡ length room) (λ h payload. refl) (λ command is. answer-long (panel .setup) command false room)
+      report-ways panel lent (λ r. length (r .lent .room) ≡ length (lent .room)) (λ h payload. refl)
+      (λ command is. answer-long (panel .setup) command false (lent .room))
       (λ command count is.
-      let answer = acknowledged (panel .setup) command true room in
-      let part = drop (answer .count) (answer .room) in
-      parts-long (answer .count) (answer .room)
-      (performance (panel .registers) (panel .setup .pages) (checkingOf (panel .setup)) (headerOf (panel .setup)) command
-      (take count (asked (panel .reader) .payload)) words part .room)
-      (performed-room-long (panel .registers) (panel .setup .pages) (checkingOf (panel .setup)) (headerOf (panel .setup)) command
-      (take count (asked (panel .reader) .payload)) words part)
-      ∙ answer-long (panel .setup) command true room)
+      let answer = acknowledged (panel .setup) command true (lent .room) in
+      let part = withRoom lent (drop (answer .count) (answer .room)) in
+      let content = take count (asked (panel .reader) .payload) in
+      parts-long (answer .count) (answer .room) (performance (fixedFor (panel .setup)) (panel .registers) command content part .lent .room)
+      (performed-room-long (fixedFor (panel .setup)) (panel .registers) command content part)
+      ∙ answer-long (panel .setup) command true (lent .room))
 
 -- a contact stores in one word at most
-dragged-long : (catch : Catch) (words : List ℕ) (x y : ℕ) → length (dragging catch words x y) ≡ length words
+dragged-long : (setup : Setup) (catch : Catch) (words : List ℕ) (x y : ℕ) → length (dragging setup catch words x y) ≡ length words
 unfolding dragging
-dragged-long Free words x y = refl
-dragged-long (Caught r) words x y = length-wordSet words (r .word) _
+dragged-long setup Free words x y = refl
+dragged-long setup (Caught r) words x y = length-wordSet words (r .word) _
 
-acted-long : (f : Found) (registers : Registers) (catch : Catch) (words : List ℕ) (x y : ℕ) → length (acting f registers catch words x y .words) ≡ length words
+acted-long : (setup : Setup) (f : Found) (registers : Registers) (catch : Catch) (words : List ℕ) (x y : ℕ)
+    → length (acting setup f registers catch words x y .words) ≡ length words
 unfolding acting
-acted-long finds.Nothing registers catch words x y = refl
-acted-long (finds.At i r) registers catch words x y = length-wordSet words (r .word) _
+acted-long setup finds.Nothing registers catch words x y = refl
+acted-long setup (finds.At i r) registers catch words x y = length-wordSet words (r .word) _
 
-touched-long : (pad : Pad) (table words : List ℕ) (x y : ℕ) → length (touched pad table words x y .words) ≡ length words
-unfolding touched Contact.heldDown pressed
-touched-long pad table words x y = go (isDown (pad .registers))
+touched-long : (setup : Setup) (pad : Pad) (table words : List ℕ) (x y : ℕ) → length (touched setup pad table words x y .words) ≡ length words
+unfolding touched heldDown pressed
+touched-long setup pad table words x y = go (isDown (pad .registers))
   where
-    go : (b : Bool) → length (cond b (Contact.heldDown pad words x y) (pressed pad table words x y) .words) ≡ length words
-    go true = dragged-long (pad .catch) words x y
-    go false = acted-long (found table (pageOf (pad .registers)) x y) (withPlace (withStatus (pad .registers) 0x01) x y) (pad .catch) words x y
+    go : (b : Bool) → length (cond b (heldDown setup pad words x y) (pressed setup pad table words x y) .words) ≡ length words
+    go true = dragged-long setup (pad .catch) words x y
+    go false = acted-long setup (found table (pageOf (pad .registers)) x y) (withPlace (withStatus (pad .registers) 0x01) x y) (pad .catch) words x y
 
-pub contacted-words-long : (panel : Panel) (table words : List ℕ) (x y : ℕ) → length (contacting panel c lent .words) ≡ length words
-contacted-words-long panel table words x y =
-    contact-ways panel table words x y (λ c. length (c .words) ≡ length words) (λ answer. refl) (λ good. touched-long (padOf panel) table words x y)
+pub contacted-words-long : (panel : Panel) (c : Contact) (lent : Lent) → length (contacting panel c lent .lent .words) ≡ length (lent .words)
+contacted-words-long panel c lent =
+    contact-ways panel c lent (λ r. length (r .lent .words) ≡ length (lent .words)) (λ answer. refl)
+    (λ good. touched-long (panel .setup) (padOf panel) (c .table) (lent .words) (c .x) (c .y))
+
+pub contacted-room-stands : (panel : Panel) (c : Contact) (lent : Lent) → contacting panel c lent .lent .room ≡ lent .room
+contacted-room-stands panel c lent = contact-ways panel c lent (λ r. r .lent .room ≡ lent .room) (λ answer. refl) (λ good. refl)

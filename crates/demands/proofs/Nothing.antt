@@ -1,10 +1,7 @@
 -- "reports are then asked for one at a time until the answer is 'nothing'": the answer comes, and says that no report waits.
 use mathlib.Core.Path.{_≡_, sym, ap, _∙_}
-use mathlib.Core.Bool.{true}
-use Prim.Native.Nat.{ℕ, zero, suc, _≤_}
-use borrow.Author.Tests.{eq-eqb, le-leb}
+use Prim.Native.Nat.{ℕ, zero, suc}
 use lib.ListN.{length, replicate}
-use Rattle.frame.specs.Writer.{leastRoom}
 use Rattle.frame.specs.Frame.{longestFrame}
 use Rattle.reading.specs.Moves.{Kept, afterReport}
 use Rattle.reading.specs.Run.{run, asks}
@@ -16,39 +13,39 @@ use Rattle.line.specs.State.{rulesFor, readerOf, keptOf}
 use Rattle.line.specs.Methods.{busy}
 use Rattle.line.specs.Reached.{Reached}
 use Rattle.line.proofs.Carried.{waiting-is, reached-report}
-use Rattle.wire.specs.Addresses.{wordCount}
 use Rattle.panel.specs.declared.Panel.{Panel}
 use Rattle.panel.specs.declared.Handed.{Handed}
-use Rattle.panel.specs.Reporting.{lent, reporting}
+use Rattle.panel.specs.Reporting.{reporting}
 use Rattle.panel.specs.Sound.{lineOf, Sound}
 use Rattle.panel.specs.Reachable.{Reachable}
 use Rattle.panel.proofs.Invariant.{reachable-sound}
-use Rattle.demands.specs.Calls.{Moment, ask, after, afterAll, reportHanded, handedOver, Typed, AllTyped}
+use Rattle.demands.specs.Calls.{Moment, ask, after, afterAll, reportHanded, handedOver, Typed, AllTyped, WellLent}
 use Rattle.demands.specs.Reports.{rulesOf, reportWaits, waitingReport}
 use Rattle.demands.specs.AsRead.{AlwaysUntilNothing}
 use Rattle.demands.proofs.Calls.{calls-reached, arises-reachable}
 use Rattle.demands.proofs.Waits.{busy-waits, sound-ask-hands}
 use Rattle.demands.proofs.Lent.{reported-words-long, reported-room-long}
+use Rattle.demands.proofs.WellLent.{well-tested}
 use Rattle.demands.proofs.Reading.{ask-moves}
 
-is-lent : (now : Moment) → length (now .lent .words) ≡ wordCount → leastRoom ≤ length (now .lent .room) → wellLent (now .lent) ≡ true
-unfolding lent
-is-lent now whole large = rw (eq-eqb (length (now .lent .words)) wordCount whole, le-leb leastRoom (length (now .lent .room)) large)
+-- what is lent stays enough
+ask-well : (now : Moment) → WellLent (now .lent) → WellLent (after now ask .lent)
+unfolding after
+ask-well now well =
+    let same : length (reporting (now .panel) (now .lent) .lent .room) ≡ length (now .lent .room) = reported-room-long (now .panel) (now .lent) in
+    record { words = reported-words-long (now .panel) (now .lent) ∙ well .words; room = rw same (well .room) }
 
 -- n asks of a panel are n asks of the reading
 asks-move : (line : Declared.Line) (n : ℕ) (now : Moment) (kept : Kept) → Reached line kept → now .panel .reader ≡ readerOf line kept
-    → length (now .lent .words) ≡ wordCount → leastRoom ≤ length (now .lent .room)
+    → WellLent (now .lent)
     → (afterAll now (replicate n ask) .panel .reader ≡ readerOf line (run (rulesFor line) kept (asks n) .kept))
     × Reached line (run (rulesFor line) kept (asks n) .kept)
 unfolding afterAll after run asks
-asks-move line zero now kept reached reads whole large = (reads, reached)
-asks-move line (suc n) now kept reached reads whole large =
+asks-move line zero now kept reached reads well = (reads, reached)
+asks-move line (suc n) now kept reached reads well =
     let next = after now ask in
-    let same-words : length (next .lent .words) ≡ wordCount = reported-words-long (now .panel) (now .lent) ∙ whole in
-    let same-room : length (next .lent .room) ≡ length (now .lent .room) = reported-room-long (now .panel) (now .lent) in
-    let same-large : leastRoom ≤ length (next .lent .room) = rw same-room large in
     asks-move line n next (afterReport (rulesFor line) kept) (reached-report line kept reached)
-    (ask-moves line (now .panel) kept reached (now .lent) reads (is-lent now whole large)) same-words same-large
+    (ask-moves line (now .panel) kept reached (now .lent) reads (well-tested (now .lent) well)) (ask-well now well)
 
 asks-typed : (n : ℕ) → AllTyped (replicate n ask)
 unfolding AllTyped Typed
@@ -57,11 +54,11 @@ asks-typed (suc n) = (tt, asks-typed n)
 
 pub always-until-nothing : AlwaysUntilNothing
 unfolding handedOver reportHanded reportWaits waitingReport
-always-until-nothing now arises whole large =
+always-until-nothing now arises well =
     record {
       nothing-waits = λ nothing.
           handed-nothing (rulesOf (now .panel)) (keptOf (now .panel .reader))
-          (sym (sound-ask-hands now sound whole large)
+          (sym (sound-ask-hands now sound well)
           ∙ ap (λ (h : Handed). reportHanded h (reporting (now .panel) (now .lent) .reported .payload)) nothing);
       comes =
           sym (busy-waits last (reachable-sound last (calls-reached now (replicate longestFrame ask) (asks-typed longestFrame) reachable)))
@@ -86,4 +83,4 @@ always-until-nothing now arises whole large =
     last = afterAll now (replicate longestFrame ask) .panel
 
     moved : (last .reader ≡ readerOf line (run (rulesFor line) kept (asks longestFrame) .kept)) × Reached line (run (rulesFor line) kept (asks longestFrame) .kept)
-    moved = asks-move line longestFrame now kept (sound .reads .reached) (sound .reads .is) whole large
+    moved = asks-move line longestFrame now kept (sound .reads .reached) (sound .reads .is) well

@@ -17,7 +17,7 @@ use Rattle.line.specs.declared.Reader.{Reader}
 use Rattle.line.specs.declared.Gave.{Gave}
 use Rattle.line.specs.declared.Answer.the-variants as line-answer
 use Rattle.line.specs.Methods as Line
-use Rattle.line.specs.Methods.{busy, givenByte, givenMark, givenBytes, gave, plus}
+use Rattle.line.specs.Methods.{busy, givenByte, givenMark, givenBytes, gave, plus, gives}
 use Rattle.registers.specs.Touched.{isDown}
 use Rattle.contact.specs.Contact.{lifted}
 use Rattle.panel.specs.declared.Panel.{Panel}
@@ -32,7 +32,6 @@ use Rattle.panel.proofs.Ways.{lifts}
 use Rattle.panel.proofs.Invariant.{reachable-sound}
 use Rattle.demands.specs.Calls.{Moment, Call, lend, byte, bytes, mark, ask, contact, lift, numberGiven, Typed}
 use Rattle.demands.specs.Demand1.{firstNumber, oneComesWhileWaiting, roomTooSmall, printed, printedWriter}
-use Rattle.demands.proofs.Answers.{gives}
 use Rattle.demands.proofs.Waits.{busy-waits}
 use Rattle.demands.proofs.AskNumbers.{ask-number}
 use Rattle.demands.proofs.TableNumbers.{contact-number}

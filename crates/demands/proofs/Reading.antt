@@ -29,11 +29,12 @@ use Rattle.line.proofs.Carried.{waiting-is, byte-carried, mark-carried, ask-car
 use Rattle.panel.specs.declared.Panel.{Panel}
 use Rattle.panel.specs.Inputs.{fedByte, fedMark, fedBytes}
 use Rattle.panel.specs.Reporting as Reporting
-use Rattle.panel.specs.Reporting.{lent, reporting}
-use Rattle.panel.specs.Contacts.{contacting, lifting}
+use Rattle.panel.specs.Reporting.{reporting}
+use Rattle.panel.specs.Contacts.{contacting, lifting, Contact}
 use Rattle.panel.proofs.Ways.{contact-ways, lift-ways}
 use Rattle.demands.specs.Calls.{Moment, Call, lend, byte, bytes, mark, ask, contact, lift, after, afterAll, reportHanded, handedOver, handedOverAll, Typed, AllTyped}
 use Rattle.demands.specs.Given.{unlessRefused, given, givenAll}
+use Rattle.commands.specs.Lent.{Lent}
 use Rattle.demands.proofs.Answers.{reportedBy}
 
 -- from what a reader keeps, events of the reading that give these inputs, hand over these reports and leave this reader
@@ -133,7 +134,7 @@ carries-bytes line (b ∷ bs) kept reached are =
         })
 
 -- an ask that is lent what it must be, and one that is not
-module _ (line : Declared.Line) (panel : Panel) (kept : Kept) (reached : Reached line kept) (words room : List ℕ) where
+module _ (line : Declared.Line) (panel : Panel) (kept : Kept) (reached : Reached line kept) (lent : Lent) where
   abbrev rules : Rules
   rules = rulesFor line
 
@@ -141,22 +142,22 @@ module _ (line : Declared.Line) (panel : Panel) (kept : Kept) (reached : Reached
   askedAt seen = record { report = reportAs (reportOf rules seen); payload = payloadAs (reportOf rules seen); reader = readerOf line (afterReport rules kept) }
 
   abbrev handedFor : Seen → Reporting.Reporting
-  handedFor seen = Reporting.handing (askedAt seen) (askedAt seen .report) panel words room
+  handedFor seen = Reporting.handing (askedAt seen) (askedAt seen .report) panel lent
 
   -- what is handed over is the reading's report, and the reader goes on as the reading says
   hands-as : (seen : Seen) → look rules (kept .closed) (kept .bytes) ≡ seen → panel .reader ≡ readerOf line kept
       → (reportHanded (handedFor seen .reported .handed) (handedFor seen .reported .payload) ≡ reportOf rules seen)
       × (handedFor seen .reported .panel .reader ≡ readerOf line (afterReport rules kept))
-  unfolding Reporting.handing reportAs payloadAs reportOf reportHanded
-  hands-as pass is reads = (refl, reads ∙ ap (readerOf line) (sym (nothing-changes rules kept (unfold waiting isReport in rw is))))
-  hands-as wait is reads = (refl, reads ∙ ap (readerOf line) (sym (nothing-changes rules kept (unfold waiting isReport in rw is))))
+  unfolding Reporting.handing Reporting.handingOver reportAs payloadAs reportOf reportHanded
+  hands-as pass is reads = (refl, refl)
+  hands-as wait is reads = (refl, refl)
   hands-as (bad body) is reads = (refl, refl)
   hands-as (accepted body) is reads =
       let content = drop 1 (contentOf (line .checking) body) in
       (ap (λ (l : List ℕ). acceptedFrame (getD body 0 0) l ∷ []) (take-padded mostPayload (length content) content refl), refl)
 
   -- asking with words and room as they must be moves the reader as the reading's ask does
-  pub ask-moves : panel .reader ≡ readerOf line kept → lent (length words) (length room) ≡ true
+  pub ask-moves : panel .reader ≡ readerOf line kept → Reporting.wellLent lent ≡ true
       → reporting panel lent .reported .panel .reader ≡ readerOf line (afterReport rules kept)
   unfolding reporting handed
   ask-moves reads is-lent =
@@ -166,7 +167,7 @@ module _ (line : Declared.Line) (panel : Panel) (kept : Kept) (reached : Reached
       → Carries line kept [] (reportHanded (reporting panel lent .reported .handed) (reporting panel lent .reported .payload))
       (reporting panel lent .reported .panel .reader)
   unfolding reporting run handed reportHanded
-  carries-ask reads = go (lent (length words) (length room))
+  carries-ask reads = go (Reporting.wellLent lent)
     where
       seen : Seen
       seen = look rules (kept .closed) (kept .bytes)
@@ -175,7 +176,7 @@ module _ (line : Declared.Line) (panel : Panel) (kept : Kept) (reached : Reached
       is = ap asked reads ∙ ask-carried line kept (reached .few)
 
       result : Bool → Asked → Reporting.Reporting
-      result enough a = reportedBy panel words room enough a (a .report)
+      result enough a = reportedBy panel lent enough a (a .report)
 
       go : (b : Bool) → Carries line kept [] (reportHanded (result b (asked (panel .reader)) .reported .handed) (result b (asked (panel .reader)) .reported .payload))
           (result b (asked (panel .reader)) .reported .panel .reader)
@@ -192,8 +193,8 @@ module _ (line : Declared.Line) (panel : Panel) (kept : Kept) (reached : Reached
       go false = still line kept reached (panel .reader) reads
 
 -- touches leave the reader
-pub contact-keeps-reader : (panel : Panel) (table words : List ℕ) (x y : ℕ) → contacting panel c lent .contacted .panel .reader ≡ panel .reader
-contact-keeps-reader panel table words x y = contact-ways panel table words x y (λ c. c .contacted .panel .reader ≡ panel .reader) (λ answer. refl) (λ good. refl)
+pub contact-keeps-reader : (panel : Panel) (c : Contact) (lent : Lent) → contacting panel c lent .contacted .panel .reader ≡ panel .reader
+contact-keeps-reader panel c lent = contact-ways panel c lent (λ r. r .contacted .panel .reader ≡ panel .reader) (λ answer. refl) (λ good. refl)
 
 pub lift-keeps-reader : (panel : Panel) → lifting panel .panel .reader ≡ panel .reader
 lift-keeps-reader panel = lift-ways panel (λ l. l .panel .reader ≡ panel .reader) refl refl refl
@@ -208,7 +209,7 @@ carries-call line kept now (bytes bs) typed reached reads = rw reads (carries-by
 carries-call line kept now mark typed reached reads = rw reads (carries-mark line kept reached)
 carries-call line kept now ask typed reached reads = carries-ask line (now .panel) kept reached (now .lent) reads
 carries-call line kept now (contact c) typed reached reads =
-    still line kept reached (after now (contact c) .panel .reader) (contact-keeps-reader (now .panel) table (now .lent .words) x y ∙ reads)
+    still line kept reached (after now (contact c) .panel .reader) (contact-keeps-reader (now .panel) c (now .lent) ∙ reads)
 carries-call line kept now lift typed reached reads =
     still line kept reached (after now lift .panel .reader) (lift-keeps-reader (now .panel) ∙ reads)
 

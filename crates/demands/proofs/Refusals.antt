@@ -18,7 +18,7 @@ use Rattle.line.specs.declared.Answer.the-variants as line-answer
 use Rattle.line.specs.declared.Report.{Report}
 use Rattle.line.specs.declared.Report.the-variants as line
 use Rattle.line.specs.Methods as Line
-use Rattle.line.specs.Methods.{busy, givenByte, givenMark, givenBytes, gave, plus, asked}
+use Rattle.line.specs.Methods.{busy, givenByte, givenMark, givenBytes, gave, plus, asked, gives}
 use Rattle.line.proofs.Truths.{never}
 use Rattle.commands.specs.declared.Outcome.{Outcome}
 use Rattle.commands.specs.declared.Outcome.the-variants.{Done, UnknownCommand, WrongData, PastEnd, Unwritable, WrongValue, ReplyTooLong}
@@ -46,7 +46,7 @@ use Rattle.demands.specs.Calls.{Moment, Call, lend, byte, bytes, mark, a
 use Rattle.demands.specs.Reports.{reportWaits, readBehind, acknowledgementOf}
 use Rattle.demands.specs.Demand1.{RefusalLeaves, as-it-stood, only-handed-over, as-those-taken}
 use Rattle.demands.specs.Demand2.{leaving}
-use Rattle.demands.proofs.Answers.{gives, momentAsked, momentTouched}
+use Rattle.demands.proofs.Answers.{momentAsked, momentTouched}
 use Rattle.demands.proofs.Waits.{busy-waits}
 use Rattle.demands.proofs.Numbers.{one-more}
 use Rattle.demands.proofs.FrameAsked.{Asks, handed-asks, done-number, performance-leaves}
@@ -187,7 +187,7 @@ contact-refused : (now : Moment) (c : Contact) → 0 < numberGiven now (contact 
 unfolding numberGiven after
 contact-refused now table x y above =
     as-it-stood (contact c) (contact-numbers (contacting (now .panel) c (now .lent) .contacted .answer) above)
-    (ap (momentTouched now)
+    (ap (momentTouched)
     (refused-contact-changes-nothing (now .panel) table (now .lent .words) x y above))
 
 lift-refused : (now : Moment) → 0 < numberGiven now lift → RefusalLeaves now lift

@@ -99,7 +99,7 @@ module _ (panel : Panel) (table words : List ℕ) (x y : ℕ) where
 pub contact-leaves : (now : Moment) (c : Contact) → numberGiven now (contact c) ≡ 0 → after now (contact c) ≡ afterContact now table x y
 unfolding numberGiven after afterContact
 contact-leaves now table x y is =
-    ap (momentTouched now)
+    ap (momentTouched)
     (contact-done (now .panel) table (now .lent .words) x y is .touches)
 
 -- "Lift: status 02, the catch is dropped."

@@ -20,9 +20,11 @@ use Rattle.line.proofs.Padding.{take-padded}
 use Rattle.line.proofs.Carried.{kept-is, waiting-is, ask-carried}
 use Rattle.panel.specs.declared.Panel.{Panel}
 use Rattle.wire.specs.Addresses.{wordCount}
-use Rattle.panel.specs.Reporting.{lent, Reporting, handing, reporting}
+use Rattle.panel.specs.Reporting.{Reporting, handingOver, handing, reporting}
 use Rattle.panel.specs.Sound.{lineOf, Sound}
-use Rattle.demands.specs.Calls.{Moment, ask, after, reportHanded, handedOver}
+use Rattle.demands.specs.Calls.{Moment, ask, after, reportHanded, handedOver, WellLent}
+use Rattle.commands.specs.Lent.{Lent}
+use Rattle.demands.proofs.WellLent.{well-tested}
 use Rattle.demands.specs.Reports.{rulesOf, reportWaits, waitingReport}
 
 module _ (panel : Panel) (sound : Sound panel) where
@@ -62,23 +64,23 @@ module _ (panel : Panel) (sound : Sound panel) where
       ∙ ap (λ (k : Kept). readerOf (lineOf (panel .setup)) (afterReport (rulesOf panel) k)) (sym kept-same)
 
 -- what asking hands over is the report that waits
-handing-hands : (panel : Panel) (words room : List ℕ) (a : Asked) (told : Report) (rules : Rules) (seen : Seen) → told ≡ reportAs (reportOf rules seen)
+handing-hands : (panel : Panel) (lent : Lent) (a : Asked) (told : Report) (rules : Rules) (seen : Seen) → told ≡ reportAs (reportOf rules seen)
     → a .payload ≡ payloadAs (reportOf rules seen)
-    → reportHanded (handing a told panel words room .reported .handed) (handing a told panel words room .reported .payload) ≡ reportOf rules seen
-unfolding handing reportHanded reportOf reportAs payloadAs
-handing-hands panel words room a told rules pass is payload = rw is
-handing-hands panel words room a told rules wait is payload = rw is
-handing-hands panel words room a told rules (bad body) is payload = rw is
-handing-hands panel words room a told rules (accepted body) is payload =
+    → reportHanded (handing a told panel lent .reported .handed) (handing a told panel lent .reported .payload) ≡ reportOf rules seen
+unfolding handing handingOver reportHanded reportOf reportAs payloadAs
+handing-hands panel lent a told rules pass is payload = rw is
+handing-hands panel lent a told rules wait is payload = rw is
+handing-hands panel lent a told rules (bad body) is payload = rw is
+handing-hands panel lent a told rules (accepted body) is payload =
     let content = drop 1 (contentOf (rules .checking) body) in
     let same : take (length content) (a .payload) ≡ content =
     ap (take (length content)) payload ∙ take-padded mostPayload (length content) content refl in
     rw (is, same)
 
 pub ask-hands : (now : Moment) (kept : Kept) → now .panel .reader ≡ readerOf (lineOf (now .panel .setup)) kept → length (kept .bytes) ≤ longestFrame
-    → length (now .lent .words) ≡ wordCount → leastRoom ≤ length (now .lent .room) → handedOver now ask ≡ handed (rulesOf (now .panel)) kept
-unfolding handedOver reporting lent handed
-ask-hands now kept is few whole large =
+    → WellLent (now .lent) → handedOver now ask ≡ handed (rulesOf (now .panel)) kept
+unfolding handedOver reporting handed
+ask-hands now kept is few well =
     let line = lineOf (now .panel .setup) in
     let rules = rulesOf (now .panel) in
     let tells : asked (now .panel .reader) ≡ record {
@@ -86,29 +88,28 @@ ask-hands now kept is few whole large =
       payload = payloadAs (handed rules kept);
       reader = readerOf line (afterReport rules kept);
     } = ap (λ (r : Reader). asked r) is ∙ ask-carried line kept few in
-    rw (eq-eqb (length (now .lent .words)) wordCount whole, le-leb leastRoom (length (now .lent .room)) large)
+    rw (well-tested (now .lent) well)
     (handing-hands (now .panel) (now .lent) (asked (now .panel .reader)) (asked (now .panel .reader) .report) rules
     (look rules (kept .closed) (kept .bytes)) (ap (λ (a : Asked). a .report) tells) (ap (λ (a : Asked). a .payload) tells))
 
 -- of a panel that is reached
-pub sound-ask-hands : (now : Moment) → Sound (now .panel) → length (now .lent .words) ≡ wordCount → leastRoom ≤ length (now .lent .room) → handedOver now ask ≡ waitingReport (now .panel)
+pub sound-ask-hands : (now : Moment) → Sound (now .panel) → WellLent (now .lent) → handedOver now ask ≡ waitingReport (now .panel)
 unfolding waitingReport
-sound-ask-hands now sound whole large =
+sound-ask-hands now sound well =
     let long : length (keptOf (now .panel .reader) .bytes) ≡ length (sound .reads .kept .bytes) = ap (λ (k : Kept). length (k .bytes)) (kept-same (now .panel) sound) in
     let few : length (keptOf (now .panel .reader) .bytes) ≤ longestFrame = omega (arith, sound .reads .reached .few) in
-    ask-hands now (keptOf (now .panel .reader)) (reader-is (now .panel) sound) few whole large
+    ask-hands now (keptOf (now .panel .reader)) (reader-is (now .panel) sound) few well
 
 -- asking with words and room as they must be, where an accepted frame waits
-pub frame-reporting : (panel : Panel) (words room : List ℕ) → length words ≡ wordCount → leastRoom ≤ length room → (command count : ℕ)
+pub frame-reporting : (panel : Panel) (lent : Lent) → WellLent lent → (command count : ℕ)
     → asked (panel .reader) .report ≡ line.Accepted command count
-    → reporting panel lent ≡ handing (asked (panel .reader)) (line.Accepted command count) panel words room
-unfolding reporting lent
-frame-reporting panel lent whole large command count told =
-    rw (eq-eqb (length words) wordCount whole, le-leb leastRoom (length room) large, told)
+    → reporting panel lent ≡ handing (asked (panel .reader)) (line.Accepted command count) panel lent
+unfolding reporting
+frame-reporting panel lent well command count told = rw (well-tested lent well, told)
 
 -- it leaves the reader behind the frame
-pub ask-reads-on : (now : Moment) → length (now .lent .words) ≡ wordCount → leastRoom ≤ length (now .lent .room) → (command count : ℕ)
+pub ask-reads-on : (now : Moment) → WellLent (now .lent) → (command count : ℕ)
     → asked (now .panel .reader) .report ≡ line.Accepted command count → after now ask .panel .reader ≡ asked (now .panel .reader) .reader
 unfolding after handing
-ask-reads-on now whole large command count told =
-    ap (λ (r : Reporting). r .reported .panel .reader) (frame-reporting (now .panel) (now .lent) whole large command count told)
+ask-reads-on now well command count told =
+    ap (λ (r : Reporting). r .reported .panel .reader) (frame-reporting (now .panel) (now .lent) well command count told)

@@ -1,0 +1,26 @@
+-- What must be lent, and the test for 14.
+use mathlib.Core.Path.{_≡_}
+use mathlib.Core.Bool.{true}
+use borrow.Author.Tests.{eq-eqb, eqb-true, le-leb, leb-true}
+use lib.Dec.{eqb, leb}
+use lib.ListN.{length}
+use Rattle.wire.specs.Addresses.{wordCount}
+use Rattle.frame.specs.Writer.{leastRoom}
+use Rattle.line.proofs.Truths.{and-left, and-right}
+use Rattle.commands.specs.Lent.{Lent}
+use Rattle.panel.specs.Reporting.{enough, wellLent}
+use Rattle.demands.specs.Calls.{WellLent}
+
+pub well-tested : (lent : Lent) → WellLent lent → wellLent lent ≡ true
+unfolding enough
+well-tested lent well = rw (eq-eqb (length (lent .words)) wordCount (well .words), le-leb leastRoom (length (lent .room)) (well .room))
+
+pub tested-well : (lent : Lent) → wellLent lent ≡ true → WellLent lent
+unfolding enough
+tested-well lent is =
+    let words = eqb (length (lent .words)) wordCount in
+    let room = leb leastRoom (length (lent .room)) in
+    record {
+      words = eqb-true (length (lent .words)) wordCount (and-left words room is);
+      room = leb-true leastRoom (length (lent .room)) (and-right words room is);
+    }
