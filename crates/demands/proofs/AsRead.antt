@@ -52,8 +52,8 @@ module _ (setup : Setup) (now : Moment) (calls : List Call)
       }
 
 pub always-as-read : AlwaysAsRead
-always-as-read setup table words room is calls typed =
+always-as-read setup table lent is calls typed =
     let now = begun setup table lent in
     let reachable = by-start setup table is in
-    let new = new-reader setup table words room is in
+    let new = new-reader setup table lent is in
     as-read setup now calls (carried (lineOf setup) now reachable new calls typed) (waits-same (lineOf setup) now reachable new calls typed)

@@ -27,12 +27,13 @@ use Rattle.touch.specs.declared.Setup.{Setup}
 use Rattle.touch.specs.Setup.{checkingOf}
 use Rattle.panel.specs.declared.Panel.{Panel}
 use Rattle.panel.specs.Numbers.{reportNumber}
-use Rattle.panel.specs.State.{headerOf}
-use Rattle.panel.specs.Reporting.{lent, acknowledged, accepting, handing, reporting}
+use Rattle.panel.specs.Reporting.{acknowledged, accepting, handing, reporting, enough, handingOver}
 use Rattle.panel.specs.Sound.{Sound}
 use Rattle.demands.specs.Calls.{Moment, ask, numberGiven}
 use Rattle.demands.specs.Reports.{waitingReport}
 use Rattle.demands.specs.Demand1.{Condition, _when_, firstNumber, ofFrame, notCommand, byCommand, wrongData, passesEnd, touchesUnwritable, valueWrong, replyPasses, wordsNotLent, roomTooSmall, printed}
+use Rattle.commands.specs.Lent.{Lent, withRoom}
+use Rattle.panel.specs.State.{fixedFor}
 use Rattle.demands.proofs.Waits.{asked-report, asked-payload}
 
 two-tests : (a b : Bool) → Outcome.numberOfOutcome (cond a WrongData (cond b PastEnd Done)) ≡ cond a 3 (cond b 4 0)
@@ -107,7 +108,7 @@ module _ (setup : Setup) (command : ℕ) (content : List ℕ) where
           lt-ltb 0x83 command above
 
   -- "then 2 to 7 in turn"
-  pub frame-numbers : Outcome.numberOfOutcome (outcome (setup .pages) wordCount (checkingOf setup) command content) ≡ firstNumber frameNumbers
+  pub frame-numbers : Outcome.numberOfOutcome (outcome (fixedFor setup) wordCount command content) ≡ firstNumber frameNumbers
   unfolding outcome Outcome.numberOfOutcome firstNumber
   frame-numbers = go (eqb command 0x80) refl (eqb command 0x81) refl (eqb command 0x82) refl (eqb command 0x83) refl
     where
@@ -139,31 +140,31 @@ waitingNumbers setup report =
     ∷ (7 when ofFrame report (replyPasses (checkingOf setup)))
     ∷ []
 
-accepted-number : (panel : Panel) (words room : List ℕ) → length words ≡ wordCount → (command : ℕ) (content : List ℕ)
-    → Outcome.numberOfOutcome (accepting (panel .setup) (panel .registers) command content words room .effected .performed .outcome)
+accepted-number : (panel : Panel) (lent : Lent) → length (lent .words) ≡ wordCount → (command : ℕ) (content : List ℕ)
+    → Outcome.numberOfOutcome (accepting (panel .setup) (panel .registers) command content lent .effected .performed .outcome)
     ≡ firstNumber (frameNumbers (panel .setup) command content)
 unfolding accepting
-accepted-number panel words room whole command content =
+accepted-number panel lent whole command content =
     let setup = panel .setup in
-    let answer = acknowledged setup command true room in
+    let answer = acknowledged setup command true (lent .room) in
     ap Outcome.numberOfOutcome
-    (performs-outcome (panel .registers) (setup .pages) (checkingOf setup) (headerOf setup) command content words (drop (answer .count) (answer .room)))
-    ∙ ap (λ (n : ℕ). Outcome.numberOfOutcome (outcome (setup .pages) n (checkingOf setup) command content)) whole
+    (performs-outcome (fixedFor setup) (panel .registers) command content (withRoom lent (drop (answer .count) (answer .room))))
+    ∙ ap (λ (n : ℕ). Outcome.numberOfOutcome (outcome (fixedFor setup) n command content)) whole
     ∙ frame-numbers setup command content
 
-handing-numbers : (panel : Panel) (words room : List ℕ) → length words ≡ wordCount → (a : Asked) (told : Told) (report : List Report) → told ≡ reportAs report
+handing-numbers : (panel : Panel) (lent : Lent) → length (lent .words) ≡ wordCount → (a : Asked) (told : Told) (report : List Report) → told ≡ reportAs report
     → a .payload ≡ payloadAs report
-    → reportNumber (handing a told panel words room .reported .handed) ≡ firstNumber (waitingNumbers (panel .setup) report)
-unfolding handing reportNumber reportAs payloadAs ofFrame firstNumber
-handing-numbers panel words room whole a told [] is payload = rw is
-handing-numbers panel words room whole a told (badCheck command ∷ rest) is payload = rw is
-handing-numbers panel words room whole a told (acceptedFrame command content ∷ rest) is payload =
+    → reportNumber (handing a told panel lent .reported .handed) ≡ firstNumber (waitingNumbers (panel .setup) report)
+unfolding handing handingOver reportNumber reportAs payloadAs ofFrame firstNumber
+handing-numbers panel lent whole a told [] is payload = rw is
+handing-numbers panel lent whole a told (badCheck command ∷ rest) is payload = rw is
+handing-numbers panel lent whole a told (acceptedFrame command content ∷ rest) is payload =
     let same : take (length content) (a .payload) ≡ content =
     ap (take (length content)) payload ∙ take-padded mostPayload (length content) content refl in
-    rw (is, same) (accepted-number panel words room whole command content)
+    rw (is, same) (accepted-number panel lent whole command content)
 
 pub ask-number : (now : Moment) → Sound (now .panel) → numberGiven now ask ≡ firstNumber (printed now ask)
-unfolding numberGiven printed reporting reportNumber lent wordsNotLent roomTooSmall firstNumber
+unfolding numberGiven printed reporting reportNumber enough wordsNotLent roomTooSmall firstNumber
 ask-number now sound = go (eqb (length (now .lent .words)) wordCount) refl (leb leastRoom (length (now .lent .room))) refl
   where
     panel : Panel

@@ -12,7 +12,7 @@ use Rattle.registers.specs.declared.Registers.{Registers}
 use Rattle.registers.specs.Touched.{isDown, pageOf, withPage, withStatus, withPlace}
 use Rattle.words.specs.Words.{wordAtAddress}
 use Rattle.stores.specs.Store.{signed, valueIn}
-use Rattle.stores.specs.Slider.{roundedDown, slidTo}
+use Rattle.stores.specs.Slider.{slidTo}
 use Rattle.touch.specs.declared.Record.{Record}
 use Rattle.touch.specs.declared.Kind.{Kind}
 use Rattle.touch.specs.declared.Kind.the-variants.{Slider}
@@ -34,13 +34,16 @@ use Rattle.panel.specs.declared.Panel.{Panel}
 use Rattle.panel.specs.State.{padOf}
 use Rattle.panel.specs.Start.{newPanel}
 use Rattle.panel.specs.Inputs.{fedByte, fedMark, fedBytes}
-use Rattle.panel.specs.Reporting.{accepting, handing}
+use Rattle.panel.specs.Reporting.{accepting, handing, handingOver}
 use Rattle.panel.proofs.Ways.{contact-ways, lift-ways, report-ways}
 use Rattle.panel.proofs.Invariant.{reachable-sound}
 use Rattle.demands.specs.Calls.{Moment, Call, lend, byte, bytes, mark, ask, contact, lift, after, numberGiven, Typed, Arises, from-start, by-call}
 use Rattle.demands.specs.Demand2.{afterContact}
 use Rattle.demands.proofs.Calls.{arises-reachable}
 use Rattle.demands.proofs.Sizes.{started-new}
+use Rattle.touch.specs.declared.Setup.{Setup}
+use Rattle.touch.specs.Rounding.{roundingOf}
+use Rattle.panel.specs.Contacts.{Contact}
 use Rattle.demands.proofs.TouchEffects.{slider-fields-fit, contact-done, contact-leaves, dragged-words, word-set}
 
 -- a copy of a slider's record that is kept has 16-bit begin and end
@@ -54,14 +57,14 @@ either-fits : (b : Bool) (c d : Catch) → Fits c → Fits d → Fits (cond b c 
 either-fits true c d one two = one
 either-fits false c d one two = two
 
-module _ (pad : Pad) (table words : List ℕ) (x y : ℕ) (fits : Fits (pad .catch)) (are : Bytes table) where
+module _ (setup : Setup) (pad : Pad) (table words : List ℕ) (x y : ℕ) (fits : Fits (pad .catch)) (are : Bytes table) where
   caught-fits : (i : ℕ) (r : Record) → found table (pageOf (pad .registers)) x y ≡ At i r → Fits (Caught r)
   caught-fits i r acts q f is kind =
       let same : r ≡ q = cc in
       let stands = found-stands table (pageOf (pad .registers)) x y i r acts .0 in
       slider-fields-fit table are i f (ap (λ (s : Record). s .kind) (sym stands ∙ same) ∙ kind)
 
-  touched-fits : Fits (touched pad table words x y .pad .catch)
+  touched-fits : Fits (touched setup pad table words x y .pad .catch)
   unfolding touched Contact.heldDown Contact.pressed Contact.acting Contact.showing Contact.catching
   touched-fits = go (isDown (pad .registers))
     where
@@ -73,16 +76,16 @@ module _ (pad : Pad) (table words : List ℕ) (x y : ℕ) (fits : Fits (pad .cat
       shown i r acts true = either-fits (slides r) (Caught r) (pad .catch) (caught-fits i r acts) fits
       shown i r acts false = free-fits
 
-      behind : (f : Found) → found table (pageOf (pad .registers)) x y ≡ f → Fits (Contact.acting f now (pad .catch) words x y .pad .catch)
+      behind : (f : Found) → found table (pageOf (pad .registers)) x y ≡ f → Fits (Contact.acting setup f now (pad .catch) words x y .pad .catch)
       behind Nothing acts = fits
       behind (At i r) acts = shown i r acts (noNext r)
 
-      go : (b : Bool) → Fits (cond b (Contact.heldDown pad words x y) (Contact.pressed pad table words x y) .pad .catch)
+      go : (b : Bool) → Fits (cond b (Contact.heldDown setup pad words x y) (Contact.pressed setup pad table words x y) .pad .catch)
       go true = fits
       go false = behind (found table (pageOf (pad .registers)) x y) refl
 
 call-fits : (now : Moment) (call : Call) → Typed call → Fits (now .panel .catch) → Fits (after now call .panel .catch)
-unfolding after Typed fedByte fedBytes fedMark handing Contact.lifted
+unfolding after Typed fedByte fedBytes fedMark handing handingOver Contact.lifted
 call-fits now (lend lent) typed fits = fits
 call-fits now (byte b) typed fits = fits
 call-fits now (bytes bs) typed fits = fits
@@ -92,15 +95,15 @@ call-fits now ask typed fits =
     (λ command count is.
     let content = take count (asked (now .panel .reader) .payload) in
     let done = accepting (now .panel .setup) (now .panel .registers) command content (now .lent) in
-    either-fits (done .effected .performed .paged) Free (now .panel .catch) free-fits fits)
+    either-fits (done .effected .performed .drops) Free (now .panel .catch) free-fits fits)
 call-fits now (contact c) typed fits =
-    contact-ways (now .panel) table (now .lent .words) x y (λ c. Fits (c .contacted .panel .catch)) (λ answer. fits)
-    (λ good. touched-fits (padOf (now .panel)) table (now .lent .words) x y fits (typed .0))
+    contact-ways (now .panel) c (now .lent) (λ r. Fits (r .contacted .panel .catch)) (λ answer. fits)
+    (λ good. touched-fits (now .panel .setup) (padOf (now .panel)) (c .table) (now .lent .words) (c .x) (c .y) fits (typed .0))
 call-fits now lift typed fits = lift-ways (now .panel) (λ l. Fits (l .panel .catch)) fits fits free-fits
 
 always-fits : (now : Moment) → Arises now → Fits (now .panel .catch)
 unfolding newPanel
-always-fits _ (from-start setup table words room h1 h2 are is) = λ r f caught kind.
+always-fits _ (from-start setup table lent h1 h2 are is) = λ r f caught kind.
     let none : newPanel setup .catch ≡ Caught r = ap (λ (p : Panel). p .catch) (sym (started-new setup table is)) ∙ caught in
     free-fits r f none kind
 always-fits _ (by-call now call typed arises) = call-fits now call typed (always-fits now arises)
@@ -108,19 +111,19 @@ always-fits _ (by-call now call typed arises) = call-fits now call typed (always
 -- "Contact while down: .. a caught slider stores for the point moved to the nearest place in its area"
 pub dragged-slider-stores : (now : Moment) → Arises now → (c : Contact) → numberGiven now (contact c) ≡ 0
     → isDown (now .panel .registers) ≡ true → (r : Record) → now .panel .catch ≡ Caught r → (f : SliderFields) → r .kind ≡ Slider f
-    → valueIn (digitMode (r .mode)) (wordAtAddress (after now (contact c) .words) (r .word))
-    ≡ slidTo roundedDown (signed (f .begin)) (signed (f .end)) (firstEdge (r .mode) (r .area)) (lastEdge (r .mode) (r .area)) (along (r .mode) x y)
+    → valueIn (digitMode (r .mode)) (wordAtAddress (after now (contact c) .lent .words) (r .word))
+    ≡ slidTo (roundingOf (now .panel .setup)) (signed (f .begin)) (signed (f .end)) (firstEdge (r .mode) (r .area)) (lastEdge (r .mode) (r .area)) (along (r .mode) (c .x) (c .y))
 unfolding afterContact numberGiven draggedOf
-dragged-slider-stores now arises table x y done down r caught f kind =
+dragged-slider-stores now arises c done down r caught f kind =
     let sound = reachable-sound (now .panel) (arises-reachable now arises) in
     let good = sound .pad .caught-good r caught .0 in
     let fit = always-fits now arises r f caught kind in
     let small = good-word (now .panel .setup) r good in
-    let whole = contact-done (now .panel) table (now .lent .words) x y done .whole in
+    let whole = contact-done (now .panel) c (now .lent) done .whole in
     let inside : r .word < length (now .lent .words) = omega arith in
     let old = wordAtAddress (now .lent .words) (r .word) in
-    ap (λ (m : Moment). valueIn (digitMode (r .mode)) (wordAtAddress (m .lent .words) (r .word))) (contact-leaves now table x y done)
-    ∙ ap (λ (l : List ℕ). valueIn (digitMode (r .mode)) (wordAtAddress l (r .word))) (dragged-words (padOf (now .panel)) table (now .lent .words) x y r down caught)
-    ∙ ap (valueIn (digitMode (r .mode))) (word-set (now .lent .words) (r .word) (draggedOf r old x y) inside)
-    ∙ ap (λ (k : Kind). valueIn (digitMode (r .mode)) (cond (isSlider k) (actedOf r old x y) old)) kind
-    ∙ slider-acts-as-printed r old x y (good-kind (now .panel .setup) r good) f kind (fit .0) (fit .1)
+    ap (λ (m : Moment). valueIn (digitMode (r .mode)) (wordAtAddress (m .lent .words) (r .word))) (contact-leaves now c done)
+    ∙ ap (λ (l : List ℕ). valueIn (digitMode (r .mode)) (wordAtAddress l (r .word))) (dragged-words (now .panel .setup) (padOf (now .panel)) (c .table) (now .lent .words) (c .x) (c .y) r down caught)
+    ∙ ap (valueIn (digitMode (r .mode))) (word-set (now .lent .words) (r .word) (draggedOf (now .panel .setup) r old (c .x) (c .y)) inside)
+    ∙ ap (λ (k : Kind). valueIn (digitMode (r .mode)) (cond (isSlider k) (actedOf (now .panel .setup) r old (c .x) (c .y)) old)) kind
+    ∙ slider-acts-as-printed (now .panel .setup) r old (c .x) (c .y) (good-kind (now .panel .setup) r good) f kind (fit .0) (fit .1)

@@ -83,4 +83,4 @@ pub content-bytes : (now : Moment) → Reachable (now .panel) → (command : ℕ
 content-bytes now reached command content hands =
     let sound = reachable-sound (now .panel) reached in
     let asks = handed-asks now command content hands in
-    told-bytes (now .panel) sound command content (sym (sound-ask-hands now sound (asks .whole) (asks .large)) ∙ hands)
+    told-bytes (now .panel) sound command content (sym (sound-ask-hands now sound (asks .well)) ∙ hands)

@@ -10,7 +10,7 @@ use Rattle.panel.specs.declared.StartAnswer.the-variants as start
 use Rattle.panel.specs.declared.ContactAnswer.the-variants as contact-answer
 use Rattle.panel.specs.Numbers.{startNumber}
 use Rattle.panel.specs.Start.{started, noPanel}
-use Rattle.panel.specs.Contacts.{contacting}
+use Rattle.panel.specs.Contacts.{contacting, Contact}
 use Rattle.panel.specs.Sound.{Sound}
 use Rattle.panel.proofs.Invariant.{reachable-sound}
 use Rattle.panel.proofs.Refusals.{refused-start-gives-none}
@@ -53,7 +53,7 @@ module _ (now : Moment) (arises : Arises now) (call : Call) (fits : Typed call) 
 -- 13: "the first wrong one is named"
 pub contact-names-first-wrong : (now : Moment) (c : Contact) (i : ℕ)
     → contacting (now .panel) c (now .lent) .contacted .answer ≡ contact-answer.WrongRecord i
-    → NamesFirstWrong (now .panel .setup) table i
+    → NamesFirstWrong (now .panel .setup) (c .table) i
 contact-names-first-wrong = TableNumbers.contact-names-first-wrong
 
 pub start-names-first-wrong : (setup : Setup) (table : List ℕ) (i : ℕ) → started setup table .answer ≡ start.WrongRecord i → NamesFirstWrong setup table i

@@ -23,7 +23,7 @@ use Rattle.registers.specs.Touched.{isDown, pageOf}
 use Rattle.words.specs.Words.{wordAtAddress, wordsOf}
 use Rattle.stores.specs.Store.{signed, valueIn, keyStores}
 use Rattle.stores.specs.Step.{stepped, fenced}
-use Rattle.stores.specs.Slider.{roundedDown, slidTo}
+use Rattle.stores.specs.Slider.{slidTo}
 use Rattle.touch.specs.declared.Record.{Record}
 use Rattle.touch.specs.declared.Kind.the-variants.{Key, Step, Slider}
 use Rattle.touch.specs.declared.StepFields.{StepFields}
@@ -34,7 +34,7 @@ use Rattle.touch.specs.Record.{up as stepsUp, round as goesRound, digitMode, al
 use Rattle.touch.specs.Find.{found}
 use Rattle.contact.specs.declared.Catch.the-variants.{Caught}
 use Rattle.panel.specs.State.{headerOf, panelRegister}
-use Rattle.demands.specs.Calls.{Moment, Call, ask, contact, lift, after, afterAll, numberGiven, handedOver, AllTyped, Arises}
+use Rattle.demands.specs.Calls.{Moment, Call, ask, contact, lift, after, afterAll, numberGiven, handedOver, AllTyped, Arises, WellLent}
 use Rattle.demands.specs.Reports.{rulesOf}
 use Rattle.demands.specs.Demand2.{NamesWord, NamesRegister, Some, ReadsBack, withReply, afterWrite, afterRead, afterStore, afterFetch, afterBadCheck, AskLeaves, afterContact, afterLift}
 use Rattle.demands.proofs.Calls.{arises-reachable}
@@ -45,6 +45,8 @@ use Rattle.demands.proofs.Asking as Asking
 use Rattle.demands.proofs.WrittenReads as WrittenReads
 use Rattle.demands.proofs.Sizes as Sizes
 use Rattle.demands.proofs.TouchEffects as TouchEffects
+use Rattle.panel.specs.Contacts.{Contact}
+use Rattle.touch.specs.Rounding.{roundingOf}
 use Rattle.demands.proofs.Caught as Caught
 
 -- "Frames .. are those of the .. manuals as condensed in document 01": the frame of any command and data within the limit is a good one, and every good
@@ -93,7 +95,7 @@ pub what-80-wrote-81-replies : (now : Moment) → Arises now → (content : List
     → (calls : List Call) → AllTyped calls
     → ((i : ℕ) → i < length (drop 1 content) → Some (λ then call. NamesRegister then (byteAt content 0 + i) call) (after now ask) calls → ⊥)
     → handedOver (afterAll (after now ask) calls) ask ≡ acceptedFrame 0x81 (byteAt content 0 ∷ length (drop 1 content) ∷ []) ∷ []
-    → after (afterAll (after now ask) calls) ask .room
+    → after (afterAll (after now ask) calls) ask .lent .room
     ≡ withReply (afterAll (after now ask) calls) 0x81 (byteAt content 0 ∷ length (drop 1 content) ∷ drop 1 content)
 what-80-wrote-81-replies now arises = WrittenReads.what-80-wrote-81-replies now (arises-reachable now arises)
 
@@ -104,55 +106,55 @@ pub what-82-wrote-83-replies : (now : Moment) → Arises now → (content : List
     → handedOver (afterAll (after now ask) calls) ask
     ≡ acceptedFrame 0x83 (byteAt content 0 ∷ byteAt content 1 ∷ length (wordsOf (drop 2 content)) ∷ []) ∷ []
     → length (wordsOf (drop 2 content)) ≤ 124
-    → after (afterAll (after now ask) calls) ask .room
+    → after (afterAll (after now ask) calls) ask .lent .room
     ≡ withReply (afterAll (after now ask) calls) 0x83 (byteAt content 0 ∷ byteAt content 1 ∷ length (wordsOf (drop 2 content)) ∷ drop 2 content)
 what-82-wrote-83-replies now arises = WrittenReads.what-82-wrote-83-replies now (arises-reachable now arises)
 
 -- "touch effects are those of ..": all that a contact and a lift leave that are answered 0
-pub contact-leaves : (now : Moment) (c : Contact) → numberGiven now (contact c) ≡ 0 → after now (contact c) ≡ afterContact now table x y
+pub contact-leaves : (now : Moment) (c : Contact) → numberGiven now (contact c) ≡ 0 → after now (contact c) ≡ afterContact now c
 contact-leaves = TouchEffects.contact-leaves
 
 pub lift-leaves : (now : Moment) → numberGiven now lift ≡ 0 → after now lift ≡ afterLift now
 lift-leaves = TouchEffects.lift-leaves
 
 -- "Contact while up: .. The first record of the current page holding the point acts": what it stores
-module _ (now : Moment) (table : List ℕ) (are : Bytes table) (x y : ℕ) (done : numberGiven now (contact c) ≡ 0)
-    (up : isDown (now .panel .registers) ≡ false) (i : ℕ) (r : Record) (acts : found table (pageOf (now .panel .registers)) x y ≡ At i r) where
+module _ (now : Moment) (c : Contact) (are : Bytes (c .table)) (done : numberGiven now (contact c) ≡ 0)
+    (up : isDown (now .panel .registers) ≡ false) (i : ℕ) (r : Record) (acts : found (c .table) (pageOf (now .panel .registers)) (c .x) (c .y) ≡ At i r) where
   -- Key: "mode 0 whole word, 1 high byte, 2 low byte; 14 code"
   pub key-stores : (code : ℕ) → r .kind ≡ Key code
-      → wordAtAddress (after now (contact c) .words) (r .word) ≡ keyStores (r .mode) (wordAtAddress (now .lent .words) (r .word)) code
-  key-stores = TouchEffects.key-stores now table are x y done up i r acts
+      → wordAtAddress (after now (contact c) .lent .words) (r .word) ≡ keyStores (r .mode) (wordAtAddress (now .lent .words) (r .word)) code
+  key-stores = TouchEffects.key-stores now c are done up i r acts
 
   -- "Step: t is the value with the step added or taken, as whole numbers. If t is within the ends, store t. Otherwise ..": read in its mode
   pub step-stores : (f : StepFields) → r .kind ≡ Step f
-      → valueIn (r .mode) (wordAtAddress (after now (contact c) .words) (r .word))
+      → valueIn (r .mode) (wordAtAddress (after now (contact c) .lent .words) (r .word))
       ≡ fenced (stepsUp f) (goesRound f) (signed (f .least)) (signed (f .greatest))
       (stepped (stepsUp f) (valueIn (r .mode) (wordAtAddress (now .lent .words) (r .word))) (f .step))
-  step-stores = TouchEffects.step-stores now table are x y done up i r acts
+  step-stores = TouchEffects.step-stores now c are done up i r acts
 
   -- "Slider: .. |end − begin|·d / w rounded down is moved from begin towards end.", upward and downward alike: read in its mode
   pub slider-stores : (f : SliderFields) → r .kind ≡ Slider f
-      → valueIn (digitMode (r .mode)) (wordAtAddress (after now (contact c) .words) (r .word))
-      ≡ slidTo roundedDown (signed (f .begin)) (signed (f .end)) (firstEdge (r .mode) (r .area)) (lastEdge (r .mode) (r .area)) (along (r .mode) x y)
-  slider-stores = TouchEffects.slider-stores now table are x y done up i r acts
+      → valueIn (digitMode (r .mode)) (wordAtAddress (after now (contact c) .lent .words) (r .word))
+      ≡ slidTo (roundingOf (now .panel .setup)) (signed (f .begin)) (signed (f .end)) (firstEdge (r .mode) (r .area)) (lastEdge (r .mode) (r .area)) (along (r .mode) (c .x) (c .y))
+  slider-stores = TouchEffects.slider-stores now c are done up i r acts
 
 -- "Contact while down: .. a caught slider stores for the point moved to the nearest place in its area"
 pub dragged-slider-stores : (now : Moment) → Arises now → (c : Contact) → numberGiven now (contact c) ≡ 0
     → isDown (now .panel .registers) ≡ true → (r : Record) → now .panel .catch ≡ Caught r → (f : SliderFields) → r .kind ≡ Slider f
-    → valueIn (digitMode (r .mode)) (wordAtAddress (after now (contact c) .words) (r .word))
-    ≡ slidTo roundedDown (signed (f .begin)) (signed (f .end)) (firstEdge (r .mode) (r .area)) (lastEdge (r .mode) (r .area)) (along (r .mode) x y)
+    → valueIn (digitMode (r .mode)) (wordAtAddress (after now (contact c) .lent .words) (r .word))
+    ≡ slidTo (roundingOf (now .panel .setup)) (signed (f .begin)) (signed (f .end)) (firstEdge (r .mode) (r .area)) (lastEdge (r .mode) (r .area)) (along (r .mode) (c .x) (c .y))
 dragged-slider-stores = Caught.dragged-slider-stores
 
 -- "What our frame writer writes, our reader reads back as the same command and data.": what it wrote into any room, under the header and the choice that
 -- are set up, given to the panel while nothing is held or waiting
 pub writer-reads-back : (now : Moment) → Arises now → NothingHeldOrWaiting (rulesOf (now .panel)) (keptOf (now .panel .reader))
-    → length (now .lent .words) ≡ wordCount → leastRoom ≤ length (now .lent .room) → (command : ℕ) (payload room : List ℕ) (n : ℕ)
+    → WellLent (now .lent) → (command : ℕ) (payload room : List ℕ) (n : ℕ)
     → writing (checkingOf (now .panel .setup)) (headerOf (now .panel .setup)) command payload room .answer ≡ Frame n
     → ReadsBack now (take n (writing (checkingOf (now .panel .setup)) (headerOf (now .panel .setup)) command payload room .room)) command payload
 writer-reads-back now arises = ReadBack.writer-reads-back now (arises-reachable now arises)
 
 -- "No word or register changes but those the command or touch rule names.": over any sequence of calls
-pub no-other-word-changes : (now : Moment) (calls : List Call) (k : ℕ) → wordAtAddress (afterAll now calls .words) k ≢ wordAtAddress (now .lent .words) k
+pub no-other-word-changes : (now : Moment) (calls : List Call) (k : ℕ) → wordAtAddress (afterAll now calls .lent .words) k ≢ wordAtAddress (now .lent .words) k
     → Some (λ then call. NamesWord then k call) now calls
 no-other-word-changes now calls k differs = ⊎-elim (λ same. absurd (differs same)) (λ named. named) (Named.word-stays-or-is-named now calls k)
 

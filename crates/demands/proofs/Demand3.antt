@@ -73,9 +73,9 @@ demand3-closed now ready calls typed damage frames good came begins-none none-wa
 
 pub demand3-after-mark : AfterAMark
 unfolding newPanel
-demand3-after-mark setup table words room is calls typed before came none-waits =
+demand3-after-mark setup table lent is calls typed before came none-waits =
     let line = lineOf setup in
-    let new = new-reader setup table words room is in
+    let new = new-reader setup table lent is in
     let now = begun setup table lent in
     let reachable = by-start setup table is in
     let c = carried line now reachable new calls typed in
@@ -89,12 +89,12 @@ demand3-after-mark setup table words room is calls typed before came none-waits 
 
 pub demand3-ready-again : ReadyAgain
 unfolding newPanel reportWaits
-demand3-ready-again setup table words room arises is calls typed before came none-waits checking =
+demand3-ready-again setup table lent arises is calls typed before came none-waits checking =
     let now = begun setup table lent in
-    let new = demand3-after-mark setup table words room is calls typed before came none-waits .new-reader in
+    let new = demand3-after-mark setup table lent is calls typed before came none-waits .new-reader in
     record {
       arises = calls-arise now calls typed arises;
-      checking-on = ap checkingOf (all-setup-stays now calls ∙ begun-setup setup table words room is) ∙ checking;
+      checking-on = ap checkingOf (all-setup-stays now calls ∙ begun-setup setup table lent is) ∙ checking;
       nothing = (ap (λ (r : Reader). keptOf r .bytes) new ∙ ap (λ (k : Kept). k .bytes) (kept-is (lineOf setup) fresh), none-waits);
     }
 

@@ -19,7 +19,7 @@ use Rattle.panel.specs.declared.Panel.{Panel}
 use Rattle.panel.specs.declared.StartAnswer.the-variants as start
 use Rattle.panel.specs.Start.{newPanel, started}
 use Rattle.panel.specs.Inputs.{fedByte, fedMark, fedBytes}
-use Rattle.panel.specs.Reporting.{handing}
+use Rattle.panel.specs.Reporting.{handing, handingOver}
 use Rattle.panel.specs.Sound.{lineOf}
 use Rattle.panel.specs.Reachable.{Reachable}
 use Rattle.panel.proofs.Ways.{contact-ways, lift-ways, report-ways}
@@ -30,6 +30,7 @@ use Rattle.demands.specs.Given.{givenAll}
 use Rattle.demands.proofs.Calls.{calls-reached}
 use Rattle.demands.proofs.Waits.{busy-waits}
 use Rattle.demands.proofs.Reading.{Carries, carries-all}
+use Rattle.commands.specs.Lent.{Lent}
 use Rattle.demands.proofs.Sizes.{started-new}
 
 -- a reader that is reached and holds nothing is a new one
@@ -59,11 +60,11 @@ module _ (line : Declared.Line) (now : Moment) (reachable : Reachable (now .pane
 pub new-reader : (setup : Setup) (table : List ℕ) (lent : Lent) → started setup table .answer ≡ start.Started
     → begun setup table lent .panel .reader ≡ readerOf (lineOf setup) fresh
 unfolding newPanel
-new-reader setup table words room is = ap (λ (p : Panel). p .reader) (started-new setup table is)
+new-reader setup table lent is = ap (λ (p : Panel). p .reader) (started-new setup table is)
 
 -- no call changes the setup
 setup-stays : (now : Moment) (call : Call) → after now call .panel .setup ≡ now .panel .setup
-unfolding after fedByte fedMark fedBytes handing
+unfolding after fedByte fedMark fedBytes handing handingOver
 setup-stays now (lend lent) = refl
 setup-stays now (byte b) = refl
 setup-stays now (bytes bs) = refl
@@ -72,7 +73,7 @@ setup-stays now ask =
     report-ways (now .panel) (now .lent) (λ r. r .reported .panel .setup ≡ now .panel .setup) (λ h payload. refl) (λ command is. refl)
     (λ command count is. refl)
 setup-stays now (contact c) =
-    contact-ways (now .panel) table (now .lent .words) x y (λ c. c .contacted .panel .setup ≡ now .panel .setup) (λ answer. refl) (λ good. refl)
+    contact-ways (now .panel) c (now .lent) (λ r. r .contacted .panel .setup ≡ now .panel .setup) (λ answer. refl) (λ good. refl)
 setup-stays now lift = lift-ways (now .panel) (λ l. l .panel .setup ≡ now .panel .setup) refl refl refl
 
 pub all-setup-stays : (now : Moment) (calls : List Call) → afterAll now calls .panel .setup ≡ now .panel .setup
@@ -82,4 +83,4 @@ all-setup-stays now (call ∷ calls) = all-setup-stays (after now call) calls �
 
 pub begun-setup : (setup : Setup) (table : List ℕ) (lent : Lent) → started setup table .answer ≡ start.Started → begun setup table lent .panel .setup ≡ setup
 unfolding newPanel
-begun-setup setup table words room is = ap (λ (p : Panel). p .setup) (started-new setup table is)
+begun-setup setup table lent is = ap (λ (p : Panel). p .setup) (started-new setup table is)

@@ -27,6 +27,7 @@ use Rattle.demands.specs.Idle.{RefusesEveryFrame, ReadsFirstFrameOnly, R
 use Rattle.demands.proofs.Computed.{computingStart, computingCalls}
 use Rattle.demands.proofs.Demand2.{writes-registers, reads-registers, writes-words, reads-words}
 use Rattle.demands.proofs.Demand3.{demand3-closed}
+use Rattle.commands.specs.Lent.{lending}
 use Rattle.demands.proofs.Story.{copies-below, new-arises, new-ready, version-good, version-bytes}
 
 -- the new panel once a mark has come
@@ -135,7 +136,7 @@ abbrev plain : Setup
 plain = record { h1 = 0x5A; h2 = 0xA5; flags = 0; pages = 2; width = 800; height = 480 }
 
 abbrev fed : (words frame : List ℕ) → Moment
-fed words frame = after (begun plain [] words (replicate leastRoom 0)) (bytes frame)
+fed words frame = after (begun plain [] (lending words (replicate leastRoom 0))) (bytes frame)
 
 abbrev zeros : List ℕ
 zeros = replicate wordCount 0
@@ -167,8 +168,8 @@ plain-started = refl
 fed-arises : (w : ℕ) (frame : List ℕ) → w < 65536 → allBytes frame ≡ true → Arises (fed (replicate wordCount w) frame)
 unfolding Typed
 fed-arises w frame below are =
-    by-call (begun plain [] (replicate wordCount w) (replicate leastRoom 0)) (bytes frame) (tested-bytes frame are)
-    (from-start plain [] (replicate wordCount w) (replicate leastRoom 0) (omega arith) (omega arith) (λ k. copies-below wordCount w k below) plain-started)
+    by-call (begun plain [] (lending (replicate wordCount w) (replicate leastRoom 0))) (bytes frame) (tested-bytes frame are)
+    (from-start plain [] (lending (replicate wordCount w) (replicate leastRoom 0)) (omega arith) (omega arith) (λ k. copies-below wordCount w k below) plain-started)
 
 -- such a frame is handed over and its command is done
 record CommandDone (words frame : List ℕ) (command : ℕ) (content : List ℕ) : Type 0 where
@@ -197,13 +198,13 @@ all-done =
 
 -- what is left, of any build
 module _ (left : LeftByAsking) (demand : DoesCommands left) where
-  word-is-500 : wordAtAddress (left (fed zeros storeFrame) .words) 0x0010 ≡ 500
+  word-is-500 : wordAtAddress (left (fed zeros storeFrame) .lent .words) 0x0010 ≡ 500
   unfolding computingCalls allBytes
   word-is-500 =
       ap (λ (m : Moment). wordAtAddress (m .lent .words) 0x0010)
       (demand .stores (fed zeros storeFrame) (fed-arises 0 storeFrame (omega arith) refl) (0x00 ∷ 0x10 ∷ 0x01 ∷ 0xF4 ∷ []) (all-done .storing .done) (all-done .storing .hands))
 
-  word-was-0 : wordAtAddress (fed zeros storeFrame .words) 0x0010 ≡ 0
+  word-was-0 : wordAtAddress (fed zeros storeFrame .lent .words) 0x0010 ≡ 0
   unfolding computingCalls
   word-was-0 = refl
 
@@ -217,7 +218,7 @@ module _ (left : LeftByAsking) (demand : DoesCommands left) where
   pub does-a-command : RefusesEveryCommand left → ⊥
   unfolding leaving
   does-a-command idle =
-      let stands : left (fed zeros storeFrame) .words ≡ (fed zeros storeFrame) .words = ap (λ (m : Moment). m .lent .words) (idle (fed zeros storeFrame) 0x82 (0x00 ∷ 0x10 ∷ 0x01 ∷ 0xF4 ∷ []) (all-done .storing .hands)) in
+      let stands : left (fed zeros storeFrame) .lent .words ≡ (fed zeros storeFrame) .lent .words = ap (λ (m : Moment). m .lent .words) (idle (fed zeros storeFrame) 0x82 (0x00 ∷ 0x10 ∷ 0x01 ∷ 0xF4 ∷ []) (all-done .storing .hands)) in
       let same : _≡_ {A = ℕ} 500 0 = sym word-is-500 ∙ ap (λ (ws : List ℕ). wordAtAddress ws 0x0010) stands ∙ word-was-0 in
       omega arith
 
@@ -237,11 +238,11 @@ module _ (left : LeftByAsking) (demand : DoesCommands left) where
       omega arith
 
   -- the replies: byte 8 of the one is the word's low byte, byte 6 of the other the register
-  replied-0 : getD (left (fed zeros fetchFrame) .room) 8 0 ≡ 0
+  replied-0 : getD (left (fed zeros fetchFrame) .lent .room) 8 0 ≡ 0
   unfolding computingCalls allBytes
   replied-0 = ap (λ (m : Moment). getD (m .lent .room) 8 0) (demand .fetches (fed zeros fetchFrame) (fed-arises 0 fetchFrame (omega arith) refl) (0x00 ∷ 0x10 ∷ 0x01 ∷ []) (all-done .fetching-0 .done) (all-done .fetching-0 .hands))
 
-  replied-1 : getD (left (fed ones fetchFrame) .room) 8 0 ≡ 1
+  replied-1 : getD (left (fed ones fetchFrame) .lent .room) 8 0 ≡ 1
   unfolding computingCalls allBytes
   replied-1 = ap (λ (m : Moment). getD (m .lent .room) 8 0) (demand .fetches (fed ones fetchFrame) (fed-arises 1 fetchFrame (omega arith) refl) (0x00 ∷ 0x10 ∷ 0x01 ∷ []) (all-done .fetching-1 .done) (all-done .fetching-1 .hands))
 
@@ -253,11 +254,11 @@ module _ (left : LeftByAsking) (demand : DoesCommands left) where
       let same : _≡_ {A = ℕ} 0 1 = sym replied-0 ∙ ap (λ (r : List ℕ). getD r 8 0) alike ∙ replied-1 in
       omega arith
 
-  replied-version : getD (left (fed zeros versionFrame) .room) 6 0 ≡ 0x10
+  replied-version : getD (left (fed zeros versionFrame) .lent .room) 6 0 ≡ 0x10
   unfolding computingCalls allBytes
   replied-version = ap (λ (m : Moment). getD (m .lent .room) 6 0) (demand .reads (fed zeros versionFrame) (fed-arises 0 versionFrame (omega arith) refl) (0x00 ∷ 0x01 ∷ []) (all-done .reading-version .done) (all-done .reading-version .hands))
 
-  replied-light : getD (left (fed zeros lightFrame) .room) 6 0 ≡ 0x3F
+  replied-light : getD (left (fed zeros lightFrame) .lent .room) 6 0 ≡ 0x3F
   unfolding computingCalls allBytes
   replied-light = ap (λ (m : Moment). getD (m .lent .room) 6 0) (demand .reads (fed zeros lightFrame) (fed-arises 0 lightFrame (omega arith) refl) (0x01 ∷ 0x01 ∷ []) (all-done .reading-light .done) (all-done .reading-light .hands))
 

@@ -17,19 +17,17 @@ use Rattle.words.specs.Words.{wordAtAddress, wordsOf}
 use Rattle.commands.specs.declared.Outcome.{Outcome}
 use Rattle.commands.specs.declared.Outcome.the-variants.{Done, UnknownCommand, WrongData, PastEnd, Unwritable, WrongValue, ReplyTooLong}
 use Rattle.commands.specs.Outcome as Outcome
-use Rattle.commands.specs.Outcome.{outcome}
-use Rattle.commands.specs.Effect.{isDone}
+use Rattle.commands.specs.Outcome.{outcome, isDone}
 use Rattle.commands.proofs.Named as Command
 use Rattle.commands.proofs.Performance.{performs-outcome}
-use Rattle.touch.specs.Setup.{checkingOf}
 use Rattle.contact.specs.Contact as Contact
 use Rattle.contact.proofs.Named as Touch
 use Rattle.panel.specs.declared.Panel.{Panel}
 use Rattle.panel.specs.Numbers.{reportNumber, contactNumber, liftNumber}
-use Rattle.panel.specs.State.{headerOf, padOf, panelRegister}
+use Rattle.panel.specs.State.{padOf, panelRegister, fixedFor}
 use Rattle.panel.specs.Inputs.{fedByte, fedMark, fedBytes}
-use Rattle.panel.specs.Reporting.{acknowledged, accepting, Reporting, handing, reporting}
-use Rattle.panel.specs.Contacts.{contacting, lifting}
+use Rattle.panel.specs.Reporting.{acknowledged, accepting, Reporting, handing, reporting, handingOver}
+use Rattle.panel.specs.Contacts.{contacting, lifting, Contact}
 use Rattle.panel.specs.Reachable.{Reachable}
 use Rattle.panel.proofs.Ways.{contact-ways, lift-ways, report-ways}
 use Rattle.panel.proofs.Invariant.{always-256-registers}
@@ -37,6 +35,7 @@ use Rattle.demands.specs.Calls.{Moment, Call, lend, byte, bytes, mark, a
 use Rattle.demands.specs.Demand2.{NamesWord, by-store, by-acting, by-dragging, by-lending, NamesRegister, by-write, by-status, by-place, by-page, by-lifting, Some, here, later}
 use Rattle.demands.proofs.Calls.{call-reached}
 use Rattle.demands.proofs.TouchedRegisters as Registers
+use Rattle.commands.specs.Lent.{Lent, withRoom}
 use Rattle.demands.proofs.TouchedRegisters.{Touches, touched-register}
 
 -- what is done has number 0
@@ -55,26 +54,26 @@ record Handing (command : ℕ) (content : List ℕ) (r : Reporting) : Type 0 whe
   handed : reportHanded (r .reported .handed) (r .reported .payload) ≡ acceptedFrame command content ∷ []
   done : reportNumber (r .reported .handed) ≡ 0
 
-module _ (panel : Panel) (words room : List ℕ) (command count : ℕ) where
+module _ (panel : Panel) (lent : Lent) (command count : ℕ) where
   abbrev content : List ℕ
   content = take count (asked (panel .reader) .payload)
 
   abbrev frameHanded : Reporting
-  frameHanded = handing (asked (panel .reader)) (line.Accepted command count) panel words room
+  frameHanded = handing (asked (panel .reader)) (line.Accepted command count) panel lent
 
-  frame-done : (known : ℕ) → command ≡ known → isDone (outcome (panel .setup .pages) (length words) (checkingOf (panel .setup)) known content) ≡ true
+  frame-done : (known : ℕ) → command ≡ known → isDone (outcome (fixedFor (panel .setup)) (length (lent .words)) known content) ≡ true
       → Handing known content frameHanded
-  unfolding handing accepting reportHanded reportNumber
+  unfolding handing handingOver accepting reportHanded reportNumber
   frame-done known is done =
       let setup = panel .setup in
-      let answer = acknowledged setup command true room in
+      let answer = acknowledged setup command true (lent .room) in
       record {
         handed = ap (λ (c : ℕ). acceptedFrame c content ∷ []) is;
         done =
             ap Outcome.numberOfOutcome
-            (performs-outcome (panel .registers) (setup .pages) (checkingOf setup) (headerOf setup) command content words (drop (answer .count) (answer .room)))
-            ∙ ap (λ (c : ℕ). Outcome.numberOfOutcome (outcome (setup .pages) (length words) (checkingOf setup) c content)) is
-            ∙ done-is-0 (outcome (setup .pages) (length words) (checkingOf setup) known content) done;
+            (performs-outcome (fixedFor setup) (panel .registers) command content (withRoom lent (drop (answer .count) (answer .room))))
+            ∙ ap (λ (c : ℕ). Outcome.numberOfOutcome (outcome (fixedFor setup) (length (lent .words)) c content)) is
+            ∙ done-is-0 (outcome (fixedFor setup) (length (lent .words)) known content) done;
       }
 
 -- a word over an ask
@@ -84,56 +83,56 @@ record StoredWord (k : ℕ) (r : Reporting) : Type 0 where
   from : wordAt content 0 ≤ k
   below : k < wordAt content 0 + length (wordsOf (drop 2 content))
 
-asked-word : (panel : Panel) (words room : List ℕ) (k : ℕ)
-    → (wordAtAddress (reporting panel lent .words) k ≡ wordAtAddress words k) ⊎ StoredWord k (reporting panel lent)
-unfolding handing accepting outcome
-asked-word panel words room k =
-    report-ways panel words room (λ r. (wordAtAddress (r .words) k ≡ wordAtAddress words k) ⊎ StoredWord k r) (λ h payload. inl refl) (λ command is. inl refl)
+asked-word : (panel : Panel) (lent : Lent) (k : ℕ)
+    → (wordAtAddress (reporting panel lent .lent .words) k ≡ wordAtAddress (lent .words) k) ⊎ StoredWord k (reporting panel lent)
+unfolding handing handingOver accepting outcome
+asked-word panel lent k =
+    report-ways panel lent (λ r. (wordAtAddress (r .lent .words) k ≡ wordAtAddress (lent .words) k) ⊎ StoredWord k r) (λ h payload. inl refl) (λ command is. inl refl)
     (λ command count is.
     let setup = panel .setup in
-    let answer = acknowledged setup command true room in
+    let answer = acknowledged setup command true (lent .room) in
     let content = take count (asked (panel .reader) .payload) in
     ⊎-elim inl
     (λ named. inr (record {
       content = content;
-      handing = frame-done panel words room command count 0x82 (named .writes) (named .done);
+      handing = frame-done panel lent command count 0x82 (named .writes) (named .done);
       from = named .from;
       below = named .below;
     }))
-    (Command.word-named (panel .registers) (setup .pages) (checkingOf setup) (headerOf setup) content words (drop (answer .count) (answer .room)) command k))
+    (Command.word-named (fixedFor setup) (panel .registers) content (withRoom lent (drop (answer .count) (answer .room))) command k))
 
 -- a word over a contact
-contacted-word : (now : Moment) (table : List ℕ) (x y k : ℕ)
-    → (wordAtAddress (contacting (now .panel) c (now .lent) .words) k ≡ wordAtAddress (now .lent .words) k) ⊎ NamesWord now k (contact c)
+contacted-word : (now : Moment) (c : Contact) (k : ℕ)
+    → (wordAtAddress (contacting (now .panel) c (now .lent) .lent .words) k ≡ wordAtAddress (now .lent .words) k) ⊎ NamesWord now k (contact c)
 unfolding numberGiven contactNumber
-contacted-word now table x y k =
+contacted-word now c k =
     ⊎-elim inl (λ named. inr (by-touch (named .0) (named .1)))
-    (contact-ways (now .panel) table (now .lent .words) x y
-    (λ c. (wordAtAddress (c .words) k ≡ wordAtAddress (now .lent .words) k)
-    ⊎ ((contactNumber (c .contacted .answer) ≡ 0) × Touch.NamesWord (padOf (now .panel)) table x y k))
+    (contact-ways (now .panel) c (now .lent)
+    (λ r. (wordAtAddress (r .lent .words) k ≡ wordAtAddress (now .lent .words) k)
+    ⊎ ((contactNumber (r .contacted .answer) ≡ 0) × Touch.NamesWord (padOf (now .panel)) (c .table) (c .x) (c .y) k))
     (λ answer. inl refl)
-    (λ good. ⊎-elim inl (λ named. inr (refl, named)) (Touch.word-named (padOf (now .panel)) table (now .lent .words) x y k)))
+    (λ good. ⊎-elim inl (λ named. inr (refl, named)) (Touch.word-named (now .panel .setup) (padOf (now .panel)) (c .table) (now .lent .words) (c .x) (c .y) k)))
   where
-    by-touch : contactNumber (contacting (now .panel) c (now .lent) .contacted .answer) ≡ 0 → Touch.NamesWord (padOf (now .panel)) table x y k
+    by-touch : contactNumber (contacting (now .panel) c (now .lent) .contacted .answer) ≡ 0 → Touch.NamesWord (padOf (now .panel)) (c .table) (c .x) (c .y) k
         → NamesWord now k (contact c)
-    by-touch done (Touch.acts i r up is word) = by-acting table x y i r done up is word
-    by-touch done (Touch.drags r down is word) = by-dragging table x y r done down is word
+    by-touch done (Touch.acts i r up is word) = by-acting c i r done up is word
+    by-touch done (Touch.drags r down is word) = by-dragging c r done down is word
 
 -- a word over words lent anew
-lent-word : (now : Moment) (words room : List ℕ) (k : ℕ)
-    → (wordAtAddress words k ≡ wordAtAddress (now .lent .words) k) ⊎ NamesWord now k (lend lent)
-lent-word now words room k = go (eqb (wordAtAddress words k) (wordAtAddress (now .lent .words) k)) refl
+lent-word : (now : Moment) (lent : Lent) (k : ℕ)
+    → (wordAtAddress (lent .words) k ≡ wordAtAddress (now .lent .words) k) ⊎ NamesWord now k (lend lent)
+lent-word now lent k = go (eqb (wordAtAddress (lent .words) k) (wordAtAddress (now .lent .words) k)) refl
   where
-    go : (b : Bool) → eqb (wordAtAddress words k) (wordAtAddress (now .lent .words) k) ≡ b
-        → (wordAtAddress words k ≡ wordAtAddress (now .lent .words) k) ⊎ NamesWord now k (lend lent)
-    go true is = inl (eqb-true (wordAtAddress words k) (wordAtAddress (now .lent .words) k) is)
-    go false is = inr (by-lending words room (eqb-false (wordAtAddress words k) (wordAtAddress (now .lent .words) k) is))
+    go : (b : Bool) → eqb (wordAtAddress (lent .words) k) (wordAtAddress (now .lent .words) k) ≡ b
+        → (wordAtAddress (lent .words) k ≡ wordAtAddress (now .lent .words) k) ⊎ NamesWord now k (lend lent)
+    go true is = inl (eqb-true (wordAtAddress (lent .words) k) (wordAtAddress (now .lent .words) k) is)
+    go false is = inr (by-lending lent (eqb-false (wordAtAddress (lent .words) k) (wordAtAddress (now .lent .words) k) is))
 
 -- a word over any call: it stays, or the call names it
 pub call-names-word : (now : Moment) (call : Call) (k : ℕ)
-    → (wordAtAddress (after now call .words) k ≡ wordAtAddress (now .lent .words) k) ⊎ NamesWord now k call
+    → (wordAtAddress (after now call .lent .words) k ≡ wordAtAddress (now .lent .words) k) ⊎ NamesWord now k call
 unfolding after numberGiven handedOver
-call-names-word now (lend lent) k = lent-word now words room k
+call-names-word now (lend lent) k = lent-word now lent k
 call-names-word now (byte b) k = inl refl
 call-names-word now (bytes bs) k = inl refl
 call-names-word now mark k = inl refl
@@ -141,12 +140,12 @@ call-names-word now ask k =
     ⊎-elim inl
     (λ stored. inr (by-store (stored .content) (stored .handing .handed) (stored .handing .done) (stored .from) (stored .below)))
     (asked-word (now .panel) (now .lent) k)
-call-names-word now (contact c) k = contacted-word now table x y k
+call-names-word now (contact c) k = contacted-word now c k
 call-names-word now lift k = inl refl
 
 -- a word over any sequence of calls: it stays, or some call of the sequence names it
 pub word-stays-or-is-named : (now : Moment) (calls : List Call) (k : ℕ)
-    → (wordAtAddress (afterAll now calls .words) k ≡ wordAtAddress (now .lent .words) k) ⊎ Some (λ then call. NamesWord then k call) now calls
+    → (wordAtAddress (afterAll now calls .lent .words) k ≡ wordAtAddress (now .lent .words) k) ⊎ Some (λ then call. NamesWord then k call) now calls
 unfolding afterAll
 word-stays-or-is-named now [] k = inl refl
 word-stays-or-is-named now (call ∷ calls) k =
@@ -162,43 +161,43 @@ record WrittenRegister (address : ℕ) (r : Reporting) : Type 0 where
   from : byteAt content 0 ≤ address
   below : address < byteAt content 0 + length (drop 1 content)
 
-asked-register : (panel : Panel) → length (panel .registers .bytes) ≡ registerCount → (words room : List ℕ) (address : ℕ)
+asked-register : (panel : Panel) → length (panel .registers .bytes) ≡ registerCount → (lent : Lent) (address : ℕ)
     → (panelRegister (reporting panel lent .reported .panel) address ≡ panelRegister panel address) ⊎ WrittenRegister address (reporting panel lent)
-unfolding handing accepting outcome
-asked-register panel whole words room address =
-    report-ways panel words room (λ r. (panelRegister (r .reported .panel) address ≡ panelRegister panel address) ⊎ WrittenRegister address r)
+unfolding handing handingOver accepting outcome
+asked-register panel whole lent address =
+    report-ways panel lent (λ r. (panelRegister (r .reported .panel) address ≡ panelRegister panel address) ⊎ WrittenRegister address r)
     (λ h payload. inl refl) (λ command is. inl refl)
     (λ command count is.
     let setup = panel .setup in
-    let answer = acknowledged setup command true room in
+    let answer = acknowledged setup command true (lent .room) in
     let content = take count (asked (panel .reader) .payload) in
     ⊎-elim inl
     (λ named. inr (record {
       content = content;
-      handing = frame-done panel words room command count 0x80 (named .writes) (named .done);
+      handing = frame-done panel lent command count 0x80 (named .writes) (named .done);
       from = named .from;
       below = named .below;
     }))
-    (Command.register-named (panel .registers) (setup .pages) (checkingOf setup) (headerOf setup) content words (drop (answer .count) (answer .room)) command whole address))
+    (Command.register-named (fixedFor setup) (panel .registers) content (withRoom lent (drop (answer .count) (answer .room))) command whole address))
 
 -- a register over a contact
-contacted-register : (now : Moment) → length (now .panel .registers .bytes) ≡ registerCount → (table : List ℕ) (x y address : ℕ)
+contacted-register : (now : Moment) → length (now .panel .registers .bytes) ≡ registerCount → (c : Contact) (address : ℕ)
     → (panelRegister (contacting (now .panel) c (now .lent) .contacted .panel) address ≡ panelRegister (now .panel) address)
     ⊎ NamesRegister now address (contact c)
 unfolding numberGiven contactNumber
-contacted-register now whole table x y address =
+contacted-register now whole c address =
     ⊎-elim inl (λ named. inr (by-touch (named .0) (named .1)))
-    (contact-ways (now .panel) table (now .lent .words) x y
-    (λ c. (panelRegister (c .contacted .panel) address ≡ panelRegister (now .panel) address)
-    ⊎ ((contactNumber (c .contacted .answer) ≡ 0) × Touches (padOf (now .panel)) table x y address))
+    (contact-ways (now .panel) c (now .lent)
+    (λ r. (panelRegister (r .contacted .panel) address ≡ panelRegister (now .panel) address)
+    ⊎ ((contactNumber (r .contacted .answer) ≡ 0) × Touches (padOf (now .panel)) (c .table) (c .x) (c .y) address))
     (λ answer. inl refl)
-    (λ good. ⊎-elim inl (λ named. inr (refl, named)) (touched-register (padOf (now .panel)) whole table x y address (now .lent .words))))
+    (λ good. ⊎-elim inl (λ named. inr (refl, named)) (touched-register (padOf (now .panel)) whole (c .table) (c .x) (c .y) address (now .panel .setup) (now .lent .words))))
   where
-    by-touch : contactNumber (contacting (now .panel) c (now .lent) .contacted .answer) ≡ 0 → Touches (padOf (now .panel)) table x y address
+    by-touch : contactNumber (contacting (now .panel) c (now .lent) .contacted .answer) ≡ 0 → Touches (padOf (now .panel)) (c .table) (c .x) (c .y) address
         → NamesRegister now address (contact c)
-    by-touch done (Registers.status is) = by-status table x y done is
-    by-touch done (Registers.place flag is) = by-place table x y done flag is
-    by-touch done (Registers.page i r up is next at) = by-page table x y i r done up is next at
+    by-touch done (Registers.status is) = by-status c done is
+    by-touch done (Registers.place flag is) = by-place c done flag is
+    by-touch done (Registers.page i r up is next at) = by-page c i r done up is next at
 
 -- a register over a lift
 lifted-register : (now : Moment) → length (now .panel .registers .bytes) ≡ registerCount → (address : ℕ)
@@ -227,7 +226,7 @@ call-names-register now whole ask address =
     ⊎-elim inl
     (λ stored. inr (by-write (stored .content) (stored .handing .handed) (stored .handing .done) (stored .from) (stored .below)))
     (asked-register (now .panel) whole (now .lent) address)
-call-names-register now whole (contact c) address = contacted-register now whole table x y address
+call-names-register now whole (contact c) address = contacted-register now whole c address
 call-names-register now whole lift address = lifted-register now whole address
 
 -- a register over any sequence of calls, from a panel that is reached: it stays, or some call of the sequence names it

@@ -106,7 +106,7 @@ call-as-printed now reached (byte b) typed = byte-number now (reachable-sound (n
 call-as-printed now reached (bytes bs) typed = bytes-number now reached bs typed
 call-as-printed now reached mark typed = mark-number now (reachable-sound (now .panel) reached)
 call-as-printed now reached ask typed = ask-number now (reachable-sound (now .panel) reached)
-call-as-printed now reached (contact c) typed = contact-number now (reachable-sound (now .panel) reached) table x y
+call-as-printed now reached (contact c) typed = contact-number now (reachable-sound (now .panel) reached) c
 call-as-printed now reached lift typed = lift-number now (reachable-sound (now .panel) reached)
 
 -- frame writer: "it refuses with 14, then 3"

@@ -40,7 +40,7 @@ use Rattle.panel.specs.Inputs.{fedBytes}
 use Rattle.panel.specs.Sound.{lineOf, Sound}
 use Rattle.panel.specs.Reachable.{Reachable}
 use Rattle.panel.proofs.Invariant.{reachable-sound}
-use Rattle.demands.specs.Calls.{Moment, bytes, ask, after, numberGiven, handedOver}
+use Rattle.demands.specs.Calls.{Moment, bytes, ask, after, numberGiven, handedOver, WellLent}
 use Rattle.demands.specs.Reports.{rulesOf}
 use Rattle.demands.specs.Demand2.{ReadsBack}
 use Rattle.demands.proofs.Waits.{kept-same, reader-is, ask-hands, ask-reads-on}
@@ -153,7 +153,7 @@ empty-reader panel sound nothing =
 
 -- the panel takes a good frame whole, hands it over and holds nothing
 module _ (now : Moment) (sound : Sound (now .panel)) (nothing : NothingHeldOrWaiting (rulesOf (now .panel)) (keptOf (now .panel .reader)))
-    (whole : length (now .lent .words) ≡ wordCount) (large : leastRoom ≤ length (now .lent .room)) (frame : List ℕ) (good : Good (rulesOf (now .panel)) frame) where
+    (well : WellLent (now .lent)) (frame : List ℕ) (good : Good (rulesOf (now .panel)) frame) where
   abbrev line : Line
   line = lineOf (now .panel .setup)
 
@@ -171,7 +171,7 @@ module _ (now : Moment) (sound : Sound (now .panel)) (nothing : NothingHeldOrWai
   frame-is-handed-over : handedOver (after now (bytes frame)) ask ≡ reportOfFrame (rulesOf (now .panel)) frame ∷ []
   unfolding after fedBytes
   frame-is-handed-over =
-      ask-hands (after now (bytes frame)) (come frame) (ap (λ (g : Gave). g .reader) taken-whole) few whole large ∙ frame-waits line frame good
+      ask-hands (after now (bytes frame)) (come frame) (ap (λ (g : Gave). g .reader) taken-whole) few well ∙ frame-waits line frame good
 
   asked-then : asked (after now (bytes frame) .panel .reader) ≡ record {
     report = reportAs (reportOfFrame (rulesOf (now .panel)) frame ∷ []);
@@ -187,7 +187,7 @@ module _ (now : Moment) (sound : Sound (now .panel)) (nothing : NothingHeldOrWai
   reader-then : after (after now (bytes frame)) ask .panel .reader ≡ readerOf line fresh
   unfolding after fedBytes reportAs reportOfFrame
   reader-then =
-      ask-reads-on (after now (bytes frame)) whole large _ _ (ap (λ (a : Asked). a .report) asked-then) ∙ ap (λ (a : Asked). a .reader) asked-then
+      ask-reads-on (after now (bytes frame)) well _ _ (ap (λ (a : Asked). a .report) asked-then) ∙ ap (λ (a : Asked). a .reader) asked-then
 
   good-reads-back : (command : ℕ) (payload : List ℕ) → reportOfFrame (rulesOf (now .panel)) frame ≡ acceptedFrame command payload → ReadsBack now frame command payload
   good-reads-back command payload is =
@@ -219,14 +219,14 @@ wrote checking header command payload room n = go (ltb (length room) leastRoom) 
 -- At any panel that calls reach from a start, while nothing is held or waiting: what the writer wrote into any room, under the header and the choice that
 -- are set up.
 pub writer-reads-back : (now : Moment) → Reachable (now .panel) → NothingHeldOrWaiting (rulesOf (now .panel)) (keptOf (now .panel .reader))
-    → length (now .lent .words) ≡ wordCount → leastRoom ≤ length (now .lent .room) → (command : ℕ) (payload room : List ℕ) (n : ℕ)
+    → WellLent (now .lent) → (command : ℕ) (payload room : List ℕ) (n : ℕ)
     → writing (checkingOf (now .panel .setup)) (headerOf (now .panel .setup)) command payload room .answer ≡ Frame n
     → ReadsBack now (take n (writing (checkingOf (now .panel .setup)) (headerOf (now .panel .setup)) command payload room .room)) command payload
-writer-reads-back now reached nothing whole large command payload room n answer =
+writer-reads-back now reached nothing well command payload room n answer =
     let sound = reachable-sound (now .panel) reached in
     let checking = checkingOf (now .panel .setup) in
     let header = headerOf (now .panel .setup) in
     let done = wrote checking header command payload room n answer in
     rw (done .1)
-    (good-reads-back now sound nothing whole large (frameOf checking header command payload) (frameOf-good checking header command payload (done .0)) command payload
+    (good-reads-back now sound nothing well (frameOf checking header command payload) (frameOf-good checking header command payload (done .0)) command payload
     (reportOfFrame-frameOf checking header command payload))

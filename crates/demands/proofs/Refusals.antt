@@ -23,21 +23,19 @@ use Rattle.line.proofs.Truths.{never}
 use Rattle.commands.specs.declared.Outcome.{Outcome}
 use Rattle.commands.specs.declared.Outcome.the-variants.{Done, UnknownCommand, WrongData, PastEnd, Unwritable, WrongValue, ReplyTooLong}
 use Rattle.commands.specs.Outcome as Outcome
-use Rattle.commands.specs.Outcome.{outcome}
-use Rattle.commands.specs.Effect.{isDone}
-use Rattle.commands.specs.Perform.{performs, besideReply, noReply}
+use Rattle.commands.specs.Outcome.{outcome, isDone}
+use Rattle.commands.specs.Perform.{performs}
 use Rattle.commands.proofs.Refusals.{number-refuses, number-at-most-7, refusal-changes-nothing}
-use Rattle.touch.specs.Setup.{checkingOf}
 use Rattle.panel.specs.declared.Panel.{Panel}
 use Rattle.panel.specs.declared.ContactAnswer.{ContactAnswer}
 use Rattle.panel.specs.declared.ContactAnswer.the-variants as contact-answer
 use Rattle.panel.specs.declared.LiftAnswer.{LiftAnswer}
 use Rattle.panel.specs.declared.LiftAnswer.the-variants as lift-answer
 use Rattle.panel.specs.Numbers.{reportNumber, contactNumber, liftNumber}
-use Rattle.panel.specs.State.{headerOf, withReader}
+use Rattle.panel.specs.State.{withReader, fixedFor}
 use Rattle.panel.specs.Inputs.{fedByte, fedMark, fedBytes}
-use Rattle.panel.specs.Reporting.{lent, handing, reporting}
-use Rattle.panel.specs.Contacts.{contacting, lifting}
+use Rattle.panel.specs.Reporting.{handing, reporting, wellLent, handingOver}
+use Rattle.panel.specs.Contacts.{contacting, lifting, Contact}
 use Rattle.panel.specs.Sound.{Sound}
 use Rattle.panel.specs.Reachable.{Reachable, by-byte}
 use Rattle.panel.proofs.Refusals.{refused-report-14-changes-nothing, refused-contact-changes-nothing, refused-lift-changes-nothing}
@@ -49,6 +47,8 @@ use Rattle.demands.specs.Demand2.{leaving}
 use Rattle.demands.proofs.Answers.{momentAsked, momentTouched}
 use Rattle.demands.proofs.Waits.{busy-waits}
 use Rattle.demands.proofs.Numbers.{one-more}
+use Rattle.commands.specs.Lent.{withRoom}
+use Rattle.commands.specs.Effect.{answered}
 use Rattle.demands.proofs.FrameAsked.{Asks, handed-asks, done-number, performance-leaves}
 
 -- the numbers of a refused command
@@ -66,25 +66,25 @@ refused-numbers ReplyTooLong above = omega arith
 pub record CommandRefused (now : Moment) (command : ℕ) : Type 0 where
   pub at-least : 2 ≤ numberGiven now ask
   pub at-most : numberGiven now ask ≤ 7
-  pub left : after now ask ≡ leaving now command (now .panel .registers) (now .panel .catch) (now .lent .words) []
+  pub left : after now ask ≡ leaving now command (now .panel .registers) (now .panel .catch) (now .lent) []
 
 pub command-refused : (now : Moment) → Sound (now .panel) → (command : ℕ) (content : List ℕ) → Asks now command content → 0 < numberGiven now ask
     → CommandRefused now command
 command-refused now sound command content asks above =
     let setup = now .panel .setup in
-    let o = outcome (setup .pages) wordCount (checkingOf setup) command content in
+    let o = outcome (fixedFor setup) wordCount command content in
     let number : numberGiven now ask ≡ Outcome.numberOfOutcome o = done-number now sound command content asks in
     let above-0 : 0 < Outcome.numberOfOutcome o = omega arith in
     let answer = acknowledgementOf setup command true in
     let part = drop (length answer) (over answer (now .lent .room)) in
-    let p = outcome (setup .pages) (length (now .lent .words)) (checkingOf setup) command content in
-    let refused : isDone p ≡ false = rw (asks .whole) (number-refuses o above-0) in
+    let p = outcome (fixedFor setup) (length (now .lent .words)) command content in
+    let refused : isDone p ≡ false = rw (asks .well .words) (number-refuses o above-0) in
     record {
       at-least = omega (arith, refused-numbers o above-0);
       at-most = omega (arith, number-at-most-7 o);
-      left = performance-leaves now sound command content asks (now .panel .registers) false (now .lent .words) [] p 0
-          (refusal-changes-nothing (now .panel .registers) (setup .pages) (checkingOf setup) (headerOf setup) content (now .lent .words) part command refused
-          ∙ ap (λ (r : List ℕ). performs (besideReply (now .panel .registers) (noReply p)) (now .lent .words) r) (sym (over-nil part)));
+      left = performance-leaves now sound command content asks (answered p 0) (now .lent) []
+          (refusal-changes-nothing (fixedFor setup) (now .panel .registers) content (withRoom (now .lent) part) command refused
+          ∙ ap (λ (r : List ℕ). performs (answered p 0) (withRoom (now .lent) r)) (sym (over-nil part)));
     }
 
 frame-refused : (now : Moment) → Sound (now .panel) → (command : ℕ) (content : List ℕ) → Asks now command content
@@ -99,8 +99,7 @@ frame-refused now sound command content asks hands above =
       content = content;
       handed-over = hands;
       only-read-on = ap (λ (m : Moment). m .panel) (only .left);
-      words-stand = ap (λ (m : Moment). m .lent .words) (only .left);
-      only-acknowledged = ap (λ (m : Moment). m .lent .room) (only .left) ∙ ap (λ (l : List ℕ). over l (now .lent .room)) (append-nil answer);
+      only-acknowledged = ap (λ (m : Moment). m .lent) (only .left) ∙ ap (λ (l : List ℕ). withRoom (now .lent) (over l (now .lent .room))) (append-nil answer);
     })
 
 -- an ask that is lent what it must be is refused only at an accepted frame
@@ -112,12 +111,12 @@ lent-number now is told tells = rw (is, tells)
 lent-handed : (now : Moment) → wellLent (now .lent) ≡ true → (command count : ℕ)
     → asked (now .panel .reader) .report ≡ line.Accepted command count
     → handedOver now ask ≡ acceptedFrame command (take count (asked (now .panel .reader) .payload)) ∷ []
-unfolding handedOver reporting handing reportHanded
+unfolding handedOver reporting handing handingOver reportHanded
 lent-handed now is command count tells = rw (is, tells)
 
 lent-refused : (now : Moment) → Sound (now .panel) → wellLent (now .lent) ≡ true → (told : Report)
     → asked (now .panel .reader) .report ≡ told → 0 < numberGiven now ask → RefusalLeaves now ask
-unfolding handing reportNumber
+unfolding handing handingOver reportNumber
 lent-refused now sound is line.Nothing tells above = let none = lent-number now is line.Nothing tells in absurd (omega arith)
 lent-refused now sound is (line.BadCheck c) tells above = let none = lent-number now is (line.BadCheck c) tells in absurd (omega arith)
 lent-refused now sound is (line.Accepted c n) tells above =
@@ -185,10 +184,9 @@ lift-numbers lift-answer.IsUp above = inr (omega arith)
 
 contact-refused : (now : Moment) (c : Contact) → 0 < numberGiven now (contact c) → RefusalLeaves now (contact c)
 unfolding numberGiven after
-contact-refused now table x y above =
+contact-refused now c above =
     as-it-stood (contact c) (contact-numbers (contacting (now .panel) c (now .lent) .contacted .answer) above)
-    (ap (momentTouched)
-    (refused-contact-changes-nothing (now .panel) table (now .lent .words) x y above))
+    (ap momentTouched (refused-contact-changes-nothing (now .panel) c (now .lent) above))
 
 lift-refused : (now : Moment) → 0 < numberGiven now lift → RefusalLeaves now lift
 unfolding numberGiven after
@@ -260,5 +258,5 @@ call-refused now reached (byte b) typed above = byte-refused now b above
 call-refused now reached (bytes bs) typed above = bytes-refused now reached bs typed above
 call-refused now reached mark typed above = mark-refused now above
 call-refused now reached ask typed above = ask-refused now (reachable-sound (now .panel) reached) above
-call-refused now reached (contact c) typed above = contact-refused now table x y above
+call-refused now reached (contact c) typed above = contact-refused now c above
 call-refused now reached lift typed above = lift-refused now above

@@ -20,10 +20,10 @@ use Rattle.line.proofs.Truths.{never}
 use Rattle.panel.specs.declared.Panel.{Panel}
 use Rattle.panel.specs.declared.StartAnswer.the-variants as start
 use Rattle.panel.specs.State as State
-use Rattle.panel.specs.State.{headerOf, panelRegister}
+use Rattle.panel.specs.State.{panelRegister, fixedFor}
 use Rattle.panel.specs.Start.{refuses, newPanel, startJudged, started}
 use Rattle.panel.specs.Inputs.{fedByte, fedMark, fedBytes}
-use Rattle.panel.specs.Reporting.{acknowledged, accepting, handing}
+use Rattle.panel.specs.Reporting.{acknowledged, accepting, handing, handingOver}
 use Rattle.panel.specs.Sound.{Sound}
 use Rattle.panel.proofs.Ways.{contact-ways, lift-ways, report-ways}
 use Rattle.panel.proofs.Invariant.{reachable-sound}
@@ -31,6 +31,8 @@ use Rattle.demands.specs.Calls.{Moment, Call, lend, byte, bytes, mark, a
 use Rattle.demands.proofs.Calls.{arises-reachable}
 use Rattle.demands.proofs.Contents.{payload-bytes}
 use Rattle.demands.proofs.Below.{byte-some, below-take}
+use Rattle.commands.specs.Lent.{withRoom}
+use Rattle.panel.specs.Contacts.{Contact}
 use Rattle.demands.proofs.Storing.{start-bytes, status-bytes, touched-bytes, touched-words, performed-bytes, performed-words}
 
 -- over calls
@@ -39,34 +41,34 @@ record Sized (now : Moment) : Type 0 where
   words : Halfwords (now .lent .words)
 
 asked-sized : (now : Moment) → Sound (now .panel) → Sized now → Sized (after now ask)
-unfolding after handing accepting
+unfolding after handing handingOver accepting
 asked-sized now sound sized =
     let both =
-    report-ways panel (now .lent) (λ r. Bytes (r .reported .panel .registers .bytes) × Halfwords (r .words))
+    report-ways panel (now .lent) (λ r. Bytes (r .reported .panel .registers .bytes) × Halfwords (r .lent .words))
     (λ h payload. (sized .registers, sized .words)) (λ command is. (sized .registers, sized .words))
     (λ command count is.
     let setup = panel .setup in
     let answer = acknowledged setup command true (now .lent .room) in
     let content = take count (asked (panel .reader) .payload) in
-    let part = drop (answer .count) (answer .room) in
+    let part = withRoom (now .lent) (drop (answer .count) (answer .room)) in
     let are = below-take 256 byte-some count (asked (panel .reader) .payload) (payload-bytes panel sound) in (
-      performed-bytes (panel .registers) (setup .pages) (checkingOf setup) (headerOf setup) command content (now .lent .words) part are (sized .registers),
-      performed-words (panel .registers) (setup .pages) (checkingOf setup) (headerOf setup) command content (now .lent .words) part are (sized .words),
+      performed-bytes (fixedFor setup) (panel .registers) command content part are (sized .registers),
+      performed-words (fixedFor setup) (panel .registers) command content part are (sized .words),
     )) in
     record { registers = both .0; words = both .1 }
   where
     panel : Panel
     panel = now .panel
 
-contacted-sized : (now : Moment) (c : Contact) → Bytes table → x < 65536 → y < 65536 → Sized now → Sized (after now (contact c))
+contacted-sized : (now : Moment) (c : Contact) → Bytes (c .table) → c .x < 65536 → c .y < 65536 → Sized now → Sized (after now (contact c))
 unfolding after
-contacted-sized now table x y are in-x in-y sized =
+contacted-sized now c are in-x in-y sized =
     let both =
-    contact-ways (now .panel) table (now .lent .words) x y (λ c. Bytes (c .contacted .panel .registers .bytes) × Halfwords (c .words))
+    contact-ways (now .panel) c (now .lent) (λ r. Bytes (r .contacted .panel .registers .bytes) × Halfwords (r .lent .words))
     (λ answer. (sized .registers, sized .words))
     (λ good. (
-      touched-bytes (State.padOf (now .panel)) table (now .lent .words) x y (sized .registers) are in-x in-y,
-      touched-words (State.padOf (now .panel)) table (now .lent .words) x y (sized .registers) are in-x in-y (sized .words),
+      touched-bytes (now .panel .setup) (State.padOf (now .panel)) (c .table) (now .lent .words) (c .x) (c .y) (sized .registers) are in-x in-y,
+      touched-words (now .panel .setup) (State.padOf (now .panel)) (c .table) (now .lent .words) (c .x) (c .y) (sized .registers) are in-x in-y (sized .words),
     )) in
     record { registers = both .0; words = both .1 }
 
@@ -81,12 +83,12 @@ lifted-sized now sized =
 
 call-sized : (now : Moment) → Sound (now .panel) → (call : Call) → Typed call → Sized now → Sized (after now call)
 unfolding after Typed fedByte fedBytes fedMark
-call-sized now sound (lend lent) typed sized = record { registers = sized .registers; words = typed .0 }
+call-sized now sound (lend lent) typed sized = record { registers = sized .registers; words = typed .words }
 call-sized now sound (byte b) typed sized = record { registers = sized .registers; words = sized .words }
 call-sized now sound (bytes bs) typed sized = record { registers = sized .registers; words = sized .words }
 call-sized now sound mark typed sized = record { registers = sized .registers; words = sized .words }
 call-sized now sound ask typed sized = asked-sized now sound sized
-call-sized now sound (contact c) typed sized = contacted-sized now table x y (typed .0) (typed .1 .0) (typed .1 .1) sized
+call-sized now sound (contact c) typed sized = contacted-sized now c (typed .0) (typed .1 .0) (typed .1 .1) sized
 call-sized now sound lift typed sized = lifted-sized now sized
 
 -- a start that is done gives a new panel
@@ -103,7 +105,7 @@ started-new setup table = go (not (goodSetup setup)) (judged setup table)
 
 sized : (now : Moment) → Arises now → Sized now
 unfolding newPanel
-sized _ (from-start setup table words room h1 h2 are is) =
+sized _ (from-start setup table lent h1 h2 are is) =
     let new = start-bytes (setup .h1) (setup .h2) (checkingOf setup) (acknowledgingOf setup) h1 h2 in
     record { registers = λ i. rw (started-new setup table is) (new i); words = are }
 sized _ (by-call now call typed arises) = call-sized now (reachable-sound (now .panel) (arises-reachable now arises)) call typed (sized now arises)

@@ -15,16 +15,14 @@ use Rattle.wire.specs.Room.{laidAt}
 use Rattle.registers.specs.declared.Registers.{Registers}
 use Rattle.wire.specs.Addresses.{registerCount}
 use Rattle.registers.specs.Table.{holding, startRegisters, registerAt}
-use Rattle.registers.specs.Run.{written}
 use Rattle.registers.specs.Touched.{pageOf, withPage, isDown, withStatus, withPlace}
 use Rattle.words.specs.Words.{wordAtAddress, wordSet, wordsOf, wordsWritten}
-use Rattle.commands.specs.Outcome.{writeRegistersOutcome, writeWordsOutcome}
-use Rattle.commands.specs.Effect.{isDone}
-use Rattle.commands.specs.Perform.{performance}
+use Rattle.commands.specs.Outcome.{writeRegistersOutcome, writeWordsOutcome, isDone}
+use Rattle.commands.specs.Perform.{performance, registersBy}
 use Rattle.commands.proofs.Named.{registers-stay, registers-as-done, words-stay, words-as-done}
 use Rattle.stores.specs.Store.{inMode, signed, wordOf, valueIn, placed}
 use Rattle.stores.specs.Step.{stepped, fenced, stepStores}
-use Rattle.stores.specs.Slider.{roundedDown, slidTo, sliderStores}
+use Rattle.stores.specs.Slider.{slidTo, sliderStores}
 use Rattle.touch.specs.declared.Record.{Record}
 use Rattle.touch.specs.declared.Kind.{Kind}
 use Rattle.touch.specs.declared.Kind.the-variants.{Key, Step, Slider, Other}
@@ -43,11 +41,17 @@ use Rattle.contact.specs.Contact.{showing, catching, acting, pressed, dragging,
 use Rattle.demands.specs.Calls.{Halfwords}
 use Rattle.demands.proofs.Below.{byte-some, word-some, below-take, below-drop, below-append, below-set, below-laid, below-zeros}
 use Rattle.touch.specs.Act.{actedBy, actedOf, draggedOf}
+use Rattle.registers.specs.Run.{registersAfter}
+use Rattle.registers.proofs.Runs.{started as start-sets}
+use Rattle.commands.specs.declared.Fixed.{Fixed}
+use Rattle.commands.specs.Lent.{Lent}
+use Rattle.commands.specs.Effect.{registersLeft}
+use Rattle.touch.specs.declared.Setup.{Setup}
+use Rattle.touch.specs.Rounding.{roundingOf}
 use Rattle.touch.specs.Table.{recordAt}
 
 -- the registers of a start
 pub start-bytes : (h1 h2 : ℕ) (checking acknowledging : Bool) → h1 < 256 → h2 < 256 → Bytes (startRegisters h1 h2 checking acknowledging .bytes)
-unfolding startRegisters
 start-bytes h1 h2 checking acknowledging one two =
     let zeros : List ℕ = replicate registerCount 0 in
     let version = set zeros 0x00 0x10 in
@@ -62,7 +66,8 @@ start-bytes h1 h2 checking acknowledging one two =
     let d = sets enable 0x12 (cond checking 0x10 0x00) c (either checking 0x10 (omega arith)) in
     let e = sets checks 0x13 h1 d one in
     let f = sets first 0x1A h2 e two in
-    sets second 0x1C (cond acknowledging 0x08 0x00) f (either acknowledging 0x08 (omega arith))
+    λ i. rw (← start-sets h1 h2 (cond checking 0x10 0x00) (cond acknowledging 0x08 0x00) checking acknowledging refl refl)
+    (sets second 0x1C (cond acknowledging 0x08 0x00) f (either acknowledging 0x08 (omega arith)) i)
   where
     sets : (xs : List ℕ) (k v : ℕ) → Bytes xs → v < 256 → Bytes (set xs k v)
     sets = below-set 256 byte-some
@@ -72,8 +77,8 @@ start-bytes h1 h2 checking acknowledging one two =
     either false v is = omega arith
 
 -- what a write, a contact and a lift set
-written-bytes : (registers : Registers) (address : ℕ) (run : List ℕ) → Bytes (registers .bytes) → Bytes run → Bytes (written registers address run .bytes)
-unfolding written
+written-bytes : (registers : Registers) (address : ℕ) (run : List ℕ) → Bytes (registers .bytes) → Bytes run → Bytes (registersAfter registers address run .bytes)
+unfolding registersAfter
 written-bytes registers address run are new = go (leb (address + length run) registerCount)
   where
     go : (b : Bool) → Bytes (cond b (holding (laidAt address run (registers .bytes))) registers .bytes)
@@ -131,50 +136,51 @@ placed-below mode old new is-old is-new = go (eqb mode 0) (eqb mode 1)
     go false true = omega arith
     go false false = omega arith
 
-step-below : (r : Record) (f : StepFields) (old : ℕ) → old < 65536 → (x y : ℕ) → actedBy (Step f) r old x y < 65536
+step-below : (setup : Setup) (r : Record) (f : StepFields) (old : ℕ) → old < 65536 → (x y : ℕ) → actedBy (roundingOf setup) (Step f) r old x y < 65536
 unfolding stepStores
-step-below r f old is x y =
+step-below setup r f old is x y =
     let t = fenced (up f) (round f) (signed (f .least)) (signed (f .greatest)) (stepped (up f) (valueIn (r .mode) old) (f .step)) in
     placed-below (r .mode) old (wordOf t) is (wordOf-below t)
 
-slider-below : (r : Record) (f : SliderFields) (old : ℕ) → old < 65536 → (x y : ℕ) → actedBy (Slider f) r old x y < 65536
+slider-below : (setup : Setup) (r : Record) (f : SliderFields) (old : ℕ) → old < 65536 → (x y : ℕ)
+    → actedBy (roundingOf setup) (Slider f) r old x y < 65536
 unfolding sliderStores
-slider-below r f old is x y =
-    let t = slidTo roundedDown (signed (f .begin)) (signed (f .end)) (firstEdge (r .mode) (r .area)) (lastEdge (r .mode) (r .area)) (along (r .mode) x y) in
+slider-below setup r f old is x y =
+    let t = slidTo (roundingOf setup) (signed (f .begin)) (signed (f .end)) (firstEdge (r .mode) (r .area)) (lastEdge (r .mode) (r .area)) (along (r .mode) x y) in
     placed-below (digitMode (r .mode)) old (wordOf t) is (wordOf-below t)
 
 -- a record of a table of bytes
-acted-below : (table : List ℕ) → Bytes table → (i old : ℕ) → old < 65536 → (x y : ℕ) → actedOf (recordAt table i) old x y < 65536
+acted-below : (setup : Setup) (table : List ℕ) → Bytes table → (i old : ℕ) → old < 65536 → (x y : ℕ) → actedOf setup (recordAt table i) old x y < 65536
 unfolding actedOf recordOf kindOf
-acted-below table are i old is x y = go (eqb (wordAt bytes 0x0E) 0xFE05) (eqb (wordAt bytes 0x0E) 0xFE02) (eqb (wordAt bytes 0x0E) 0xFE03)
+acted-below setup table are i old is x y = go (eqb (wordAt bytes 0x0E) 0xFE05) (eqb (wordAt bytes 0x0E) 0xFE02) (eqb (wordAt bytes 0x0E) 0xFE03)
   where
     bytes : List ℕ
     bytes = take 32 (drop (i * 32) table)
 
     go : (a b c : Bool)
-        → actedBy (cond a (Key (wordAt bytes 0x14)) (cond b (Step (stepFields bytes)) (cond c (Slider (sliderFields bytes)) Other))) (recordAt table i) old x y < 65536
+        → actedBy (roundingOf setup) (cond a (Key (wordAt bytes 0x14)) (cond b (Step (stepFields bytes)) (cond c (Slider (sliderFields bytes)) Other))) (recordAt table i) old x y < 65536
     go true b c = placed-below (recordAt table i .mode) old (wordAt bytes 0x14) is (word-below bytes (record-bytes table are i) 0x14)
-    go false true c = step-below (recordAt table i) (stepFields bytes) old is x y
-    go false false true = slider-below (recordAt table i) (sliderFields bytes) old is x y
+    go false true c = step-below setup (recordAt table i) (stepFields bytes) old is x y
+    go false false true = slider-below setup (recordAt table i) (sliderFields bytes) old is x y
     go false false false = is
 
 -- a caught record: only a slider stores
-dragged-below : (r : Record) (old : ℕ) → old < 65536 → (x y : ℕ) → draggedOf r old x y < 65536
+dragged-below : (setup : Setup) (r : Record) (old : ℕ) → old < 65536 → (x y : ℕ) → draggedOf setup r old x y < 65536
 unfolding draggedOf actedOf
-dragged-below r old is x y = go (r .kind)
+dragged-below setup r old is x y = go (r .kind)
   where
-    go : (k : Kind) → cond (isSlider k) (actedBy k r old x y) old < 65536
+    go : (k : Kind) → cond (isSlider k) (actedBy (roundingOf setup) k r old x y) old < 65536
     go (Key code) = is
     go (Step f) = is
-    go (Slider f) = slider-below r f old is x y
+    go (Slider f) = slider-below setup r f old is x y
     go Other = is
 
 -- a contact that is done, with a table of bytes
-module _ (pad : Pad) (table words : List ℕ) (x y : ℕ) (are : Bytes (pad .registers .bytes)) (table-are : Bytes table) (in-x : x < 65536) (in-y : y < 65536) where
+module _ (setup : Setup) (pad : Pad) (table words : List ℕ) (x y : ℕ) (are : Bytes (pad .registers .bytes)) (table-are : Bytes table) (in-x : x < 65536) (in-y : y < 65536) where
   marked-bytes : (status : ℕ) → status < 256 → Bytes (withPlace (withStatus (pad .registers) status) x y .bytes)
   marked-bytes status is = place-bytes (withStatus (pad .registers) status) x y (status-bytes (pad .registers) status are is) in-x in-y
 
-  pub touched-bytes : Bytes (touched pad table words x y .pad .registers .bytes)
+  pub touched-bytes : Bytes (touched setup pad table words x y .pad .registers .bytes)
   unfolding touched Contact.heldDown pressed acting showing
   touched-bytes = go (isDown (pad .registers))
     where
@@ -186,37 +192,37 @@ module _ (pad : Pad) (table words : List ℕ) (x y : ℕ) (are : Bytes (pad .reg
       shown r catch next true = marked-bytes 0x01 (omega arith)
       shown r catch next false = page-bytes now (r .next) (marked-bytes 0x01 (omega arith)) next
 
-      behind : (f : Found) → found table (pageOf (pad .registers)) x y ≡ f → Bytes (acting f now (pad .catch) words x y .pad .registers .bytes)
+      behind : (f : Found) → found table (pageOf (pad .registers)) x y ≡ f → Bytes (acting setup f now (pad .catch) words x y .pad .registers .bytes)
       behind Nothing is = marked-bytes 0x01 (omega arith)
       behind (At i r) is =
           let same = found-stands table (pageOf (pad .registers)) x y i r is .0 in
           shown r (catching r (pad .catch)) (rw same (next-below table table-are i)) (noNext r)
 
-      go : (b : Bool) → Bytes (cond b (Contact.heldDown pad words x y) (pressed pad table words x y) .pad .registers .bytes)
+      go : (b : Bool) → Bytes (cond b (Contact.heldDown setup pad words x y) (pressed setup pad table words x y) .pad .registers .bytes)
       go true = marked-bytes 0x03 (omega arith)
       go false = behind (found table (pageOf (pad .registers)) x y) refl
 
-  pub touched-words : Halfwords words → Halfwords (touched pad table words x y .words)
+  pub touched-words : Halfwords words → Halfwords (touched setup pad table words x y .words)
   unfolding touched Contact.heldDown dragging pressed acting wordSet wordAtAddress
   touched-words old = go (isDown (pad .registers))
     where
       now : Registers
       now = withPlace (withStatus (pad .registers) 0x01) x y
 
-      behind : (f : Found) → found table (pageOf (pad .registers)) x y ≡ f → Halfwords (acting f now (pad .catch) words x y .words)
+      behind : (f : Found) → found table (pageOf (pad .registers)) x y ≡ f → Halfwords (acting setup f now (pad .catch) words x y .words)
       behind Nothing is = old
       behind (At i r) is =
           let same = found-stands table (pageOf (pad .registers)) x y i r is .0 in
-          below-set 65536 word-some words (r .word) (actedOf r (getD words (r .word) 0) x y) old
-          (rw same (acted-below table table-are i (getD words (recordAt table i .word) 0) (old (recordAt table i .word)) x y))
+          below-set 65536 word-some words (r .word) (actedOf setup r (getD words (r .word) 0) x y) old
+          (rw same (acted-below setup table table-are i (getD words (recordAt table i .word) 0) (old (recordAt table i .word)) x y))
 
-      drag : (c : Catch) → Halfwords (dragging c words x y)
+      drag : (c : Catch) → Halfwords (dragging setup c words x y)
       drag Free = old
       drag (Caught r) =
-          below-set 65536 word-some words (r .word) (draggedOf r (getD words (r .word) 0) x y) old
-          (dragged-below r (getD words (r .word) 0) (old (r .word)) x y)
+          below-set 65536 word-some words (r .word) (draggedOf setup r (getD words (r .word) 0) x y) old
+          (dragged-below setup r (getD words (r .word) 0) (old (r .word)) x y)
 
-      go : (b : Bool) → Halfwords (cond b (Contact.heldDown pad words x y) (pressed pad table words x y) .words)
+      go : (b : Bool) → Halfwords (cond b (Contact.heldDown setup pad words x y) (pressed setup pad table words x y) .words)
       go true = drag (pad .catch)
       go false = behind (found table (pageOf (pad .registers)) x y) refl
 
@@ -236,33 +242,30 @@ stored-words words address bytes old are = go (leb (address + length (wordsOf by
     go true = below-laid 65536 word-some address (wordsOf bytes) words (wordsOf-below bytes are) old
     go false = old
 
-module _ (registers : Registers) (pages : ℕ) (checking : Bool) (header : List ℕ) (command : ℕ) (content words room : List ℕ) (are : Bytes content) where
-  pub performed-bytes : Bytes (registers .bytes) → Bytes (performance registers pages checking header command content words room .performed .registers .bytes)
-  performed-bytes old = go (eqb command 0x80) refl (isDone (writeRegistersOutcome pages content)) refl
+module _ (fixed : Fixed) (registers : Registers) (command : ℕ) (content : List ℕ) (lent : Lent) (are : Bytes content) where
+  pub performed-bytes : Bytes (registers .bytes) → Bytes (registersBy (performance fixed registers command content lent .performed) registers content .bytes)
+  unfolding registersLeft
+  performed-bytes old = go (eqb command 0x80) refl (isDone (writeRegistersOutcome (fixed .pages) content)) refl
     where
       after : Registers
-      after = performance registers pages checking header command content words room .performed .registers
+      after = registersBy (performance fixed registers command content lent .performed) registers content
 
-      go : (a : Bool) → eqb command 0x80 ≡ a → (b : Bool) → isDone (writeRegistersOutcome pages content) ≡ b → Bytes (after .bytes)
-      go false other b done = rw (registers-stay registers pages checking header content words room command other) old
-      go true is b done =
-          rw (registers-as-done registers pages checking header content words room command b (eqb-true command 0x80 is) done)
-          (either b)
+      go : (a : Bool) → eqb command 0x80 ≡ a → (b : Bool) → isDone (writeRegistersOutcome (fixed .pages) content) ≡ b → Bytes (after .bytes)
+      go false other b done = rw (registers-stay fixed registers content lent command other) old
+      go true is b done = rw (registers-as-done fixed registers content lent command b (eqb-true command 0x80 is) done) (either b)
         where
-          either : (b : Bool) → Bytes (cond b (written registers (byteAt content 0) (drop 1 content)) registers .bytes)
+          either : (b : Bool) → Bytes (cond b (registersLeft registers content) registers .bytes)
           either true = written-bytes registers (byteAt content 0) (drop 1 content) old (below-drop 256 byte-some 1 content are)
           either false = old
 
-  pub performed-words : Halfwords words → Halfwords (performance registers pages checking header command content words room .words)
-  performed-words old = go (eqb command 0x82) refl (isDone (writeWordsOutcome (length words) content)) refl
+  pub performed-words : Halfwords (lent .words) → Halfwords (performance fixed registers command content lent .lent .words)
+  performed-words old = go (eqb command 0x82) refl (isDone (writeWordsOutcome (length (lent .words)) content)) refl
     where
-      go : (a : Bool) → eqb command 0x82 ≡ a → (b : Bool) → isDone (writeWordsOutcome (length words) content) ≡ b
-          → Halfwords (performance registers pages checking header command content words room .words)
-      go false other b done = rw (words-stay registers pages checking header content words room command other) old
-      go true is b done =
-          rw (words-as-done registers pages checking header content words room command b (eqb-true command 0x82 is) done)
-          (either b)
+      go : (a : Bool) → eqb command 0x82 ≡ a → (b : Bool) → isDone (writeWordsOutcome (length (lent .words)) content) ≡ b
+          → Halfwords (performance fixed registers command content lent .lent .words)
+      go false other b done = rw (words-stay fixed registers content lent command other) old
+      go true is b done = rw (words-as-done fixed registers content lent command b (eqb-true command 0x82 is) done) (either b)
         where
-          either : (b : Bool) → Halfwords (cond b (wordsWritten words (wordAt content 0) (drop 2 content)) words)
-          either true = stored-words words (wordAt content 0) (drop 2 content) old (below-drop 256 byte-some 2 content are)
+          either : (b : Bool) → Halfwords (cond b (wordsWritten (lent .words) (wordAt content 0) (drop 2 content)) (lent .words))
+          either true = stored-words (lent .words) (wordAt content 0) (drop 2 content) old (below-drop 256 byte-some 2 content are)
           either false = old

@@ -19,18 +19,20 @@ use Rattle.touch.specs.declared.Verdict.the-variants.{Good, NotRecords, Wrong}
 use Rattle.touch.specs.Setup.{goodSetup}
 use Rattle.touch.specs.Table.{firstOf, recordsOf}
 use Rattle.touch.specs.Judge.{goodRecord, wrong, namedWrong, notRecords, judged}
-use Rattle.contact.specs.Contact.{Touching, touched}
+use Rattle.contact.specs.Contact.{Touching}
 use Rattle.touch.proofs.Tables.{thirteen-names-first}
 use Rattle.panel.specs.declared.Panel.{Panel}
 use Rattle.panel.specs.declared.ContactAnswer.the-variants as contact-answer
 use Rattle.panel.specs.declared.StartAnswer.the-variants as start
 use Rattle.panel.specs.Numbers.{startNumber, contactNumber}
 use Rattle.panel.specs.Start.{refuses, startJudged, started}
-use Rattle.panel.specs.State.{padOf, withPad}
-use Rattle.panel.specs.Contacts.{contacts, contactOn, contactJudged, contacting}
+use Rattle.panel.specs.State.{withPad}
+use Rattle.panel.specs.Contacts.{contacts, contactOn, contactJudged, contacting, Contact}
 use Rattle.panel.specs.Sound.{Sound}
 use Rattle.demands.specs.Calls.{Moment, contact, numberGiven}
 use Rattle.demands.specs.Demand1.{firstNumber, NamesFirstWrong, wordsNotLent, notWholeRecords, oneWrong, offScreen, printed, printedStart}
+use Rattle.commands.specs.Lent.{Lent, withWords}
+use Rattle.panel.proofs.Ways.{touchedBy}
 use Rattle.demands.proofs.Waits.{busy-waits}
 
 -- a table: 12, then 13
@@ -49,32 +51,33 @@ some-wrong setup i (r ∷ rs) = go (not (goodRecord setup r)) (some-wrong setup 
     go false ih = ih
 
 -- a contact: "contact 14, 1, 12, 13, 9, 8"
-module _ (panel : Panel) (table words : List ℕ) (x y : ℕ) where
-  on-number : contactNumber (contactOn panel table words x y .contacted .answer) ≡ cond (isTouchOff (panel .registers)) 9 (cond (offScreen (panel .setup) x y) 8 0)
-  unfolding contactOn contactNumber offScreen
-  on-number = go (isTouchOff (panel .registers)) (not (ltb x (panel .setup .width) && ltb y (panel .setup .height)))
-    where
-      done : Touching
-      done = touched (padOf panel) table words x y
+module _ (panel : Panel) (c : Contact) (lent : Lent) where
+  abbrev doneBy : Touching
+  doneBy = touchedBy panel c lent
 
+  on-number : contactNumber (contactOn panel c lent .contacted .answer)
+      ≡ cond (isTouchOff (panel .registers)) 9 (cond (offScreen (panel .setup) (c .x) (c .y)) 8 0)
+  unfolding contactOn contactNumber offScreen
+  on-number = go (isTouchOff (panel .registers)) (not (ltb (c .x) (panel .setup .width) && ltb (c .y) (panel .setup .height)))
+    where
       go : (a b : Bool)
-          → contactNumber (cond a (contacts contact-answer.TouchOff panel words) (cond b (contacts contact-answer.OffScreen panel words)
-          (contacts contact-answer.Done (withPad panel (done .pad)) (done .words))) .contacted .answer)
+          → contactNumber (cond a (contacts contact-answer.TouchOff panel lent) (cond b (contacts contact-answer.OffScreen panel lent)
+          (contacts contact-answer.Done (withPad panel (doneBy .pad)) (withWords lent (doneBy .words)))) .contacted .answer)
           ≡ cond a 9 (cond b 8 0)
       go true b = refl
       go false true = refl
       go false false = refl
 
-  judged-number : contactNumber (contactJudged (judged (panel .setup) table) panel table words x y .contacted .answer)
-      ≡ cond (notWholeRecords table) 12 (cond (oneWrong (panel .setup) (recordsOf table)) 13
-      (cond (isTouchOff (panel .registers)) 9 (cond (offScreen (panel .setup) x y) 8 0)))
+  judged-number : contactNumber (contactJudged (judged (panel .setup) (c .table)) panel c lent .contacted .answer)
+      ≡ cond (notWholeRecords (c .table)) 12 (cond (oneWrong (panel .setup) (recordsOf (c .table))) 13
+      (cond (isTouchOff (panel .registers)) 9 (cond (offScreen (panel .setup) (c .x) (c .y)) 8 0)))
   unfolding judged contactJudged contactNumber notWholeRecords
   judged-number =
-      rw (some-wrong (panel .setup) 0 (recordsOf table)) (go (notWholeRecords table) (firstOf (wrong (panel .setup)) 0 (recordsOf table)))
+      rw (some-wrong (panel .setup) 0 (recordsOf (c .table))) (go (notWholeRecords (c .table)) (firstOf (wrong (panel .setup)) 0 (recordsOf (c .table))))
     where
       go : (b : Bool) (f : Found)
-          → contactNumber (contactJudged (cond b NotRecords (namedWrong f)) panel table words x y .contacted .answer)
-          ≡ cond b 12 (cond (isAt f) 13 (cond (isTouchOff (panel .registers)) 9 (cond (offScreen (panel .setup) x y) 8 0)))
+          → contactNumber (contactJudged (cond b NotRecords (namedWrong f)) panel c lent .contacted .answer)
+          ≡ cond b 12 (cond (isAt f) 13 (cond (isTouchOff (panel .registers)) 9 (cond (offScreen (panel .setup) (c .x) (c .y)) 8 0)))
       go true f = refl
       go false (At i r) = refl
       go false Nothing = on-number
@@ -82,19 +85,19 @@ module _ (panel : Panel) (table words : List ℕ) (x y : ℕ) where
 pub contact-number : (now : Moment) → Sound (now .panel) → (c : Contact)
     → numberGiven now (contact c) ≡ firstNumber (printed now (contact c))
 unfolding numberGiven printed contacting contactNumber wordsNotLent firstNumber
-contact-number now sound table x y = rw (← busy-waits (now .panel) sound) (go (not (eqb (length (now .lent .words)) wordCount)) (busy (now .panel .reader)))
+contact-number now sound c = rw (← busy-waits (now .panel) sound) (go (not (eqb (length (now .lent .words)) wordCount)) (busy (now .panel .reader)))
   where
     panel : Panel
     panel = now .panel
 
     go : (a b : Bool)
-        → contactNumber (cond a (contacts contact-answer.NotLent panel (now .lent .words)) (cond b (contacts contact-answer.Waits panel (now .lent .words))
-        (contactJudged (judged (panel .setup) table) panel table (now .lent .words) x y)) .contacted .answer)
-        ≡ cond a 14 (cond b 1 (cond (notWholeRecords table) 12 (cond (oneWrong (panel .setup) (recordsOf table)) 13
-        (cond (isTouchOff (panel .registers)) 9 (cond (offScreen (panel .setup) x y) 8 0)))))
+        → contactNumber (cond a (contacts contact-answer.NotLent panel (now .lent)) (cond b (contacts contact-answer.Waits panel (now .lent))
+        (contactJudged (judged (panel .setup) (c .table)) panel c (now .lent))) .contacted .answer)
+        ≡ cond a 14 (cond b 1 (cond (notWholeRecords (c .table)) 12 (cond (oneWrong (panel .setup) (recordsOf (c .table))) 13
+        (cond (isTouchOff (panel .registers)) 9 (cond (offScreen (panel .setup) (c .x) (c .y)) 8 0)))))
     go true b = refl
     go false true = refl
-    go false false = judged-number panel table (now .lent .words) x y
+    go false false = judged-number panel c (now .lent)
 
 -- "start 11, 12, 13"
 pub start-as-printed : (setup : Setup) (table : List ℕ) → startNumber (started setup table .answer) ≡ firstNumber (printedStart setup table)
@@ -138,16 +141,16 @@ names-first setup table i is =
     let named = thirteen-names-first setup table i is in
     record { within = wrong-within setup table i is; is-wrong = named .0; first = named .1 .1 }
 
-on-names-none : (panel : Panel) (table words : List ℕ) (x y i : ℕ) → contactOn panel table words x y .contacted .answer ≡ contact-answer.WrongRecord i → ⊥
+on-names-none : (panel : Panel) (c : Contact) (lent : Lent) (i : ℕ) → contactOn panel c lent .contacted .answer ≡ contact-answer.WrongRecord i → ⊥
 unfolding contactOn
-on-names-none panel table words x y i = go (isTouchOff (panel .registers)) (not (ltb x (panel .setup .width) && ltb y (panel .setup .height)))
+on-names-none panel c lent i = go (isTouchOff (panel .registers)) (not (ltb (c .x) (panel .setup .width) && ltb (c .y) (panel .setup .height)))
   where
     done : Touching
-    done = touched (padOf panel) table words x y
+    done = touchedBy panel c lent
 
     go : (a b : Bool)
-        → cond a (contacts contact-answer.TouchOff panel words) (cond b (contacts contact-answer.OffScreen panel words)
-        (contacts contact-answer.Done (withPad panel (done .pad)) (done .words))) .contacted .answer
+        → cond a (contacts contact-answer.TouchOff panel lent) (cond b (contacts contact-answer.OffScreen panel lent)
+        (contacts contact-answer.Done (withPad panel (done .pad)) (withWords lent (done .words)))) .contacted .answer
         ≡ contact-answer.WrongRecord i → ⊥
     go true b is = never (cc)
     go false true is = never (cc)
@@ -155,24 +158,24 @@ on-names-none panel table words x y i = go (isTouchOff (panel .registers)) (not 
 
 pub contact-names-first-wrong : (now : Moment) (c : Contact) (i : ℕ)
     → contacting (now .panel) c (now .lent) .contacted .answer ≡ contact-answer.WrongRecord i
-    → NamesFirstWrong (now .panel .setup) table i
+    → NamesFirstWrong (now .panel .setup) (c .table) i
 unfolding contacting contactJudged
-contact-names-first-wrong now table x y i = go (not (eqb (length (now .lent .words)) wordCount)) (busy (now .panel .reader)) (judged (now .panel .setup) table) refl
+contact-names-first-wrong now c i = go (not (eqb (length (now .lent .words)) wordCount)) (busy (now .panel .reader)) (judged (now .panel .setup) (c .table)) refl
   where
     panel : Panel
     panel = now .panel
 
-    go : (a b : Bool) (v : Verdict) → judged (panel .setup) table ≡ v
-        → cond a (contacts contact-answer.NotLent panel (now .lent .words)) (cond b (contacts contact-answer.Waits panel (now .lent .words))
-        (contactJudged v panel table (now .lent .words) x y)) .contacted .answer
+    go : (a b : Bool) (v : Verdict) → judged (panel .setup) (c .table) ≡ v
+        → cond a (contacts contact-answer.NotLent panel (now .lent)) (cond b (contacts contact-answer.Waits panel (now .lent))
+        (contactJudged v panel c (now .lent))) .contacted .answer
         ≡ contact-answer.WrongRecord i
-        → NamesFirstWrong (panel .setup) table i
+        → NamesFirstWrong (panel .setup) (c .table) i
     go true b v judges is = never (cc)
     go false true v judges is = never (cc)
-    go false false Good judges is = absurd (on-names-none panel table (now .lent .words) x y i is)
+    go false false Good judges is = absurd (on-names-none panel c (now .lent) i is)
     go false false NotRecords judges is = never (cc)
     go false false (Wrong j) judges is =
-        let same : j ≡ i = cc in names-first (panel .setup) table i (judges ∙ ap (λ (k : ℕ). Wrong k) same)
+        let same : j ≡ i = cc in names-first (panel .setup) (c .table) i (judges ∙ ap (λ (k : ℕ). Wrong k) same)
 
 pub start-names-first-wrong : (setup : Setup) (table : List ℕ) (i : ℕ) → started setup table .answer ≡ start.WrongRecord i → NamesFirstWrong setup table i
 unfolding started startJudged

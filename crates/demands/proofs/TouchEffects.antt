@@ -15,7 +15,7 @@ use Rattle.line.proofs.Truths.{never}
 use Rattle.registers.specs.Touched.{isDown, isTouchOff, pageOf, withStatus, withPlace}
 use Rattle.stores.specs.Store.{signed, valueIn, keyStores}
 use Rattle.stores.specs.Step.{stepped, fenced}
-use Rattle.stores.specs.Slider.{roundedDown, slidTo}
+use Rattle.stores.specs.Slider.{slidTo}
 use Rattle.wire.specs.Addresses.{wordCount}
 use Rattle.words.specs.Words.{wordAtAddress, wordSet}
 use Rattle.touch.specs.declared.Verdict.{Verdict}
@@ -28,7 +28,7 @@ use Rattle.touch.specs.declared.Found.the-variants.{At}
 use Rattle.touch.specs.declared.Kind.{Kind}
 use Rattle.touch.specs.declared.Found.{Found}
 use Rattle.touch.specs.Record.{stepFields, sliderFields, kindOf, recordOf, up as stepsUp, round as goesRound, digitMode, along, firstEdge, lastEdge}
-use Rattle.touch.specs.Table.{recordAt}
+use Rattle.touch.specs.Table.{recordAt, recordBytes}
 use Rattle.touch.specs.Find.{found}
 use Rattle.touch.specs.Act.{actedBy, actedOf, draggedOf}
 use Rattle.touch.proofs.Acts.{step-acts-as-printed, slider-acts-as-printed}
@@ -45,62 +45,65 @@ use Rattle.panel.specs.declared.ContactAnswer.the-variants as contact-answer
 use Rattle.panel.specs.declared.LiftAnswer.the-variants as lift-answer
 use Rattle.panel.specs.Numbers.{contactNumber, liftNumber}
 use Rattle.panel.specs.State.{padOf, withPad}
-use Rattle.panel.specs.Contacts.{Contacting, contacts, contactOn, contactJudged, contacting, lifting}
-use Rattle.panel.proofs.Ways.{lifts}
+use Rattle.panel.specs.Contacts.{Contacting, contacts, contactOn, contactJudged, contacting, lifting, Contact}
+use Rattle.panel.proofs.Ways.{lifts, touchedBy}
 use Rattle.demands.specs.Calls.{Moment, contact, lift, withPanel, after, numberGiven}
 use Rattle.demands.specs.Demand2.{afterContact, afterLift}
 use Rattle.demands.proofs.Answers.{momentTouched}
+use Rattle.commands.specs.Lent.{Lent, withWords}
+use Rattle.touch.specs.declared.Setup.{Setup}
+use Rattle.touch.specs.Rounding.{roundingOf}
 use Rattle.demands.proofs.Storing.{word-below, record-bytes}
 
 -- a contact that is done had all words, no report waiting, a good table, touch on and a point on the screen
-pub record Touched (panel : Panel) (table words : List ℕ) (x y : ℕ) : Type 0 where
-  pub whole : length words ≡ wordCount
-  pub good : judged (panel .setup) table ≡ Good
-  pub touches : contacting panel c lent
-      ≡ contacts contact-answer.Done (withPad panel (touched (padOf panel) table words x y .pad)) (touched (padOf panel) table words x y .words)
+abbrev touchDone : Panel → Contact → Lent → Contacting
+touchDone panel c lent = contacts contact-answer.Done (withPad panel (touchedBy panel c lent .pad)) (withWords lent (touchedBy panel c lent .words))
 
-module _ (panel : Panel) (table words : List ℕ) (x y : ℕ) where
-  abbrev done : Contacting
-  done = contacts contact-answer.Done (withPad panel (touched (padOf panel) table words x y .pad)) (touched (padOf panel) table words x y .words)
+pub record Touched (panel : Panel) (c : Contact) (lent : Lent) : Type 0 where
+  pub whole : length (lent .words) ≡ wordCount
+  pub good : judged (panel .setup) (c .table) ≡ Good
+  pub touches : contacting panel c lent ≡ touchDone panel c lent
 
-  on-done : contactNumber (contactOn panel table words x y .contacted .answer) ≡ 0 → contactOn panel table words x y ≡ done
+module _ (panel : Panel) (c : Contact) (lent : Lent) where
+  on-done : contactNumber (contactOn panel c lent .contacted .answer) ≡ 0 → contactOn panel c lent ≡ touchDone panel c lent
   unfolding contactOn contactNumber
-  on-done = go (isTouchOff (panel .registers)) (not (ltb x (panel .setup .width) && ltb y (panel .setup .height)))
+  on-done = go (isTouchOff (panel .registers)) (not (ltb (c .x) (panel .setup .width) && ltb (c .y) (panel .setup .height)))
     where
+      done : Contacting
+      done = touchDone panel c lent
+
       go : (a b : Bool)
-          → contactNumber (cond a (contacts contact-answer.TouchOff panel words) (cond b (contacts contact-answer.OffScreen panel words) done) .contacted .answer) ≡ 0
-          → cond a (contacts contact-answer.TouchOff panel words) (cond b (contacts contact-answer.OffScreen panel words) done) ≡ done
+          → contactNumber (cond a (contacts contact-answer.TouchOff panel lent) (cond b (contacts contact-answer.OffScreen panel lent) done) .contacted .answer) ≡ 0
+          → cond a (contacts contact-answer.TouchOff panel lent) (cond b (contacts contact-answer.OffScreen panel lent) done) ≡ done
       go true b is = absurd (omega arith)
       go false true is = absurd (omega arith)
       go false false is = refl
 
-  pub contact-done : contactNumber (contacting panel c lent .contacted .answer) ≡ 0 → Touched panel table words x y
+  pub contact-done : contactNumber (contacting panel c lent .contacted .answer) ≡ 0 → Touched panel c lent
   unfolding contacting contactJudged contactNumber
-  contact-done = go (eqb (length words) wordCount) refl (busy (panel .reader)) refl (judged (panel .setup) table) refl
+  contact-done = go (eqb (length (lent .words)) wordCount) refl (busy (panel .reader)) refl (judged (panel .setup) (c .table)) refl
     where
       judging : Verdict → Contacting
-      judging v = contactJudged v panel table words x y
+      judging v = contactJudged v panel c lent
 
-      go : (a : Bool) → eqb (length words) wordCount ≡ a → (b : Bool) → busy (panel .reader) ≡ b → (v : Verdict) → judged (panel .setup) table ≡ v
-          → contactNumber (cond (not a) (contacts contact-answer.NotLent panel words) (cond b (contacts contact-answer.Waits panel words) (judging v)) .contacted .answer) ≡ 0
-          → Touched panel table words x y
+      go : (a : Bool) → eqb (length (lent .words)) wordCount ≡ a → (b : Bool) → busy (panel .reader) ≡ b → (v : Verdict) → judged (panel .setup) (c .table) ≡ v
+          → contactNumber (cond (not a) (contacts contact-answer.NotLent panel lent) (cond b (contacts contact-answer.Waits panel lent) (judging v)) .contacted .answer) ≡ 0
+          → Touched panel c lent
       go false p b q v r is = absurd (omega arith)
       go true p true q v r is = absurd (omega arith)
       go true p false q NotRecords r is = absurd (omega arith)
       go true p false q (Wrong i) r is = absurd (omega arith)
       go true p false q Good r is =
           record {
-            whole = eqb-true (length words) wordCount p;
+            whole = eqb-true (length (lent .words)) wordCount p;
             good = r;
             touches = rw (p, q, r) (on-done is);
           }
 
 -- "Contact while up: ..", "Contact while down: .."
-pub contact-leaves : (now : Moment) (c : Contact) → numberGiven now (contact c) ≡ 0 → after now (contact c) ≡ afterContact now table x y
+pub contact-leaves : (now : Moment) (c : Contact) → numberGiven now (contact c) ≡ 0 → after now (contact c) ≡ afterContact now c
 unfolding numberGiven after afterContact
-contact-leaves now table x y is =
-    ap (momentTouched)
-    (contact-done (now .panel) table (now .lent .words) x y is .touches)
+contact-leaves now c is = ap momentTouched (contact-done (now .panel) c (now .lent) is .touches)
 
 -- "Lift: status 02, the catch is dropped."
 pub lift-leaves : (now : Moment) → numberGiven now lift ≡ 0 → after now lift ≡ afterLift now
@@ -122,7 +125,7 @@ lift-leaves now is = go (busy (panel .reader)) (not (isDown (panel .registers)))
 -- the fields of a record of a table of bytes are 16-bit numbers
 module _ (table : List ℕ) (are : Bytes table) (i : ℕ) where
   abbrev bytes : List ℕ
-  bytes = take 32 (drop (i * 32) table)
+  bytes = take recordBytes (drop (i * recordBytes) table)
 
   field-below : (at : ℕ) → wordAt bytes at < 65536
   field-below = word-below bytes (record-bytes table are i)
@@ -158,20 +161,21 @@ module _ (table : List ℕ) (are : Bytes table) (i : ℕ) where
           (omega (arith, field-below 0x1C), omega (arith, field-below 0x1E))
 
 -- the words that a record which acts, and a caught one, leave
-pressed-words : (pad : Pad) (table words : List ℕ) (x y i : ℕ) (r : Record) → isDown (pad .registers) ≡ false → found table (pageOf (pad .registers)) x y ≡ At i r
-    → touched pad table words x y .words ≡ wordSet words (r .word) (actedOf r (wordAtAddress words (r .word)) x y)
+pressed-words : (setup : Setup) (pad : Pad) (table words : List ℕ) (x y i : ℕ) (r : Record) → isDown (pad .registers) ≡ false
+    → found table (pageOf (pad .registers)) x y ≡ At i r
+    → touched setup pad table words x y .words ≡ wordSet words (r .word) (actedOf setup r (wordAtAddress words (r .word)) x y)
 unfolding touched Contact.pressed Contact.acting
-pressed-words pad table words x y i r up acts =
+pressed-words setup pad table words x y i r up acts =
     let now = withPlace (withStatus (pad .registers) 0x01) x y in
-    ap (λ (b : Bool). cond b (Contact.heldDown pad words x y) (Contact.pressed pad table words x y) .words) up
-    ∙ ap (λ (f : Found). Contact.acting f now (pad .catch) words x y .words) acts
+    ap (λ (b : Bool). cond b (Contact.heldDown setup pad words x y) (Contact.pressed setup pad table words x y) .words) up
+    ∙ ap (λ (f : Found). Contact.acting setup f now (pad .catch) words x y .words) acts
 
-pub dragged-words : (pad : Pad) (table words : List ℕ) (x y : ℕ) (r : Record) → isDown (pad .registers) ≡ true → pad .catch ≡ Caught r
-    → touched pad table words x y .words ≡ wordSet words (r .word) (draggedOf r (wordAtAddress words (r .word)) x y)
+pub dragged-words : (setup : Setup) (pad : Pad) (table words : List ℕ) (x y : ℕ) (r : Record) → isDown (pad .registers) ≡ true → pad .catch ≡ Caught r
+    → touched setup pad table words x y .words ≡ wordSet words (r .word) (draggedOf setup r (wordAtAddress words (r .word)) x y)
 unfolding touched Contact.heldDown Contact.dragging
-dragged-words pad table words x y r down is =
-    ap (λ (b : Bool). cond b (Contact.heldDown pad words x y) (Contact.pressed pad table words x y) .words) down
-    ∙ ap (λ (c : Catch). Contact.dragging c words x y) is
+dragged-words setup pad table words x y r down is =
+    ap (λ (b : Bool). cond b (Contact.heldDown setup pad words x y) (Contact.pressed setup pad table words x y) .words) down
+    ∙ ap (λ (c : Catch). Contact.dragging setup c words x y) is
 
 -- a word that was set
 pub word-set : (words : List ℕ) (address value : ℕ) → address < length words → wordAtAddress (wordSet words address value) address ≡ value
@@ -179,46 +183,46 @@ unfolding wordSet wordAtAddress
 word-set words address value inside = getD-set-same words address value 0 inside
 
 -- "Contact while up: .. The first record of the current page holding the point acts"
-module _ (now : Moment) (table : List ℕ) (are : Bytes table) (x y : ℕ) (done : numberGiven now (contact c) ≡ 0)
-    (up : isDown (now .panel .registers) ≡ false) (i : ℕ) (r : Record) (acts : found table (pageOf (now .panel .registers)) x y ≡ At i r) where
+module _ (now : Moment) (c : Contact) (are : Bytes (c .table)) (done : numberGiven now (contact c) ≡ 0)
+    (up : isDown (now .panel .registers) ≡ false) (i : ℕ) (r : Record) (acts : found (c .table) (pageOf (now .panel .registers)) (c .x) (c .y) ≡ At i r) where
   acting-good : goodRecord (now .panel .setup) r ≡ true
   unfolding numberGiven
   acting-good =
-      found-good (now .panel .setup) table (pageOf (now .panel .registers)) x y i r (contact-done (now .panel) table (now .lent .words) x y done .good) acts
+      found-good (now .panel .setup) (c .table) (pageOf (now .panel .registers)) (c .x) (c .y) i r (contact-done (now .panel) c (now .lent) done .good) acts
 
-  pub acted-word : wordAtAddress (after now (contact c) .words) (r .word) ≡ actedOf r (wordAtAddress (now .lent .words) (r .word)) x y
+  pub acted-word : wordAtAddress (after now (contact c) .lent .words) (r .word) ≡ actedOf (now .panel .setup) r (wordAtAddress (now .lent .words) (r .word)) (c .x) (c .y)
   unfolding afterContact numberGiven
   acted-word =
       let small = good-word (now .panel .setup) r acting-good in
-      let whole = contact-done (now .panel) table (now .lent .words) x y done .whole in
+      let whole = contact-done (now .panel) c (now .lent) done .whole in
       let inside : r .word < length (now .lent .words) = omega arith in
-      ap (λ (m : Moment). wordAtAddress (m .lent .words) (r .word)) (contact-leaves now table x y done)
-      ∙ ap (λ (l : List ℕ). wordAtAddress l (r .word)) (pressed-words (padOf (now .panel)) table (now .lent .words) x y i r up acts)
-      ∙ word-set (now .lent .words) (r .word) (actedOf r (wordAtAddress (now .lent .words) (r .word)) x y) inside
+      ap (λ (m : Moment). wordAtAddress (m .lent .words) (r .word)) (contact-leaves now c done)
+      ∙ ap (λ (l : List ℕ). wordAtAddress l (r .word)) (pressed-words (now .panel .setup) (padOf (now .panel)) (c .table) (now .lent .words) (c .x) (c .y) i r up acts)
+      ∙ word-set (now .lent .words) (r .word) (actedOf (now .panel .setup) r (wordAtAddress (now .lent .words) (r .word)) (c .x) (c .y)) inside
 
-  same-record : r ≡ recordAt table i
-  same-record = found-stands table (pageOf (now .panel .registers)) x y i r acts .0
+  same-record : r ≡ recordAt (c .table) i
+  same-record = found-stands (c .table) (pageOf (now .panel .registers)) (c .x) (c .y) i r acts .0
 
   -- Key: "mode 0 whole word, 1 high byte, 2 low byte; 14 code"
   pub key-stores : (code : ℕ) → r .kind ≡ Key code
-      → wordAtAddress (after now (contact c) .words) (r .word) ≡ keyStores (r .mode) (wordAtAddress (now .lent .words) (r .word)) code
+      → wordAtAddress (after now (contact c) .lent .words) (r .word) ≡ keyStores (r .mode) (wordAtAddress (now .lent .words) (r .word)) code
   unfolding actedOf
-  key-stores code is = acted-word ∙ ap (λ (k : Kind). actedBy k r (wordAtAddress (now .lent .words) (r .word)) x y) is
+  key-stores code is = acted-word ∙ ap (λ (k : Kind). actedBy (roundingOf (now .panel .setup)) k r (wordAtAddress (now .lent .words) (r .word)) (c .x) (c .y)) is
 
   -- "Step: t is the value with the step added or taken, as whole numbers. ..": the value that the mode finds in the word
   pub step-stores : (f : StepFields) → r .kind ≡ Step f
-      → valueIn (r .mode) (wordAtAddress (after now (contact c) .words) (r .word))
+      → valueIn (r .mode) (wordAtAddress (after now (contact c) .lent .words) (r .word))
       ≡ fenced (stepsUp f) (goesRound f) (signed (f .least)) (signed (f .greatest)) (stepped (stepsUp f) (valueIn (r .mode) (wordAtAddress (now .lent .words) (r .word))) (f .step))
   step-stores f is =
-      let fit = step-fields-fit table are i f (ap (λ (q : Record). q .kind) (sym same-record) ∙ is) in
+      let fit = step-fields-fit (c .table) are i f (ap (λ (q : Record). q .kind) (sym same-record) ∙ is) in
       ap (valueIn (r .mode)) acted-word
-      ∙ step-acts-as-printed r (wordAtAddress (now .lent .words) (r .word)) x y (good-kind (now .panel .setup) r acting-good) f is (fit .0) (fit .1)
+      ∙ step-acts-as-printed (now .panel .setup) r (wordAtAddress (now .lent .words) (r .word)) (c .x) (c .y) (good-kind (now .panel .setup) r acting-good) f is (fit .0) (fit .1)
 
   -- "Slider: with d the distance from the first edge and w the edge-to-edge distance, |end − begin|·d / w rounded down is moved from begin towards end."
   pub slider-stores : (f : SliderFields) → r .kind ≡ Slider f
-      → valueIn (digitMode (r .mode)) (wordAtAddress (after now (contact c) .words) (r .word))
-      ≡ slidTo roundedDown (signed (f .begin)) (signed (f .end)) (firstEdge (r .mode) (r .area)) (lastEdge (r .mode) (r .area)) (along (r .mode) x y)
+      → valueIn (digitMode (r .mode)) (wordAtAddress (after now (contact c) .lent .words) (r .word))
+      ≡ slidTo (roundingOf (now .panel .setup)) (signed (f .begin)) (signed (f .end)) (firstEdge (r .mode) (r .area)) (lastEdge (r .mode) (r .area)) (along (r .mode) (c .x) (c .y))
   slider-stores f is =
-      let fit = slider-fields-fit table are i f (ap (λ (q : Record). q .kind) (sym same-record) ∙ is) in
+      let fit = slider-fields-fit (c .table) are i f (ap (λ (q : Record). q .kind) (sym same-record) ∙ is) in
       ap (valueIn (digitMode (r .mode))) acted-word
-      ∙ slider-acts-as-printed r (wordAtAddress (now .lent .words) (r .word)) x y (good-kind (now .panel .setup) r acting-good) f is (fit .0) (fit .1)
+      ∙ slider-acts-as-printed (now .panel .setup) r (wordAtAddress (now .lent .words) (r .word)) (c .x) (c .y) (good-kind (now .panel .setup) r acting-good) f is (fit .0) (fit .1)

@@ -23,6 +23,7 @@ use Rattle.contact.specs.declared.Catch.{Catch}
 use Rattle.contact.specs.declared.Catch.the-variants.{Free}
 use Rattle.contact.specs.declared.Pad.{Pad}
 use Rattle.contact.specs.Contact as Contact
+use Rattle.touch.specs.declared.Setup.{Setup}
 use Rattle.contact.specs.Contact.{showing, catching, acting, pressed, touched}
 
 pub data Touches (pad : Pad) (table : List ℕ) (x y address : ℕ) : Type 0 where
@@ -125,10 +126,10 @@ module _ (pad : Pad) (whole : length (pad .registers .bytes) ≡ registerCount) 
       go false next = paged next (lies address)
 
   -- a contact that is done: a register stays, or is one of those that the rule names
-  pub touched-register : (words : List ℕ)
-      → (registerAt (touched pad table words x y .pad .registers) address ≡ registerAt (pad .registers) address) ⊎ Touches pad table x y address
+  pub touched-register : (setup : Setup) (words : List ℕ)
+      → (registerAt (touched setup pad table words x y .pad .registers) address ≡ registerAt (pad .registers) address) ⊎ Touches pad table x y address
   unfolding touched Contact.heldDown pressed acting
-  touched-register words = go (isDown (pad .registers)) refl
+  touched-register setup words = go (isDown (pad .registers)) refl
     where
       now : Registers
       now = withPlace (withStatus (pad .registers) 0x01) x y
@@ -137,12 +138,12 @@ module _ (pad : Pad) (whole : length (pad .registers .bytes) ≡ registerCount) 
       long = length-withPlace (withStatus (pad .registers) 0x01) (length-withStatus (pad .registers) whole 0x01) x y
 
       behind : (f : Found) → found table (pageOf (pad .registers)) x y ≡ f → isDown (pad .registers) ≡ false
-          → (registerAt (acting f now (pad .catch) words x y .pad .registers) address ≡ registerAt now address) ⊎ Touches pad table x y address
+          → (registerAt (acting setup f now (pad .catch) words x y .pad .registers) address ≡ registerAt now address) ⊎ Touches pad table x y address
       behind Nothing is up = inl refl
       behind (At i r) is up = shown-register i r up is now long (catching r (pad .catch))
 
       go : (b : Bool) → isDown (pad .registers) ≡ b
-          → (registerAt (cond b (Contact.heldDown pad words x y) (pressed pad table words x y) .pad .registers) address ≡ registerAt (pad .registers) address)
+          → (registerAt (cond b (Contact.heldDown setup pad words x y) (pressed setup pad table words x y) .pad .registers) address ≡ registerAt (pad .registers) address)
           ⊎ Touches pad table x y address
       go true down = marked-register 0x03
       go false up =

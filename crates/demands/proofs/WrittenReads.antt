@@ -17,7 +17,6 @@ use Rattle.reading.specs.Place.{acceptedFrame}
 use Rattle.reading.proofs.ByteLists.{bytes-drop}
 use Rattle.registers.specs.declared.Registers.{Registers}
 use Rattle.registers.specs.Table.{registerAt, registerRun}
-use Rattle.registers.specs.Run.{written}
 use Rattle.registers.proofs.Written.{written-reads-back}
 use Rattle.words.specs.Words.{wordAtAddress, wordsOf, bytesOf, wordRun, wordsWritten}
 use Rattle.words.proofs.Carried.{bytesOf-wordsOf}
@@ -37,6 +36,7 @@ use Rattle.demands.proofs.ReadsDone.{read-of-written-is-done, fetch-of-
 use Rattle.demands.proofs.Contents.{content-bytes}
 use Rattle.demands.proofs.Named.{word-stays-or-is-named, register-stays-or-is-named}
 use Rattle.demands.proofs.FrameAsked.{handed-asks}
+use Rattle.commands.specs.Effect.{registersLeft}
 use Rattle.demands.proofs.Access.{is-done, writes-registers, writes-words, reads-registers, reads-words}
 
 -- registers that agree over a run read alike
@@ -65,7 +65,7 @@ module _ (now : Moment) (reached : Reachable (now .panel)) (content : List ℕ) 
   unfolding outcome
   fits-registers = registers-passed (now .panel .setup .pages) content (is-done now reached content done 0x80 (handed-asks now 0x80 content writes)) .fits
 
-  registers-now : after now ask .panel .registers ≡ written (now .panel .registers) (byteAt content 0) (drop 1 content)
+  registers-now : after now ask .panel .registers ≡ registersLeft (now .panel .registers) content
   unfolding afterWrite leaving
   registers-now = ap (λ (m : Moment). m .panel .registers) (writes-registers now reached content done writes)
 
@@ -74,6 +74,7 @@ module _ (now : Moment) (reached : Reachable (now .panel)) (content : List ℕ) 
   reached-next = by-report (now .panel) (now .lent) reached
 
   run-still : registerRun (afterAll (after now ask) calls .panel .registers) (byteAt content 0) (length (drop 1 content)) ≡ drop 1 content
+  unfolding registersLeft
   run-still =
       same-run (afterAll (after now ask) calls .panel .registers) (after now ask .panel .registers) (length (drop 1 content)) (byteAt content 0)
       (λ i inside. not-named (register-stays-or-is-named (after now ask) reached-next calls typed (byteAt content 0 + i)) (none i inside))
@@ -83,7 +84,7 @@ module _ (now : Moment) (reached : Reachable (now .panel)) (content : List ℕ) 
   -- "Reply 0x81, address, count, bytes": those bytes, as a frame right behind the acknowledgement
   pub what-80-wrote-81-replies :
       handedOver (afterAll (after now ask) calls) ask ≡ acceptedFrame 0x81 (byteAt content 0 ∷ length (drop 1 content) ∷ []) ∷ []
-      → after (afterAll (after now ask) calls) ask .room
+      → after (afterAll (after now ask) calls) ask .lent .room
       ≡ withReply (afterAll (after now ask) calls) 0x81 (byteAt content 0 ∷ length (drop 1 content) ∷ drop 1 content)
   unfolding afterRead leaving
   what-80-wrote-81-replies reads =
@@ -121,17 +122,17 @@ module _ (now : Moment) (reached : Reachable (now .panel)) (content : List ℕ) 
   passed = words-passed wordCount content (is-done now reached content done 0x82 (handed-asks now 0x82 content writes))
 
   fits-words : wordAt content 0 + n ≤ length (now .lent .words)
-  fits-words = let whole = handed-asks now 0x82 content writes .whole in omega (arith, passed .fits)
+  fits-words = let whole = handed-asks now 0x82 content writes .well .words in omega (arith, passed .fits)
 
-  words-now : after now ask .words ≡ wordsWritten (now .lent .words) (wordAt content 0) (drop 2 content)
+  words-now : after now ask .lent .words ≡ wordsWritten (now .lent .words) (wordAt content 0) (drop 2 content)
   unfolding afterStore leaving
   words-now = ap (λ (m : Moment). m .lent .words) (writes-words now reached content done writes)
 
   words-still : length (then .lent .words) ≡ wordCount → wordRun (then .lent .words) (wordAt content 0) n ≡ wordsOf (drop 2 content)
   words-still whole =
-      let long : length (after now ask .words) ≡ length (now .lent .words) =
+      let long : length (after now ask .lent .words) ≡ length (now .lent .words) =
       ap length words-now ∙ still-as-many (now .lent .words) (drop 2 content) (wordAt content 0) fits-words in
-      same-words (then .lent .words) (after now ask .words) (wordAt content 0) n (omega (arith, passed .fits)) (omega (arith, fits-words))
+      same-words (then .lent .words) (after now ask .lent .words) (wordAt content 0) n (omega (arith, passed .fits)) (omega (arith, fits-words))
       (λ i inside. not-named (word-stays-or-is-named (after now ask) calls (wordAt content 0 + i)) (none i inside))
       ∙ ap (λ (w : List ℕ). wordRun w (wordAt content 0) n) words-now
       ∙ words-read-back (now .lent .words) (drop 2 content) (wordAt content 0) fits-words
@@ -141,7 +142,7 @@ module _ (now : Moment) (reached : Reachable (now .panel)) (content : List ℕ) 
       handedOver (afterAll (after now ask) calls) ask
       ≡ acceptedFrame 0x83 (byteAt content 0 ∷ byteAt content 1 ∷ length (wordsOf (drop 2 content)) ∷ []) ∷ []
       → length (wordsOf (drop 2 content)) ≤ 124
-      → after (afterAll (after now ask) calls) ask .room
+      → after (afterAll (after now ask) calls) ask .lent .room
       ≡ withReply (afterAll (after now ask) calls) 0x83 (byteAt content 0 ∷ byteAt content 1 ∷ length (wordsOf (drop 2 content)) ∷ drop 2 content)
   unfolding afterFetch leaving after
   what-82-wrote-83-replies reads few =
@@ -156,7 +157,7 @@ module _ (now : Moment) (reached : Reachable (now .panel)) (content : List ℕ) 
       let rest : Bytes (drop 2 content) = bytes-drop 2 content are in
       let even : length (drop 2 content) % 2 ≡ 0 = simp length-drop (omega (arith, passed .even, passed .long)) in
       let run : bytesOf (wordRun (then .lent .words) (wordAt content 0) n) ≡ drop 2 content =
-      ap bytesOf (words-still (handed-asks then 0x83 question reads .whole)) ∙ bytesOf-wordsOf (drop 2 content) rest even in
+      ap bytesOf (words-still (handed-asks then 0x83 question reads .well .words)) ∙ bytesOf-wordsOf (drop 2 content) rest even in
       ap (λ (m : Moment). m .lent .room) (reads-words then there question answered reads)
       ∙ ap (λ (data′ : List ℕ). over (acknowledgementOf setup 0x83 true ++ frameOf (checkingOf setup) (headerOf setup) 0x83 data′) (then .lent .room))
       (rw (first, second, run))
