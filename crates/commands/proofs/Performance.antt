@@ -12,7 +12,7 @@ use Rattle.commands.specs.declared.Outcome.the-variants.{UnknownCommand}
 use Rattle.commands.specs.declared.Performed.{Performed}
 use Rattle.commands.specs.Lent.{Lent, lending}
 use Rattle.commands.specs.Outcome.{outcome}
-use Rattle.commands.specs.Effect.{answered, registersWriting, WordsWriting, leavesWords, wordsWriting, Replying, replies, replying, registersReplying, wordsReplying}
+use Rattle.commands.specs.Effect.{answered, registersWriting, leavesWords, wordsWriting, replies, replying, registersReplying, wordsReplying}
 use Rattle.commands.specs.Perform.{Performance, performs, onWords, onRoom, performance}
 
 module _ (fixed : Fixed) (registers : Registers) (command : ℕ) (content words room : List ℕ) where

@@ -13,7 +13,6 @@ use Rattle.frame.specs.Frame.{headerBytes, checkLength, mostData}
 use Rattle.frame.specs.Writer.{frameLaid}
 use Rattle.frame.proofs.Writers.{length-most}
 use Rattle.registers.specs.declared.Registers.{Registers}
-use Rattle.wire.specs.Addresses.{registerCount}
 use Rattle.commands.specs.declared.Fixed.{Fixed}
 use Rattle.commands.specs.declared.Performed.{Performed}
 use Rattle.commands.specs.declared.Outcome.{Outcome}

@@ -8,13 +8,12 @@ use lib.ListN.{length, getD, take, drop}
 use lib.Bits.{bitAnd, bitXor}
 use Rattle.wire.specs.Bytes.{Bytes}
 use Rattle.wire.specs.ByteOrder.{byteAt, wordAt}
-use Rattle.wire.specs.Addresses.{wordCount}
 use Rattle.check_value.specs.CheckValue.{bitSteps}
 use Rattle.check_value.specs.Tables.{lowTable, highTable}
 use Rattle.check_value.proofs.PrintedTables.{by-tables}
 use Rattle.frame.specs.declared.Written.the-variants.{Frame}
 use Rattle.frame.specs.Frame.{frameOf, mostData, GoodFrame}
-use Rattle.frame.specs.Writer.{writing, leastRoom}
+use Rattle.frame.specs.Writer.{writing}
 use Rattle.frame.proofs.GoodFrames.{frameOf-good, good-is-frameOf}
 use Rattle.reading.specs.Place.{badCheck, acceptedFrame}
 use Rattle.reading.specs.Demand3.{NothingHeldOrWaiting}

@@ -10,7 +10,6 @@ use lib.ListN.{length, take, drop, length-append}
 use lib.Seq.{drop-at}
 use Rattle.wire.specs.Room.{over}
 use Rattle.wire.proofs.Over.{take-over}
-use Rattle.wire.specs.Addresses.{wordCount}
 use Rattle.frame.specs.declared.Written.the-variants.{Frame, DataTooLong, RoomTooSmall}
 use Rattle.frame.specs.Frame.{headerBytes, frameOf, mostData, longestFrame}
 use Rattle.frame.specs.Writer.{leastRoom, Writing, answers, writing}

@@ -10,10 +10,9 @@ use Rattle.frame.specs.Frame.{contentOf, mostPayload}
 use Rattle.reading.specs.Place.{Rules, Seen, pass, wait, bad, accepted, Report, acceptedFrame, look, reportOf}
 use Rattle.reading.specs.Line as Line
 use Rattle.reading.specs.Line.{Input}
-use Rattle.reading.specs.Moves.{Kept, waiting, withByte, handed, afterReport, isReport}
+use Rattle.reading.specs.Moves.{Kept, waiting, withByte, handed, afterReport}
 use Rattle.reading.specs.Run as Run
 use Rattle.reading.specs.Run.{Event, withInput, run}
-use Rattle.reading.proofs.Moves.{nothing-changes}
 use Rattle.reading.proofs.Run.{run-append}
 use Rattle.line.specs.declared.Line as Declared
 use Rattle.line.specs.declared.Reader.{Reader}

@@ -1,12 +1,9 @@
 -- What the panel's reader tells is what the reading of what it keeps says: whether a report waits, and which.
 use mathlib.Core.Path.{_≡_, refl, sym, ap, _∙_}
-use mathlib.Core.List.{List}
 use Prim.Native.Nat.{ℕ, _≤_}
 use native.Mathlib.Omega.{arith}
-use borrow.Author.Tests.{eq-eqb, le-leb}
 use lib.ListN.{length, take, drop}
 use Rattle.frame.specs.Frame.{contentOf, mostPayload, longestFrame}
-use Rattle.frame.specs.Writer.{leastRoom}
 use Rattle.reading.specs.Place.{Rules, Seen, pass, wait, bad, accepted, look, reportOf}
 use Rattle.reading.specs.Moves.{Kept, waiting, handed, afterReport}
 use Rattle.line.specs.declared.Reader.{Reader}
@@ -19,7 +16,6 @@ use Rattle.line.specs.Reached.{reportAs, payloadAs}
 use Rattle.line.proofs.Padding.{take-padded}
 use Rattle.line.proofs.Carried.{kept-is, waiting-is, ask-carried}
 use Rattle.panel.specs.declared.Panel.{Panel}
-use Rattle.wire.specs.Addresses.{wordCount}
 use Rattle.panel.specs.Reporting.{Reporting, handingOver, handing, reporting}
 use Rattle.panel.specs.Sound.{lineOf, Sound}
 use Rattle.demands.specs.Calls.{Moment, ask, after, reportHanded, handedOver, WellLent}

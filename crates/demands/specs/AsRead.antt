@@ -4,9 +4,7 @@ use mathlib.Core.Path.{_≡_}
 use mathlib.Core.Bool.{false}
 use mathlib.Core.List.{List, _++_}
 use lib.ListN.{length, replicate}
-use Rattle.wire.specs.Addresses.{wordCount}
 use Rattle.frame.specs.Frame.{longestFrame}
-use Rattle.frame.specs.Writer.{leastRoom}
 use Rattle.reading.specs.Place.{Report}
 use Rattle.reading.specs.Stretch.{reports}
 use Rattle.reading.specs.Line.{lineReports}

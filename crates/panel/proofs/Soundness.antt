@@ -12,8 +12,6 @@ use Rattle.wire.specs.Bytes.{Bytes}
 use Rattle.wire.specs.ByteOrder.{byteAt}
 use Rattle.line.specs.declared.Line.{Line}
 use Rattle.line.specs.declared.Reader.{Reader}
-use Rattle.line.specs.declared.Given.{Given}
-use Rattle.line.specs.declared.Answer.{Answer}
 use Rattle.line.specs.declared.Answer.the-variants as line-answer
 use Rattle.line.specs.declared.Asked.{Asked}
 use Rattle.line.specs.declared.Report.the-variants as line

@@ -11,7 +11,6 @@ use lib.ListN.{length}
 use Rattle.wire.specs.ByteOrder.{word}
 use Rattle.wire.proofs.LaidAt.{length-laidAt}
 use Rattle.registers.specs.declared.Registers.{Registers}
-use Rattle.wire.specs.Addresses.{registerCount}
 use Rattle.registers.specs.Table.{registerAt, writable}
 use Rattle.registers.specs.Run.{covers, allWritable, halfPage, unwritableRun, byteFor, wrongValue, registersAfter}
 use Rattle.registers.specs.Touched.{pageOf}

@@ -1,12 +1,12 @@
 -- Laws of the registers that a touch reads and sets: one for each way a function answers.
-use mathlib.Core.Path.{_≡_, refl, sym, ap, _∙_}
-use mathlib.Core.Bool.{Bool, true, false, cond, _||_}
-use mathlib.Core.List.{List, [], _∷_, _++_}
+use mathlib.Core.Path.{_≡_, refl, sym, _∙_}
+use mathlib.Core.Bool.{_||_}
+use mathlib.Core.List.{List, [], _∷_}
 use Prim.Native.Nat.{ℕ}
 use borrow.Author.Tests.{eq-eqb, ne-eqb}
 use lib.Dec.{eqb}
 use lib.ListN.{set}
-use Rattle.wire.specs.ByteOrder.{word, highByte, lowByte, highFirst}
+use Rattle.wire.specs.ByteOrder.{word, highByte, lowByte}
 use Rattle.wire.specs.Room.{laidAt}
 use Rattle.registers.specs.declared.Registers.{Registers}
 use Rattle.registers.specs.Table.{holding, registerAt}

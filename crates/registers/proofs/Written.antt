@@ -9,7 +9,6 @@ use lib.ListN.{length, getD}
 use Rattle.wire.specs.Room.{laidAt}
 use Rattle.wire.proofs.LaidAt.{laid-inside, laid-before, laid-behind}
 use Rattle.registers.specs.declared.Registers.{Registers}
-use Rattle.wire.specs.Addresses.{registerCount}
 use Rattle.registers.specs.Table.{registerAt, registerRun}
 use Rattle.registers.specs.Run.{registersAfter}
 

@@ -1,7 +1,7 @@
 -- 01, "Registers" and "Contact and lift": the registers that a touch reads and sets.
 use Prim.Native.Nat.{ℕ}
 use mathlib.Core.Bool.{Bool, cond, _||_}
-use mathlib.Core.List.{List, _++_}
+use mathlib.Core.List.{_++_}
 use lib.Dec.{eqb}
 use lib.ListN.{set}
 use Rattle.wire.specs.ByteOrder.{word, highFirst}
