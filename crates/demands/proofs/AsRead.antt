@@ -10,7 +10,7 @@ use Rattle.reading.proofs.Run.{handed-first, handed-all, kept-is-held, waits-wh
 use Rattle.line.specs.declared.Line as Declared
 use Rattle.line.specs.declared.Reader.{Reader}
 use Rattle.line.specs.State.{rulesFor, keptOf}
-use Rattle.line.proofs.Carried.{kept-is, held-waiting}
+use Rattle.line.proofs.Carried.{kept-is, held-below-longest}
 use Rattle.touch.specs.declared.Setup.{Setup}
 use Rattle.panel.specs.Sound.{lineOf}
 use Rattle.panel.specs.Reachable.{by-start}
@@ -48,7 +48,7 @@ module _ (setup : Setup) (now : Moment) (calls : List Call)
         no-longer = λ all. waits ∙ waits-while-left rules (c .events) (c .hands ∙ all ∙ ap (lineReports rules) (sym (c .gives)));
         held = λ none-waits.
             ap (λ (k : Kept). k .bytes) (same ∙ kept-is-held rules (c .events) (sym waits ∙ none-waits)) ∙ ap (lineHeld rules) (c .gives);
-        at-most-257 = λ none-waits. rw (ap (λ (k : Kept). k .bytes) same) (held-waiting line kept (c .reached) (sym waits ∙ none-waits));
+        at-most-257 = λ none-waits. rw (ap (λ (k : Kept). k .bytes) same) (held-below-longest line kept (c .reached) (sym waits ∙ none-waits));
       }
 
 pub always-as-read : AlwaysAsRead

@@ -9,7 +9,7 @@ use Rattle.reading.specs.Place.{Rules}
 use Rattle.reading.specs.Line as Line
 use Rattle.reading.specs.Moves.{Kept, fresh, waiting}
 use Rattle.reading.specs.Run.{run}
-use Rattle.reading.specs.Demand3.{joined, acceptedOf}
+use Rattle.reading.specs.Demand3.{joined, acceptedOf, oneLessThanLongest}
 use Rattle.reading.proofs.Settling.{quiet-nil}
 use Rattle.reading.proofs.Demand3.{accepted-open, accepted-closed}
 use Rattle.reading.proofs.AfterMark.{after-mark}
@@ -22,7 +22,7 @@ use Rattle.panel.specs.Sound.{lineOf}
 use Rattle.panel.specs.Reachable.{by-start}
 use Rattle.panel.proofs.Invariant.{reachable-sound}
 use Rattle.demands.specs.Calls.{Moment, begun, afterAll, handedOverAll}
-use Rattle.demands.specs.Reports.{reportWaits}
+use Rattle.demands.specs.Reports.{reportWaits, rulesOf}
 use Rattle.demands.specs.Demand3.{Ready, OnAnOpenLine, BehindAMark, AfterAMark, ReadyAgain}
 use Rattle.demands.proofs.Calls.{calls-arise, arises-reachable}
 use Rattle.demands.proofs.Waits.{kept-same}
@@ -43,6 +43,11 @@ ready-new now ready =
 
 idle-new : (rules : Rules) → (_≡_ {A = List ℕ} [] []) × (waiting rules fresh ≡ false)
 idle-new rules = (refl, quiet-nil rules false)
+
+-- "once 257 bytes have followed the damage": with the two header bytes that every setup has, the figure is that
+pub figure-is-257 : (now : Moment) → oneLessThanLongest (rulesOf (now .panel) .header) ≡ 257
+unfolding headerBytes
+figure-is-257 now = refl
 
 pub demand3-open : OnAnOpenLine handedOverAll
 unfolding run headerBytes

@@ -9,6 +9,7 @@ use Rattle.reading.specs.Place.{Report}
 use Rattle.reading.specs.Stretch.{reports}
 use Rattle.reading.specs.Line.{lineReports}
 use Rattle.reading.specs.Run.{lineHeld}
+use Rattle.reading.specs.Demand3.{oneLessThanLongest}
 use Rattle.line.specs.State.{rulesFor, keptOf}
 use Rattle.commands.specs.Lent.{Lent}
 use Rattle.touch.specs.declared.Setup.{Setup}
@@ -43,8 +44,9 @@ pub record AsRead (setup : Setup) (now : Moment) (calls : List Call) : Type 0 wh
   pub no-longer : handedOverAll now calls ≡ readingOf setup now calls → reportWaits (afterAll now calls .panel) ≡ false
   -- "otherwise the bytes from the waiting place on are held"
   pub held : reportWaits (afterAll now calls .panel) ≡ false → keptBy (afterAll now calls .panel) ≡ lineHeld (rulesFor (lineOf setup)) (givenAll now calls)
-  -- "a frame has 3 + L bytes, at most 258": at most 257 bytes are held
-  pub at-most-257 : reportWaits (afterAll now calls .panel) ≡ false → length (keptBy (afterAll now calls .panel)) ≤ 257
+  -- "a frame has 3 + L bytes, at most 258": one byte less is held at most, 257 with two header bytes
+  pub at-most-257 : reportWaits (afterAll now calls .panel) ≡ false
+      → length (keptBy (afterAll now calls .panel)) ≤ oneLessThanLongest (rulesFor (lineOf setup) .header)
 
 abbrev pub AlwaysAsRead : Type 0
 AlwaysAsRead =
