@@ -1,0 +1,80 @@
+// An event: the panel is started where it was not, and then told of it.
+ghost use mathlib.Core.Path.{_≡_};
+ghost use Prim.Native.Nat.{_≤_};
+ghost use lib.ListN.{length};
+ghost use Rattle.trace.specs.State.{leavesTrace, tracePrinting, leaves, printing};
+ghost use Rattle.trace.specs.Events.{startedBy, eventDone};
+ghost use Rattle.telling.specs.Events.{event};
+use crate::Printed;
+use crate::Stage;
+use crate::Trace;
+use crate::lines;
+use crate::records;
+use crate::stages;
+use panel::Panel;
+use panel::Start;
+use panel::StartAnswer;
+use text::Line;
+
+// The panel with which an event or the end is answered: started now, unless it was.
+pub fn begin(trace: Trace, part: &[u8]) -> Start
+    ensures { λ r. ⌜ r ≡ startedBy trace (now (part .entry)) ⌝ }
+{
+    let stage = trace.stage;
+    if stages::is_started(stage) {
+        let panel = trace.panel;
+        return Start {
+            answer: StartAnswer::Started,
+            panel: panel,
+        };
+    }
+    Panel::start(trace.setup, part)
+}
+
+// An event of a panel that is started.
+fn started_event(
+    trace: Trace,
+    panel: Panel,
+    item: [u8; 33],
+    part: &[u8],
+    words: &mut [u16],
+    room: &mut [u8],
+) -> Printed
+    requires { ⌜ 1024 ≤ length (now room) ⌝ }
+    ensures { λ r. ⌜ leavesTrace r (now (words .exit)) (now (room .exit)) ≡ tracePrinting trace (event panel (now (part .entry)) (now (words .entry)) item) (now (room .entry)) ⌝ }
+{
+    let done = telling::tell_event(panel, item, part, words, room);
+    let next = done.panel;
+    let stage = Stage::Started;
+    Printed {
+        trace: Trace {
+            stage: stage,
+            panel: next,
+            ..trace
+        },
+        count: done.count,
+    }
+}
+
+// An event, the first of which starts the panel; where the start is refused, the trace fails.
+pub fn any_event(
+    trace: Trace,
+    item: [u8; 33],
+    table: &[u8],
+    words: &mut [u16],
+    room: &mut [u8],
+) -> Printed
+    requires { ⌜ (4128 ≤ length (now table)) × (1024 ≤ length (now room)) ⌝ }
+    ensures { λ r. ⌜ leaves r (now (table .entry)) (now (words .exit)) (now (room .exit)) ≡ printing (eventDone trace (now (table .entry)) (now (words .entry)) item) (now (room .entry)) ⌝ }
+{
+    let n = records::kept(trace.records) * 32;
+    let begun = begin(trace, &table[0..n]);
+    let answer = begun.answer;
+    let panel = begun.panel;
+    match answer {
+        StartAnswer::Started => started_event(trace, panel, item, &table[0..n], words, room),
+        StartAnswer::WrongSetup => lines::stop(trace, Line::Failed(11), room),
+        StartAnswer::NotRecords => lines::stop(trace, Line::Failed(12), room),
+        StartAnswer::WrongRecord(i) => lines::stop(trace, Line::WrongRecord(i as u8), room),
+    }
+}
