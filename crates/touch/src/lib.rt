@@ -15,9 +15,9 @@ ghost use Rattle.touch.specs.Act.{slidAt, actedOf, draggedOf};
 const FLAG_VALUES: u8 = 4;
 
 // How many records the longest table has, and how many bytes one takes.
-const MOST_RECORDS: usize = 128;
+pub const MOST_RECORDS: usize = 128;
 
-const RECORD_BYTES: usize = 32;
+pub const RECORD_BYTES: usize = 32;
 
 pub struct Setup {
     pub h1: u8,
