@@ -7,6 +7,9 @@ use crate::script;
 use panel::Panel;
 use panel::StartAnswer;
 
+// How many bytes may be given at once.
+const PIECE: usize = 4096;
+
 fn is_started(a: StartAnswer) -> bool {
     match a {
         StartAnswer::Started => true,
@@ -50,10 +53,10 @@ fn give_byte(bench: Bench) -> Bench {
 }
 
 fn give_bytes(bench: Bench) -> Bench {
-    let mut bytes = [0u8; 4096];
+    let mut bytes = [0u8; PIECE];
     let n = script::next_word() as usize;
     script::fill(&mut bytes, n);
-    if n <= 4096 {
+    if n <= PIECE {
         let panel = bench.panel;
         let fed = panel.give_bytes(&bytes[0..n]);
         let next = fed.panel;

@@ -3,12 +3,15 @@ use crate::Bench;
 use crate::say;
 use crate::script;
 
+// Room for any title, whose length is one byte.
+const TITLE: usize = 256;
+
 pub fn title(bench: Bench) -> Bench {
-    let mut text = [0u8; 256];
+    let mut text = [0u8; TITLE];
     let n = wire::count(script::next_byte());
     script::fill(&mut text, n);
     say::text(b"# ");
-    if n <= 256 {
+    if n <= TITLE {
         say::text(&text[0..n]);
     }
     say::text(b"\n");

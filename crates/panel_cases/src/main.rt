@@ -16,8 +16,10 @@
 //   V address (2)                   a word
 //   D                               all registers, the display board's three numbers, and a sum over all words
 // The program ends at the end of the script.
+use frame::LEAST_ROOM;
 use panel::Panel;
 use touch::Setup;
+use wire::WORD_COUNT;
 
 mod answers;
 mod calls;
@@ -74,8 +76,8 @@ fn first_bench() -> Bench {
     Bench {
         panel: panel,
         table: 0,
-        words: 28672,
-        room: 265,
+        words: WORD_COUNT,
+        room: LEAST_ROOM,
     }
 }
 

@@ -5,6 +5,7 @@ use crate::script;
 use crate::sums;
 use panel::Panel;
 use registers::RegisterAddress;
+use wire::REGISTER_COUNT;
 
 fn show_register(bench: Bench) -> Bench {
     let address = script::next_byte();
@@ -29,7 +30,7 @@ fn show_word(bench: Bench, words: &[u16]) -> Bench {
 
 fn say_registers(panel: Panel) {
     let mut i: usize = 0;
-    while i < 256 {
+    while i < REGISTER_COUNT {
         say::byte(panel.register(RegisterAddress((i % 256) as u8)));
         i += 1;
     }

@@ -1,8 +1,8 @@
--- Laws of `allReports`: each report leaves fewer of the at most 258 bytes kept, so asking more often changes nothing.
+-- Laws of `allReports`: each report leaves fewer of the bytes kept, at most as many as the longest frame has, so asking more often changes nothing.
 use mathlib.Core.Path.{_≡_, refl, sym, ap, _∙_}
 use mathlib.Core.Bool.{Bool, true, false, not, _&&_}
 use mathlib.Core.List.{List, []}
-use Prim.Native.Nat.{ℕ, zero, suc, _≤_, _<_}
+use Prim.Native.Nat.{ℕ, zero, suc, _-_, _≤_, _<_}
 use native.Mathlib.Omega.{arith}
 use borrow.Author.Tests.{eq-eqb, ltb-true, not-false}
 use lib.Dec.{ltb}
@@ -28,6 +28,7 @@ use Rattle.panel.specs.Sound.{lineOf, Sound}
 use Rattle.trace.specs.State.{Held, Shown, showsTold, following, waits, isStarted}
 use Rattle.telling.specs.Events.{replyRoom, askedOnce}
 use Rattle.trace.specs.Output.{allReports}
+use Rattle.frame.specs.Frame.{longestFrame}
 use Rattle.printing.proofs.HeldSound.{HeldSound, waits-started, report-held-sound}
 
 -- ---- A report that waits is handed over, and leaves fewer bytes
@@ -99,19 +100,19 @@ report-fewer held sound is =
 pub report-stays-sound : (held : Held) → HeldSound held → waits (held .trace) ≡ true → HeldSound (reportShown held .held)
 report-stays-sound held sound is = report-held-sound (held .trace) (held .table) (held .words) sound is
 
--- never more than 258 bytes are kept
-pub kept-258 : (held : Held) → HeldSound held → keptBy held ≤ 258
-kept-258 held sound = go (isStarted (held .trace .stage)) refl
+-- never more bytes are kept than the longest frame has
+pub kept-at-most : (held : Held) → HeldSound held → keptBy held ≤ longestFrame
+kept-at-most held sound = go (isStarted (held .trace .stage)) refl
   where
-    go : (b : Bool) → isStarted (held .trace .stage) ≡ b → keptBy held ≤ 258
+    go : (b : Bool) → isStarted (held .trace .stage) ≡ b → keptBy held ≤ longestFrame
     go true is =
         let reads = sound .panel is .reads in
         let long : keptBy held ≡ length (reads .kept .bytes) = ap (λ (r : Reader). r .len) (reads .is) in
         omega (arith, reads .reached .few)
     go false is =
-        let room = ltb (keptBy held) 258 in
+        let room = ltb (keptBy held) longestFrame in
         let free : (room && not (isAnswer (held .trace .panel .reader .head))) ≡ true = not-false _ (sound .quiet is) in
-        omega (arith, ltb-true (keptBy held) 258 (and-left room (not (isAnswer (held .trace .panel .reader .head))) free))
+        omega (arith, ltb-true (keptBy held) longestFrame (and-left room (not (isAnswer (held .trace .panel .reader .head))) free))
 
 pub none-reported : (n : ℕ) (held : Held) → waits (held .trace) ≡ false → allReports n held ≡ record { held = held; text = [] }
 unfolding allReports
@@ -142,8 +143,8 @@ enough (suc n) held sound few = go (waits (held .trace)) refl (enough n (reportS
 
 -- a report that waits is the first of all
 pub first-reported : (held : Held) → HeldSound held → waits (held .trace) ≡ true
-    → allReports 258 held ≡ following (reportShown held .text) (allReports 258 (reportShown held .held))
+    → allReports longestFrame held ≡ following (reportShown held .text) (allReports longestFrame (reportShown held .held))
 first-reported held sound is =
-    one-reported 257 held is
+    one-reported (longestFrame - 1) held is
     ∙ ap (λ (s : Shown). following (reportShown held .text) s)
-    (sym (enough 257 (reportShown held .held) (report-stays-sound held sound is) (omega (arith, report-fewer held sound is, kept-258 held sound))))
+    (sym (enough (longestFrame - 1) (reportShown held .held) (report-stays-sound held sound is) (omega (arith, report-fewer held sound is, kept-at-most held sound))))

@@ -27,16 +27,17 @@ use Rattle.trace.specs.declared.Trace.{Trace}
 use Rattle.telling.specs.Told.{Told, tells}
 use Rattle.trace.specs.State.{Held, holds, Shown, showsTold, noItem, keptRecords, tableBytes, tableOf, newTrace, idle, withPanel, stopped, waits, isStarted, isOver}
 use Rattle.trace.specs.Items.{bodyLength, mayCome, recordPut}
-use Rattle.telling.specs.Events.{contactTold, liftTold, event}
+use Rattle.telling.specs.Events.{contactTold, liftTold, event, itemBytes}
 use Rattle.trace.specs.Events.{startedBy, eventAnswered, eventDone, itemDone, grown, tookByte}
 use Rattle.telling.specs.Events.{replyRoom, askedOnce}
 use Rattle.trace.specs.Output.{newHeld}
+use Rattle.touch.specs.Table.{recordBytes}
 use Rattle.printing.proofs.ByTest.{by-test}
 use Rattle.printing.proofs.WordLengths.{reported-words, contacted-words}
 
--- an item is gathered in 33 bytes, all 0 between two items
+-- an item is gathered in the bytes of the longest, all 0 between two items
 pub record ItemSound (trace : Trace) : Type 0 where
-  pub long : length (trace .item) ≡ 33
+  pub long : length (trace .item) ≡ itemBytes
   pub are-bytes : Bytes (trace .item)
   pub none : trace .have ≡ 0 → trace .item ≡ noItem
 
@@ -64,7 +65,7 @@ bytes-set (x ∷ xs) (suc k) b byte are (suc i) = bytes-set xs k b byte (λ j. a
 
 no-item-sound : (trace : Trace) → ItemSound (idle trace)
 unfolding noItem
-no-item-sound trace = record { long = length-replicate {A = ℕ} 33 0; are-bytes = bytes-zeros 33; none = λ zero. refl }
+no-item-sound trace = record { long = length-replicate {A = ℕ} itemBytes 0; are-bytes = bytes-zeros itemBytes; none = λ zero. refl }
 
 -- ---- A new trace
 
@@ -160,18 +161,18 @@ module _ (trace : Trace) (table words : List ℕ) (item : ItemSound trace) (lent
           let part = tableOf (trace .records) table in
           answered-sound (startedBy trace part .answer) (startedBy trace part .panel) gathered are (begun-sound trace part sound)
 
-put-table : (records : ℕ) (gathered table : List ℕ) → length gathered ≡ 33 → tableBytes ≤ length table → tableBytes ≤ length (recordPut records gathered table)
-unfolding recordPut tableBytes keptRecords
+put-table : (records : ℕ) (gathered table : List ℕ) → length gathered ≡ itemBytes → tableBytes ≤ length table → tableBytes ≤ length (recordPut records gathered table)
+unfolding recordPut
 put-table records gathered table long lent =
-    by-test (λ (l : List ℕ). 4128 ≤ length l) (ltb records 129) _ _
+    by-test (λ (l : List ℕ). tableBytes ≤ length l) (ltb records keptRecords) _ _
     (λ more.
-    let fits : records * 32 + length (drop 1 gathered) ≤ length table = simp length-drop (omega (arith, ltb-true records 129 more)) in
-    omega (arith, length-laidAt table (drop 1 gathered) (records * 32) fits))
+    let fits : records * recordBytes + length (drop 1 gathered) ≤ length table = simp length-drop (omega (arith, ltb-true records keptRecords more)) in
+    omega (arith, length-laidAt table (drop 1 gathered) (records * recordBytes) fits))
     (λ full. lent)
 
 -- ---- One byte
 
-item-sound : (trace : Trace) (table words gathered : List ℕ) → HeldSound (holds trace table words) → waits trace ≡ false → trace .have ≡ 0 → length gathered ≡ 33 → Bytes gathered
+item-sound : (trace : Trace) (table words gathered : List ℕ) → HeldSound (holds trace table words) → waits trace ≡ false → trace .have ≡ 0 → length gathered ≡ itemBytes → Bytes gathered
     → HeldSound (itemDone trace table words gathered .held)
 unfolding itemDone isStarted isOver
 item-sound trace table words gathered sound none-waits whole long are =
@@ -200,7 +201,7 @@ module _ (trace : Trace) (table words : List ℕ) (b : ℕ) (byte : b < 256) (so
   unfolding grown
   grown-sound going =
       let gathered = set (trace .item) (trace .have) b in
-      let long : length gathered ≡ 33 = length-set (trace .item) (trace .have) b ∙ sound .item .long in
+      let long : length gathered ≡ itemBytes = length-set (trace .item) (trace .have) b ∙ sound .item .long in
       let are : Bytes gathered = bytes-set (trace .item) (trace .have) b byte (sound .item .are-bytes) in
       by-test (λ (s : Shown). HeldSound (s .held)) (leb (bodyLength (byteAt gathered 0)) (trace .have)) _ _
       (λ whole. item-sound (idle trace) table words gathered

@@ -19,10 +19,12 @@ use Rattle.trace.specs.declared.Stage.the-variants.{Bare, Ready, Started, Over}
 use Rattle.trace.specs.declared.Trace.{Trace}
 use Rattle.trace.specs.State.{Held, holds, shows, noItem, withPanel, waits, isStarted}
 use Rattle.trace.specs.Steps.{lineRun, Step, takes, ranBytes, tookOne, longestRun, tookLines, tookInput, step}
+use Rattle.frame.specs.Frame.{longestFrame}
 use Rattle.printing.proofs.ByTest.{by-test}
 use Rattle.printing.proofs.HeldSound.{HeldSound, byte-held-sound, run-held-sound}
-use Rattle.printing.proofs.AllReports.{keptBy, report-fewer, report-stays-sound, kept-258}
+use Rattle.printing.proofs.AllReports.{keptBy, report-fewer, report-stays-sound, kept-at-most}
 use Rattle.printing.proofs.Outputs.{outputFrom, report-output, byte-output, fed-none, fed-more, between, run-output}
+use Rattle.printing.specs.Feeding.{callsEach}
 
 -- a step leaves what is sound, what is printed before it is its text and what is printed behind it, and one that has something to do comes nearer to the end
 pub record Onward (held : Held) (chunk rest : List ℕ) (s : Step) : Type 0 where
@@ -30,7 +32,7 @@ pub record Onward (held : Held) (chunk rest : List ℕ) (s : Step) : Type 0 wher
   pub within : s .used ≤ length chunk
   pub prints : outputFrom held (chunk ++ rest) ≡ s .shown .text ++ outputFrom (s .shown .held) (drop (s .used) chunk ++ rest)
   pub nearer : (waits (held .trace) ≡ true) ⊎ (0 < length chunk)
-      → length (drop (s .used) chunk) * 259 + keptBy (s .shown .held) < length chunk * 259 + keptBy held
+      → length (drop (s .used) chunk) * callsEach + keptBy (s .shown .held) < length chunk * callsEach + keptBy held
 
 one-onward : (held : Held) (chunk rest : List ℕ) → HeldSound held → Bytes chunk → waits (held .trace) ≡ false
     → Onward held chunk rest (tookOne (held .trace) (held .table) (held .words) chunk)
@@ -42,7 +44,7 @@ one-onward held [] rest sound are quiet = record { sound = sound; within = omega
     some (inr less) = absurd (omega arith)
 one-onward held (b ∷ chunk) rest sound are quiet =
     let next = byte-held-sound (held .trace) (held .table) (held .words) b (are 0) sound quiet in
-    record { sound = next; within = omega arith; prints = byte-output held b (chunk ++ rest) quiet; nearer = λ some. omega (arith, kept-258 _ next) }
+    record { sound = next; within = omega arith; prints = byte-output held b (chunk ++ rest) quiet; nearer = λ some. omega (arith, kept-at-most _ next) }
 
 -- a run is given one byte at least
 some-used : (panel : Panel) (bytes : List ℕ) → busy (panel .reader) ≡ false → (length bytes ≡ 0 → ⊥) → 1 ≤ fedBytes panel bytes .used
@@ -119,10 +121,10 @@ run-onward held chunk rest n sound are quiet is-started is-none some =
       sound = next;
       within = run-within (held .trace .panel) n chunk;
       prints = ran-output (held .trace) (held .table) (held .words) is-started is-none (sound .item .none is-none) n chunk rest;
-      nearer = λ more. nearer more (kept-258 _ next) (some-used (held .trace .panel) (lineRun n chunk) quiet some);
+      nearer = λ more. nearer more (kept-at-most _ next) (some-used (held .trace .panel) (lineRun n chunk) quiet some);
     }
   where
-    nearer : (waits (held .trace) ≡ true) ⊎ (0 < length chunk) → {k u : ℕ} → k ≤ 258 → 1 ≤ u → length (drop (u * 2) chunk) * 259 + k < length chunk * 259 + keptBy held
+    nearer : (waits (held .trace) ≡ true) ⊎ (0 < length chunk) → {k u : ℕ} → k ≤ longestFrame → 1 ≤ u → length (drop (u * 2) chunk) * callsEach + k < length chunk * callsEach + keptBy held
     nearer (inl is) few used = let z : _≡_ {A = Bool} true false = sym is ∙ quiet in never (cc)
     nearer (inr long) few used = simp length-drop (omega arith)
 

@@ -98,17 +98,17 @@ module _ (panel : Panel) (item table words room : List ℕ) where
 -- ---- With and without room
 
 module _ (told : Told) (panel : Panel) (words room : List ℕ) where
-  pub told-in : (r : PanelPrinted) (words′ left : List ℕ) → 1024 ≤ length room → leavesPanel r words′ left ≡ panelPrinting told room
+  pub told-in : (r : PanelPrinted) (words′ left : List ℕ) → leastText ≤ length room → leavesPanel r words′ left ≡ panelPrinting told room
       → leavesPanel r words′ left ≡ printedIn told panel words room
-  unfolding printedIn leastText
-  told-in r words′ left wide e = rw (le-leb 1024 (length room) wide) e
+  unfolding printedIn
+  told-in r words′ left wide e = rw (le-leb leastText (length room) wide) e
 
-  pub not-told : length room < 1024 → leavesPanel (record { panel = panel; count = 0 }) words room ≡ printedIn told panel words room
-  unfolding printedIn leastText
-  not-told narrow = rw (lt-leb 1024 (length room) narrow)
+  pub not-told : length room < leastText → leavesPanel (record { panel = panel; count = 0 }) words room ≡ printedIn told panel words room
+  unfolding printedIn
+  not-told narrow = rw (lt-leb leastText (length room) narrow)
 
   -- what is printed where there is room
-  pub printed-in : (r : PanelPrinted) (words′ left : List ℕ) → 1024 ≤ length room → leavesPanel r words′ left ≡ printedIn told panel words room
+  pub printed-in : (r : PanelPrinted) (words′ left : List ℕ) → leastText ≤ length room → leavesPanel r words′ left ≡ printedIn told panel words room
       → leavesPanel r words′ left ≡ panelPrinting told room
-  unfolding printedIn leastText
-  printed-in r words′ left wide e = e ∙ rw (le-leb 1024 (length room) wide)
+  unfolding printedIn
+  printed-in r words′ left wide e = e ∙ rw (le-leb leastText (length room) wide)

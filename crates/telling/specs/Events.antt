@@ -1,10 +1,12 @@
 -- 01, "The trace program": what an event of a panel does and prints, and a report that is asked for.
-use Prim.Native.Nat.{ℕ}
+use Prim.Native.Nat.{ℕ, _+_}
 use mathlib.Core.Bool.{cond}
 use mathlib.Core.List.{List, []}
 use lib.Dec.{eqb}
 use lib.ListN.{replicate}
 use Rattle.wire.specs.ByteOrder.{byteAt, wordAt}
+use Rattle.frame.specs.Writer.{leastRoom}
+use Rattle.touch.specs.Table.{recordBytes}
 use Rattle.text.specs.declared.Line.the-variants as line
 use Rattle.text.specs.Text.{lineText}
 use Rattle.panel.specs.declared.Panel.{Panel}
@@ -27,6 +29,10 @@ contactTold panel table words x y =
 unfoldable pub liftTold : Panel → List ℕ → Told
 liftTold panel words = tells (lifting panel .panel) words (touchText (liftNumber (lifting panel .answer)))
 
+-- an item is its kind with its body behind it; the longest is a touch record
+abbrev pub itemBytes : ℕ
+itemBytes = recordBytes + 1
+
 -- "01 a line byte; 02 quiet, none; 03 contact X Y, 4; 04 lift, none"
 unfoldable pub event : Panel → List ℕ → List ℕ → List ℕ → Told
 event panel table words item =
@@ -38,7 +44,7 @@ event panel table words item =
 
 -- the reply room of a report
 unfoldable pub replyRoom : List ℕ
-replyRoom = replicate 265 0
+replyRoom = replicate leastRoom 0
 
 -- one report asked for
 unfoldable pub askedOnce : Panel → List ℕ → Told

@@ -1,3 +1,4 @@
 pub mod Told
 pub mod Lines
+pub mod Lengths
 pub mod Events

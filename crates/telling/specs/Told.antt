@@ -35,7 +35,7 @@ panelPrinting told room =
     leavesPanel (record { panel = told .panel; count = length (told .text) }) (told .words) (over (told .text) room)
 
 -- room for the lines of any report
-unfoldable pub leastText : ℕ
+abbrev pub leastText : ℕ
 leastText = 1024
 
 -- with less room nothing is done

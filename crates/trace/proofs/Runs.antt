@@ -58,54 +58,52 @@ run-zero : (input : List ℕ) → lineRun 0 input ≡ []
 unfolding lineRun
 run-zero input = refl
 
-module _ (input : List ℕ) (n : ℕ) (more : (ltb n 256 && ltb n (length input / 2)) ≡ true) where
-  pub run-room : n < 256
-  run-room = ltb-true n 256 (and-left (ltb n 256) (ltb n (length input / 2)) more)
+module _ (input : List ℕ) (n : ℕ) (more : (ltb n longestRun && ltb n (length input / 2)) ≡ true) where
+  pub run-room : n < longestRun
+  run-room = ltb-true n longestRun (and-left (ltb n longestRun) (ltb n (length input / 2)) more)
 
-  pub run-fits : n + 1 ≤ 256
+  pub run-fits : n + 1 ≤ longestRun
   run-fits = omega (arith, run-room)
 
-  pub run-less : 256 - (n + 1) < 256 - n
+  pub run-less : longestRun - (n + 1) < longestRun - n
   run-less = omega (arith, run-room)
 
   pub kind-inside : 2 * n < length input
-  kind-inside = omega (arith, ltb-true n (length input / 2) (and-right (ltb n 256) (ltb n (length input / 2)) more))
+  kind-inside = omega (arith, ltb-true n (length input / 2) (and-right (ltb n longestRun) (ltb n (length input / 2)) more))
 
   pub run-inside : 2 * n + 1 < length input
-  run-inside = omega (arith, ltb-true n (length input / 2) (and-right (ltb n 256) (ltb n (length input / 2)) more))
+  run-inside = omega (arith, ltb-true n (length input / 2) (and-right (ltb n longestRun) (ltb n (length input / 2)) more))
 
-module _ (input run : List ℕ) (n : ℕ) (so-far : lineRun 256 input ≡ take n run ++ lineRun (256 - n) (drop (2 * n) input)) where
-  module _ (more : (ltb n 256 && ltb n (length input / 2)) ≡ true) where
-    left-is : lineRun (256 - n) (drop (2 * n) input) ≡ lineRun (suc (256 - (n + 1))) (getD input (2 * n) 0 ∷ getD input (2 * n + 1) 0 ∷ drop (2 * (n + 1)) input)
+module _ (input run : List ℕ) (n : ℕ) (so-far : lineRun longestRun input ≡ take n run ++ lineRun (longestRun - n) (drop (2 * n) input)) where
+  module _ (more : (ltb n longestRun && ltb n (length input / 2)) ≡ true) where
+    left-is : lineRun (longestRun - n) (drop (2 * n) input) ≡ lineRun (suc (longestRun - (n + 1))) (getD input (2 * n) 0 ∷ getD input (2 * n + 1) 0 ∷ drop (2 * (n + 1)) input)
     left-is =
-        let a : 256 - n ≡ suc (256 - (n + 1)) = omega (arith, run-room input n more) in
-        ap (λ (m : ℕ). lineRun m (drop (2 * n) input)) a ∙ ap (λ (l : List ℕ). lineRun (suc (256 - (n + 1))) l) (pair-front input n (run-inside input n more))
+        let a : longestRun - n ≡ suc (longestRun - (n + 1)) = omega (arith, run-room input n more) in
+        ap (λ (m : ℕ). lineRun m (drop (2 * n) input)) a ∙ ap (λ (l : List ℕ). lineRun (suc (longestRun - (n + 1))) l) (pair-front input n (run-inside input n more))
 
-    pub run-more : getD input (2 * n) 0 ≡ 1 → length run ≡ 256
-        → lineRun 256 input ≡ take (n + 1) (set run n (getD input (2 * n + 1) 0)) ++ lineRun (256 - (n + 1)) (drop (2 * (n + 1)) input)
+    pub run-more : getD input (2 * n) 0 ≡ 1 → length run ≡ longestRun
+        → lineRun longestRun input ≡ take (n + 1) (set run n (getD input (2 * n + 1) 0)) ++ lineRun (longestRun - (n + 1)) (drop (2 * (n + 1)) input)
     run-more is long =
         let b = getD input (2 * n + 1) 0 in
-        let rest = lineRun (256 - (n + 1)) (drop (2 * (n + 1)) input) in
+        let rest = lineRun (longestRun - (n + 1)) (drop (2 * (n + 1)) input) in
         let a : suc n ≡ n + 1 = omega arith in
         let put : take (n + 1) (set run n b) ≡ take n run ++ (b ∷ []) = ap (λ (k : ℕ). take k (set run n b)) (sym a) ∙ take-suc-set run n b (omega (arith, run-room input n more)) in
-        so-far ∙ ap (λ (l : List ℕ). take n run ++ l) (left-is ∙ run-front (256 - (n + 1)) (getD input (2 * n) 0) b (drop (2 * (n + 1)) input) is)
+        so-far ∙ ap (λ (l : List ℕ). take n run ++ l) (left-is ∙ run-front (longestRun - (n + 1)) (getD input (2 * n) 0) b (drop (2 * (n + 1)) input) is)
         ∙ sym (append-assoc (take n run) (b ∷ []) rest)
         ∙ ap (λ (l : List ℕ). l ++ rest) (sym put)
 
     pub run-stops : (getD input (2 * n) 0 ≡ 1 → ⊥) → take n run ≡ lineRun longestRun input
-    unfolding longestRun
     run-stops other =
-        sym (so-far ∙ ap (λ (l : List ℕ). take n run ++ l) (left-is ∙ run-none (256 - (n + 1)) (getD input (2 * n) 0) (getD input (2 * n + 1) 0) (drop (2 * (n + 1)) input) other)
+        sym (so-far ∙ ap (λ (l : List ℕ). take n run ++ l) (left-is ∙ run-none (longestRun - (n + 1)) (getD input (2 * n) 0) (getD input (2 * n + 1) 0) (drop (2 * (n + 1)) input) other)
         ∙ append-nil (take n run))
 
-  pub run-ends : (ltb n 256 && ltb n (length input / 2)) ≡ false → n ≤ 256 → take n run ≡ lineRun longestRun input
-  unfolding longestRun
-  run-ends ends few = sym (so-far ∙ ap (λ (l : List ℕ). take n run ++ l) (empty (ltb n 256) refl ends) ∙ append-nil (take n run))
+  pub run-ends : (ltb n longestRun && ltb n (length input / 2)) ≡ false → n ≤ longestRun → take n run ≡ lineRun longestRun input
+  run-ends ends few = sym (so-far ∙ ap (λ (l : List ℕ). take n run ++ l) (empty (ltb n longestRun) refl ends) ∙ append-nil (take n run))
     where
-      empty : (b : Bool) → ltb n 256 ≡ b → (b && ltb n (length input / 2)) ≡ false → lineRun (256 - n) (drop (2 * n) input) ≡ []
-      empty true is ends = run-short (256 - n) (drop (2 * n) input) (rw length-drop (omega (arith, ltb-false n (length input / 2) ends)))
+      empty : (b : Bool) → ltb n longestRun ≡ b → (b && ltb n (length input / 2)) ≡ false → lineRun (longestRun - n) (drop (2 * n) input) ≡ []
+      empty true is ends = run-short (longestRun - n) (drop (2 * n) input) (rw length-drop (omega (arith, ltb-false n (length input / 2) ends)))
       empty false is ends =
-          let full : 256 - n ≡ 0 = omega (arith, ltb-false n 256 is) in
+          let full : longestRun - n ≡ 0 = omega (arith, ltb-false n longestRun is) in
           ap (λ (m : ℕ). lineRun m (drop (2 * n) input)) full ∙ run-zero (drop (2 * n) input)
 
 -- ---- A run that is given to the panel
@@ -120,7 +118,7 @@ given-within reader (b ∷ bytes) = go (busy reader) (given-within (givenByte re
     go true within = omega arith
     go false within = omega arith
 
-pub run-used : (panel : Panel) (bytes : List ℕ) (fed : FedBytes) → fed ≡ fedBytes panel bytes → length bytes ≤ 256 → fed .used ≤ 256
+pub run-used : (panel : Panel) (bytes : List ℕ) (fed : FedBytes) → fed ≡ fedBytes panel bytes → length bytes ≤ longestRun → fed .used ≤ longestRun
 unfolding fedBytes
 run-used panel bytes fed is short =
     let same : fed .used ≡ givenBytes (panel .reader) bytes .used = ap (λ (f : FedBytes). f .used) is in
@@ -159,7 +157,7 @@ module _ (trace : Trace) (table words room input run : List ℕ) (n : ℕ) (is-r
       let none : eqb (length (lineRun longestRun input)) 0 ≡ true = ap (λ (l : List ℕ). eqb (length l) 0) (sym is-run ∙ ap (λ (k : ℕ). take k run) is) in
       rw none e
 
-  pub some-lines : (took : Took) → (n ≡ 0 → ⊥) → n ≤ 256 → length run ≡ 256 → took ≡ ranBytes trace (take (n - 0) run)
+  pub some-lines : (took : Took) → (n ≡ 0 → ⊥) → n ≤ longestRun → length run ≡ longestRun → took ≡ ranBytes trace (take (n - 0) run)
       → leavesStep took table words room ≡ stepPrinting (tookLines trace table words input) room
   unfolding tookLines ranBytes
   some-lines took some few long is-took =
@@ -196,8 +194,8 @@ module _ (trace : Trace) (table words room input : List ℕ) (w : Bool) (is-w : 
   unfolding step
   takes-input took table′ words′ left is e = rw (sym is-w ∙ is) e
 
-pub lent-judged : (table words room : ℕ) → (leb 4128 table && eqb words 28672 && leb 1024 room) ≡ lentTo table words room
-unfolding lentTo tableBytes keptRecords leastText
+pub lent-judged : (table words room : ℕ) → (leb tableBytes table && eqb words wordCount && leb leastText room) ≡ lentTo table words room
+unfolding lentTo
 lent-judged table words room = refl
 
 module _ (trace : Trace) (table words room input : List ℕ) (l : Bool) (is-l : l ≡ lentTo (length table) (length words) (length room)) where
@@ -217,11 +215,11 @@ module _ (trace : Trace) (table words room input : List ℕ) (l : Bool) (is-l : 
 
 -- what lent says, in numbers
 module _ (table words room : ℕ) (l : Bool) (is-l : l ≡ lentTo table words room) (is : l ≡ true) where
-  whole : (leb 4128 table && eqb words 28672 && leb 1024 room) ≡ true
+  whole : (leb tableBytes table && eqb words wordCount && leb leastText room) ≡ true
   whole = lent-judged table words room ∙ sym is-l ∙ is
 
-  pub table-lent : 4128 ≤ table
-  table-lent = leb-true 4128 table (and-left (leb 4128 table) (eqb words 28672) (and-left (leb 4128 table && eqb words 28672) (leb 1024 room) whole))
+  pub table-lent : tableBytes ≤ table
+  table-lent = leb-true tableBytes table (and-left (leb tableBytes table) (eqb words wordCount) (and-left (leb tableBytes table && eqb words wordCount) (leb leastText room) whole))
 
-  pub room-lent : 1024 ≤ room
-  room-lent = leb-true 1024 room (and-right (leb 4128 table && eqb words 28672) (leb 1024 room) whole)
+  pub room-lent : leastText ≤ room
+  room-lent = leb-true leastText room (and-right (leb tableBytes table && eqb words wordCount) (leb leastText room) whole)

@@ -24,13 +24,14 @@ use Rattle.panel.specs.declared.StartAnswer.{StartAnswer}
 use Rattle.panel.specs.declared.StartAnswer.the-variants as start
 use Rattle.panel.specs.Numbers.{startNumber}
 use Rattle.panel.specs.Start.{startJudged, started}
+use Rattle.touch.specs.Table.{recordBytes}
 use Rattle.trace.specs.declared.Trace.{Trace}
 use Rattle.trace.specs.declared.Printed.{Printed}
 use Rattle.telling.specs.declared.PanelPrinted.{PanelPrinted}
 use Rattle.telling.proofs.Telling.{printed-in}
-use Rattle.telling.specs.Told.{Told, prints, PanelLeft, leavesPanel, printedIn}
+use Rattle.telling.specs.Told.{Told, prints, PanelLeft, leavesPanel, printedIn, leastText}
 use Rattle.trace.proofs.Items.{table-part}
-use Rattle.trace.specs.State.{shows, noItem, keptRecords, tableOf, isStarted, isOver, gathering, idle, withSetup, withRecords, withPanel, stopped, EventLeft, leavesTrace, tracePrinting, leaves, printing}
+use Rattle.trace.specs.State.{shows, noItem, keptRecords, tableOf, isStarted, isOver, gathering, idle, withSetup, withRecords, withPanel, stopped, EventLeft, leavesTrace, tracePrinting, leaves, printing, tableBytes}
 use Rattle.trace.specs.Items.{bodyLength, mayCome, setupIn, recordPut, recordCounted}
 use Rattle.trace.specs.Lines.{refusalText, wrongText}
 use Rattle.telling.specs.Events.{event}
@@ -54,7 +55,7 @@ named start.WrongSetup = 0
 named start.NotRecords = 0
 named (start.WrongRecord i) = i
 
-judged-below : (setup : Setup) (part : List ℕ) → length part ≤ 4128 → (v : Verdict) → judged setup part ≡ v → named (startJudged v setup .answer) < 256
+judged-below : (setup : Setup) (part : List ℕ) → length part ≤ tableBytes → (v : Verdict) → judged setup part ≡ v → named (startJudged v setup .answer) < 256
 unfolding named startJudged
 judged-below setup part short Good e = omega arith
 judged-below setup part short NotRecords e = omega arith
@@ -64,17 +65,17 @@ either-below : (b : Bool) (p q : Start) → named (p .answer) < 256 → named (q
 either-below true p q hp hq = hp
 either-below false p q hp hq = hq
 
-started-below : (setup : Setup) (part : List ℕ) → length part ≤ 4128 → named (started setup part .answer) < 256
+started-below : (setup : Setup) (part : List ℕ) → length part ≤ tableBytes → named (started setup part .answer) < 256
 unfolding started named
 started-below setup part short = either-below (not (goodSetup setup)) _ _ (omega arith) (judged-below setup part short (judged setup part) refl)
 
-begun-below : (trace : Trace) (part : List ℕ) → length part ≤ 4128 → named (startedBy trace part .answer) < 256
+begun-below : (trace : Trace) (part : List ℕ) → length part ≤ tableBytes → named (startedBy trace part .answer) < 256
 unfolding startedBy named
 begun-below trace part short = either-below (isStarted (trace .stage)) _ _ (omega arith) (started-below (trace .setup) part short)
 
 -- ---- An event
 
-pub started-left : (trace : Trace) (told : Told) (panel : Panel) (done : PanelPrinted) (words words′ room left : List ℕ) → 1024 ≤ length room
+pub started-left : (trace : Trace) (told : Told) (panel : Panel) (done : PanelPrinted) (words words′ room left : List ℕ) → leastText ≤ length room
     → leavesPanel done words′ left ≡ printedIn told panel words room
     → leavesTrace (record { trace = withPanel trace (done .panel); count = done .count }) words′ left ≡ tracePrinting trace told room
 started-left trace told panel done words words′ room left wide e =
@@ -82,16 +83,16 @@ started-left trace told panel done words words′ room left wide e =
     (printed-in told panel words room done words′ left wide e)
 
 module _ (trace : Trace) (table : List ℕ) (k : ℕ) (is-k : k ≡ min (trace .records) keptRecords) (begun : Start)
-    (is-begun : begun ≡ startedBy trace (take (k * 32 - 0) table)) where
-  the-part : take (k * 32 - 0) table ≡ tableOf (trace .records) table
+    (is-begun : begun ≡ startedBy trace (take (k * recordBytes - 0) table)) where
+  the-part : take (k * recordBytes - 0) table ≡ tableOf (trace .records) table
   the-part = table-part (trace .records) table k is-k
 
-  pub wrong-below : (i : ℕ) → k ≤ 129 → begun .answer ≡ start.WrongRecord i → i < 256
+  pub wrong-below : (i : ℕ) → k ≤ keptRecords → begun .answer ≡ start.WrongRecord i → i < 256
   unfolding named
   wrong-below i few is =
-      let short : length (take (k * 32 - 0) table) ≤ 4128 = omega (arith, length-take (k * 32 - 0) table, min-le-left (k * 32 - 0) (length table)) in
-      let same : i ≡ named (startedBy trace (take (k * 32 - 0) table) .answer) = ap named (sym is) ∙ ap (λ (s : Start). named (s .answer)) is-begun in
-      omega (arith, begun-below trace (take (k * 32 - 0) table) short)
+      let short : length (take (k * recordBytes - 0) table) ≤ tableBytes = omega (arith, length-take (k * recordBytes - 0) table, min-le-left (k * recordBytes - 0) (length table)) in
+      let same : i ≡ named (startedBy trace (take (k * recordBytes - 0) table) .answer) = ap named (sym is) ∙ ap (λ (s : Start). named (s .answer)) is-begun in
+      omega (arith, begun-below trace (take (k * recordBytes - 0) table) short)
 
   module _ (words item room : List ℕ) where
     answered-so : (answer : StartAnswer) → begun .answer ≡ answer
@@ -102,7 +103,7 @@ module _ (trace : Trace) (table : List ℕ) (k : ℕ) (is-k : k ≡ min (trace .
         ∙ ap (λ (s : Start). printing (eventAnswered (s .answer) (s .panel) trace table words item) room) (is-begun ∙ ap (λ (l : List ℕ). startedBy trace l) the-part)
 
     pub event-told : (done : Printed) (words′ left : List ℕ) → begun .answer ≡ start.Started
-        → leavesTrace done words′ left ≡ tracePrinting trace (event (begun .panel) (take (k * 32 - 0) table) words item) room
+        → leavesTrace done words′ left ≡ tracePrinting trace (event (begun .panel) (take (k * recordBytes - 0) table) words item) room
         → leaves done table words′ left ≡ printing (eventDone trace table words item) room
     unfolding eventAnswered
     event-told done words′ left is e =

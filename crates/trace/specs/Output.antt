@@ -12,6 +12,7 @@ use Rattle.text.specs.Text.{lineText}
 use Rattle.panel.specs.declared.Panel.{Panel}
 use Rattle.panel.specs.declared.StartAnswer.{StartAnswer}
 use Rattle.panel.specs.declared.StartAnswer.the-variants as start
+use Rattle.frame.specs.Frame.{longestFrame}
 use Rattle.trace.specs.declared.Stage.{Stage}
 use Rattle.trace.specs.declared.Stage.the-variants.{Bare, Ready, Started, Over}
 use Rattle.trace.specs.declared.Trace.{Trace}
@@ -71,7 +72,7 @@ unfoldable pub printed : Held → List ℕ → List ℕ
 printed held [] = endText (held .trace) (held .table)
 printed held (b ∷ input) =
     let one = tookByte (held .trace) (held .table) (held .words) b in
-    let all = allReports 258 (one .held) in
+    let all = allReports longestFrame (one .held) in
     one .text ++ (all .text ++ printed (all .held) input)
 
 -- "The words begin as 0."

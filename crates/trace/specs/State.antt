@@ -11,6 +11,7 @@ use Rattle.touch.specs.declared.Setup.{Setup}
 use Rattle.touch.specs.Table.{mostRecords, recordBytes}
 use Rattle.panel.specs.declared.Panel.{Panel}
 use Rattle.panel.specs.Start.{noPanel}
+use Rattle.telling.specs.Events.{itemBytes}
 use Rattle.trace.specs.declared.Stage.{Stage}
 use Rattle.trace.specs.declared.Stage.the-variants.{Bare, Ready, Started, Over}
 use Rattle.trace.specs.declared.Trace.{Trace}
@@ -40,13 +41,13 @@ following text shown = record { held = shown .held; text = text ++ shown .text }
 
 -- no item is being gathered
 unfoldable pub noItem : List ℕ
-noItem = replicate 33 0
+noItem = replicate itemBytes 0
 
 -- "table longer than 128 records": one record more is kept, and that shows it; further ones need not be
-unfoldable pub keptRecords : ℕ
+abbrev pub keptRecords : ℕ
 keptRecords = mostRecords + 1
 
-unfoldable pub tableBytes : ℕ
+abbrev pub tableBytes : ℕ
 tableBytes = keptRecords * recordBytes
 
 -- the table of the records met so far

@@ -46,7 +46,7 @@ tookOne trace table words [] = takes 0 (shows trace table words [])
 tookOne trace table words (b ∷ input) = takes 1 (tookByte trace table words b)
 
 -- the longest run of line bytes that is given to the panel at once
-unfoldable pub longestRun : ℕ
+abbrev pub longestRun : ℕ
 longestRun = 256
 
 unfoldable pub tookLines : Trace → List ℕ → List ℕ → List ℕ → Step

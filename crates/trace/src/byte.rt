@@ -2,7 +2,8 @@
 ghost use mathlib.Core.Path.{_≡_};
 ghost use Prim.Native.Nat.{_≤_};
 ghost use lib.ListN.{length};
-ghost use Rattle.trace.specs.State.{leaves, printing};
+ghost use Rattle.telling.specs.Told.{leastText};
+ghost use Rattle.trace.specs.State.{leaves, printing, tableBytes};
 ghost use Rattle.trace.specs.Events.{itemDone, grown, tookByte};
 use crate::Printed;
 use crate::Stage;
@@ -12,17 +13,18 @@ use crate::item;
 use crate::lines;
 use crate::records;
 use crate::stages;
+use telling::ITEM_BYTES;
 use text::Line;
 
 // An item that has come whole: setup, record or event.
 fn do_item(
     trace: Trace,
-    item: [u8; 33],
+    item: [u8; ITEM_BYTES],
     table: &mut [u8],
     words: &mut [u16],
     room: &mut [u8],
 ) -> Printed
-    requires { ⌜ (4128 ≤ length (now table)) × (1024 ≤ length (now room)) ⌝ }
+    requires { ⌜ (tableBytes ≤ length (now table)) × (leastText ≤ length (now room)) ⌝ }
     ensures { λ r. ⌜ leaves r (now (table .exit)) (now (words .exit)) (now (room .exit)) ≡ printing (itemDone trace (now (table .entry)) (now (words .entry)) item) (now (room .entry)) ⌝ }
 {
     let kind = item[0];
@@ -54,7 +56,7 @@ fn do_item(
 
 // One byte more of an item; one that is whole with it is done.
 fn grow(trace: Trace, b: u8, table: &mut [u8], words: &mut [u16], room: &mut [u8]) -> Printed
-    requires { ⌜ (4128 ≤ length (now table)) × (1024 ≤ length (now room)) ⌝ }
+    requires { ⌜ (tableBytes ≤ length (now table)) × (leastText ≤ length (now room)) ⌝ }
     ensures { λ r. ⌜ leaves r (now (table .exit)) (now (words .exit)) (now (room .exit)) ≡ printing (grown trace (now (table .entry)) (now (words .entry)) b) (now (room .entry)) ⌝ }
 {
     let old = trace.item;
@@ -82,7 +84,7 @@ pub fn take_byte(
     words: &mut [u16],
     room: &mut [u8],
 ) -> Printed
-    requires { ⌜ (4128 ≤ length (now table)) × (1024 ≤ length (now room)) ⌝ }
+    requires { ⌜ (tableBytes ≤ length (now table)) × (leastText ≤ length (now room)) ⌝ }
     ensures { λ r. ⌜ leaves r (now (table .exit)) (now (words .exit)) (now (room .exit)) ≡ printing (tookByte trace (now (table .entry)) (now (words .entry)) b) (now (room .entry)) ⌝ }
 {
     let stage = trace.stage;

@@ -2,7 +2,8 @@
 ghost use mathlib.Core.Path.{_≡_};
 ghost use Prim.Native.Nat.{_≤_};
 ghost use lib.ListN.{length};
-ghost use Rattle.trace.specs.State.{leavesTrace, tracePrinting, leaves, printing};
+ghost use Rattle.telling.specs.Told.{leastText};
+ghost use Rattle.trace.specs.State.{leavesTrace, tracePrinting, leaves, printing, tableBytes};
 ghost use Rattle.trace.specs.Events.{startedBy, eventDone};
 ghost use Rattle.telling.specs.Events.{event};
 use crate::Printed;
@@ -14,7 +15,9 @@ use crate::stages;
 use panel::Panel;
 use panel::Start;
 use panel::StartAnswer;
+use telling::ITEM_BYTES;
 use text::Line;
+use touch::RECORD_BYTES;
 
 // The panel with which an event or the end is answered: started now, unless it was.
 pub fn begin(trace: Trace, part: &[u8]) -> Start
@@ -35,12 +38,12 @@ pub fn begin(trace: Trace, part: &[u8]) -> Start
 fn started_event(
     trace: Trace,
     panel: Panel,
-    item: [u8; 33],
+    item: [u8; ITEM_BYTES],
     part: &[u8],
     words: &mut [u16],
     room: &mut [u8],
 ) -> Printed
-    requires { ⌜ 1024 ≤ length (now room) ⌝ }
+    requires { ⌜ leastText ≤ length (now room) ⌝ }
     ensures { λ r. ⌜ leavesTrace r (now (words .exit)) (now (room .exit)) ≡ tracePrinting trace (event panel (now (part .entry)) (now (words .entry)) item) (now (room .entry)) ⌝ }
 {
     let done = telling::tell_event(panel, item, part, words, room);
@@ -59,15 +62,15 @@ fn started_event(
 // An event, the first of which starts the panel; where the start is refused, the trace fails.
 pub fn any_event(
     trace: Trace,
-    item: [u8; 33],
+    item: [u8; ITEM_BYTES],
     table: &[u8],
     words: &mut [u16],
     room: &mut [u8],
 ) -> Printed
-    requires { ⌜ (4128 ≤ length (now table)) × (1024 ≤ length (now room)) ⌝ }
+    requires { ⌜ (tableBytes ≤ length (now table)) × (leastText ≤ length (now room)) ⌝ }
     ensures { λ r. ⌜ leaves r (now (table .entry)) (now (words .exit)) (now (room .exit)) ≡ printing (eventDone trace (now (table .entry)) (now (words .entry)) item) (now (room .entry)) ⌝ }
 {
-    let n = records::kept(trace.records) * 32;
+    let n = records::kept(trace.records) * RECORD_BYTES;
     let begun = begin(trace, &table[0..n]);
     let answer = begun.answer;
     let panel = begun.panel;

@@ -4,13 +4,15 @@ ghost use lib.ListN.{set};
 ghost use Rattle.trace.specs.State.{noItem, gathering};
 ghost use Rattle.trace.specs.Items.{bodyLength, setupIn};
 use crate::Trace;
+use telling::ITEM_BYTES;
+use touch::RECORD_BYTES;
 use touch::Setup;
 
 // What is gathered between two items.
-pub fn no_item() -> [u8; 33]
+pub fn no_item() -> [u8; ITEM_BYTES]
     ensures { λ r. ⌜ r ≡ noItem ⌝ }
 {
-    [0u8; 33]
+    [0u8; ITEM_BYTES]
 }
 
 // How long the body of an item of this kind is.
@@ -27,24 +29,24 @@ pub fn body_length(kind: u8) -> usize
         return 4;
     }
     if kind == 5 {
-        return 32;
+        return RECORD_BYTES;
     }
     0
 }
 
 // An array with one byte set, where it has that place.
-pub fn with_byte(item: [u8; 33], at: usize, b: u8) -> [u8; 33]
+pub fn with_byte(item: [u8; ITEM_BYTES], at: usize, b: u8) -> [u8; ITEM_BYTES]
     ensures { λ r. ⌜ r ≡ set item at b ⌝ }
 {
     let mut next = item;
-    if at < 33 {
+    if at < ITEM_BYTES {
         next[at] = b;
     }
     next
 }
 
 // The trace with another item, and how many of its bytes have come.
-pub fn gather(trace: Trace, item: [u8; 33], have: usize) -> Trace
+pub fn gather(trace: Trace, item: [u8; ITEM_BYTES], have: usize) -> Trace
     ensures { λ r. ⌜ r ≡ gathering trace item have ⌝ }
 {
     Trace {

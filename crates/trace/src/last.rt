@@ -3,8 +3,9 @@ ghost use mathlib.Core.Path.{_≡_};
 ghost use Prim.Native.Nat.{_≤_};
 ghost use lib.ListN.{length};
 ghost use Rattle.wire.specs.Room.{lays};
-ghost use Rattle.telling.specs.Told.{prints};
+ghost use Rattle.telling.specs.Told.{prints, leastText};
 ghost use Rattle.trace.specs.Output.{endStarted, endText};
+ghost use Rattle.trace.specs.State.{tableBytes};
 use crate::Stage;
 use crate::Trace;
 use crate::event;
@@ -12,13 +13,14 @@ use crate::lines;
 use crate::records;
 use panel::StartAnswer;
 use text::Line;
+use touch::RECORD_BYTES;
 
 // Writes the last line of a trace that had a setup: the page, or what the start is refused with.
 fn print_last(trace: Trace, table: &[u8], room: &mut [u8]) -> usize
-    requires { ⌜ (4128 ≤ length (now table)) × (1024 ≤ length (now room)) ⌝ }
+    requires { ⌜ (tableBytes ≤ length (now table)) × (leastText ≤ length (now room)) ⌝ }
     ensures { λ r. ⌜ lays r (now (room .exit)) ≡ prints (endStarted trace (now (table .entry))) (now (room .entry)) ⌝ }
 {
-    let n = records::kept(trace.records) * 32;
+    let n = records::kept(trace.records) * RECORD_BYTES;
     let begun = event::begin(trace, &table[0..n]);
     let answer = begun.answer;
     let panel = begun.panel;
@@ -32,7 +34,7 @@ fn print_last(trace: Trace, table: &[u8], room: &mut [u8]) -> usize
 
 // Writes the last line of any trace; one that has failed has none.
 pub fn print_end(trace: Trace, table: &[u8], room: &mut [u8]) -> usize
-    requires { ⌜ (4128 ≤ length (now table)) × (1024 ≤ length (now room)) ⌝ }
+    requires { ⌜ (tableBytes ≤ length (now table)) × (leastText ≤ length (now room)) ⌝ }
     ensures { λ r. ⌜ lays r (now (room .exit)) ≡ prints (endText trace (now (table .entry))) (now (room .entry)) ⌝ }
 {
     if trace.have == 0 {

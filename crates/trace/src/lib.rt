@@ -4,6 +4,9 @@ ghost use Rattle.trace.specs.State.{newTrace, waits, isOver};
 ghost use Rattle.trace.specs.Steps.{steps, stepping};
 ghost use Rattle.trace.specs.Output.{ends, ending};
 use panel::Panel;
+use telling::ITEM_BYTES;
+use touch::MOST_RECORDS;
+use touch::RECORD_BYTES;
 use touch::Setup;
 
 mod byte;
@@ -17,6 +20,14 @@ mod run;
 mod stages;
 mod step;
 
+pub use telling::LEAST_TEXT;
+
+// "table longer than 128 records": one record more is kept, and that shows it; `keptRecords` in specs/.
+const KEPT_RECORDS: usize = MOST_RECORDS + 1;
+
+// How many bytes of table must be lent; `tableBytes` in specs/.
+pub const TABLE_BYTES: usize = KEPT_RECORDS * RECORD_BYTES;
+
 // How far the input has come: nothing yet; setup and records; events; after an X.
 pub enum Stage {
     Bare,
@@ -28,7 +39,7 @@ pub enum Stage {
 pub struct Trace {
     stage: Stage,
     // The item that is being gathered, its kind first, and how many of its bytes have come.
-    item: [u8; 33],
+    item: [u8; ITEM_BYTES],
     have: usize,
     setup: Setup,
     // How many records the lent table holds.
@@ -135,7 +146,7 @@ impl Trace {
     pub fn end(self, table: &[u8], room: &mut [u8]) -> Ended
         ensures { λ r. ⌜ ends r (now (room .exit)) ≡ ending self (now (table .entry)) (now (room .entry)) ⌝ }
     {
-        if (4128 <= table.len()) & (1024 <= room.len()) {
+        if (TABLE_BYTES <= table.len()) & (LEAST_TEXT <= room.len()) {
             return Ended {
                 answer: Answer::Done,
                 count: last::print_end(self, table, room),

@@ -4,7 +4,8 @@ ghost use Prim.Native.Nat.{_≤_};
 ghost use lib.ListN.{length};
 ghost use Rattle.wire.specs.Room.{lays};
 ghost use Rattle.text.specs.Text.{lineText};
-ghost use Rattle.telling.specs.Told.{prints};
+ghost use Rattle.telling.specs.Told.{prints, leastText};
+ghost use Rattle.telling.specs.Lengths.{longestLine};
 ghost use Rattle.trace.specs.State.{stopped};
 use crate::Printed;
 use crate::Stage;
@@ -13,15 +14,15 @@ use text::Line;
 
 // Writes a line over the front of a room that has space for it; answers how many bytes.
 pub fn print_line(line: Line, room: &mut [u8]) -> usize
-    requires { ⌜ 1024 ≤ length (now room) ⌝ }
-    ensures { λ r. ⌜ (lays r (now (room .exit)) ≡ prints (lineText line) (now (room .entry))) × (r ≤ 10) ⌝ }
+    requires { ⌜ leastText ≤ length (now room) ⌝ }
+    ensures { λ r. ⌜ (lays r (now (room .exit)) ≡ prints (lineText line) (now (room .entry))) × (r ≤ longestLine) ⌝ }
 {
     text::put_line(line, room)
 }
 
 // The trace fails with a line.
 pub fn stop(trace: Trace, line: Line, room: &mut [u8]) -> Printed
-    requires { ⌜ 1024 ≤ length (now room) ⌝ }
+    requires { ⌜ leastText ≤ length (now room) ⌝ }
     ensures { λ r. ⌜ (r .trace ≡ stopped trace) × (lays (r .count) (now (room .exit)) ≡ prints (lineText line) (now (room .entry))) ⌝ }
 {
     let stage = Stage::Over;

@@ -2,6 +2,7 @@
 ghost use mathlib.Core.Path.{_≡_};
 ghost use Prim.Native.Nat.{_≤_};
 ghost use lib.ListN.{length};
+ghost use Rattle.telling.specs.Told.{leastText};
 ghost use Rattle.trace.specs.State.{leavesTrace, tracePrinting};
 ghost use Rattle.telling.specs.Events.{askedOnce};
 use crate::Printed;
@@ -10,7 +11,7 @@ use crate::Trace;
 
 // Asks for one report of the trace's panel.
 pub fn hand_over(trace: Trace, words: &mut [u16], room: &mut [u8]) -> Printed
-    requires { ⌜ 1024 ≤ length (now room) ⌝ }
+    requires { ⌜ leastText ≤ length (now room) ⌝ }
     ensures { λ r. ⌜ leavesTrace r (now (words .exit)) (now (room .exit)) ≡ tracePrinting trace (askedOnce (trace .panel) (now (words .entry))) (now (room .entry)) ⌝ }
 {
     let panel = trace.panel;

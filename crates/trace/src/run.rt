@@ -10,13 +10,16 @@ use crate::Trace;
 use panel::FedBytes;
 use panel::Panel;
 
+// How many line bytes go to the panel at once; `longestRun` in specs/.
+const LONGEST_RUN: usize = 256;
+
 // The line bytes of whole items of kind 01 at the front of the input, at the front of `run`; answers how many.
 pub fn gather_run(input: &[u8], run: &mut [u8]) -> usize
-    requires { ⌜ length (now run) ≡ 256 ⌝ }
-    ensures { λ r. ⌜ (r ≤ 256) × (take r (now (run .exit)) ≡ lineRun longestRun (now (input .entry))) ⌝ }
+    requires { ⌜ length (now run) ≡ longestRun ⌝ }
+    ensures { λ r. ⌜ (r ≤ longestRun) × (take r (now (run .exit)) ≡ lineRun longestRun (now (input .entry))) ⌝ }
 {
     let mut n = 0;
-    while (n < 256) & (n < input.len() / 2) {
+    while (n < LONGEST_RUN) & (n < input.len() / 2) {
         if input[2 * n] != 1 {
             return n;
         }
@@ -28,22 +31,22 @@ pub fn gather_run(input: &[u8], run: &mut [u8]) -> usize
 
 // Gives the bytes of a run to a panel.
 fn feed_run(panel: Panel, bytes: &[u8]) -> FedBytes
-    requires { ⌜ length (now bytes) ≤ 256 ⌝ }
-    ensures { λ r. ⌜ (r ≡ fedBytes panel (now (bytes .entry))) × (r .used ≤ 256) ⌝ }
+    requires { ⌜ length (now bytes) ≤ longestRun ⌝ }
+    ensures { λ r. ⌜ (r ≡ fedBytes panel (now (bytes .entry))) × (r .used ≤ longestRun) ⌝ }
 {
     panel.give_bytes(bytes)
 }
 
 // Where a run is gathered.
-pub fn no_run() -> [u8; 256]
-    ensures { λ r. ⌜ length r ≡ 256 ⌝ }
+pub fn no_run() -> [u8; LONGEST_RUN]
+    ensures { λ r. ⌜ length r ≡ longestRun ⌝ }
 {
-    [0u8; 256]
+    [0u8; LONGEST_RUN]
 }
 
 // Gives a run to the trace's panel; each byte of it is two of the input.
 pub fn give_run(trace: Trace, bytes: &[u8]) -> Took
-    requires { ⌜ length (now bytes) ≤ 256 ⌝ }
+    requires { ⌜ length (now bytes) ≤ longestRun ⌝ }
     ensures { λ r. ⌜ r ≡ ranBytes trace (now (bytes .entry)) ⌝ }
 {
     let panel = trace.panel;

@@ -2,20 +2,24 @@
 ghost use mathlib.Core.Path.{_≡_};
 ghost use Prim.Native.Nat.{_≤_};
 ghost use lib.ListN.{length};
-ghost use Rattle.trace.specs.State.{lentTo};
+ghost use Rattle.telling.specs.Told.{leastText};
+ghost use Rattle.trace.specs.State.{lentTo, tableBytes};
 ghost use Rattle.trace.specs.Steps.{tookOne, tookLines, tookInput, step, leavesStep, stepPrinting};
+use crate::LEAST_TEXT;
+use crate::TABLE_BYTES;
 use crate::Took;
 use crate::Trace;
 use crate::byte;
 use crate::report;
 use crate::run;
 use crate::stages;
+use wire::WORD_COUNT;
 
 // Whether table, words and room are as long as they must be.
 pub fn is_lent(table: usize, words: usize, room: usize) -> bool
     ensures { λ r. ⌜ r ≡ lentTo table words room ⌝ }
 {
-    (4128 <= table) & (words == 28672) & (1024 <= room)
+    (TABLE_BYTES <= table) & (words == WORD_COUNT) & (LEAST_TEXT <= room)
 }
 
 // Takes the first byte of the input.
@@ -26,7 +30,7 @@ fn take_one(
     words: &mut [u16],
     room: &mut [u8],
 ) -> Took
-    requires { ⌜ (4128 ≤ length (now table)) × (1024 ≤ length (now room)) ⌝ }
+    requires { ⌜ (tableBytes ≤ length (now table)) × (leastText ≤ length (now room)) ⌝ }
     ensures { λ r. ⌜ leavesStep r (now (table .exit)) (now (words .exit)) (now (room .exit)) ≡ stepPrinting (tookOne trace (now (table .entry)) (now (words .entry)) (now (input .entry))) (now (room .entry)) ⌝ }
 {
     if input.len() == 0 {
@@ -53,7 +57,7 @@ fn take_lines(
     words: &mut [u16],
     room: &mut [u8],
 ) -> Took
-    requires { ⌜ (4128 ≤ length (now table)) × (1024 ≤ length (now room)) ⌝ }
+    requires { ⌜ (tableBytes ≤ length (now table)) × (leastText ≤ length (now room)) ⌝ }
     ensures { λ r. ⌜ leavesStep r (now (table .exit)) (now (words .exit)) (now (room .exit)) ≡ stepPrinting (tookLines trace (now (table .entry)) (now (words .entry)) (now (input .entry))) (now (room .entry)) ⌝ }
 {
     let mut run = run::no_run();
@@ -72,7 +76,7 @@ fn take_input(
     words: &mut [u16],
     room: &mut [u8],
 ) -> Took
-    requires { ⌜ (4128 ≤ length (now table)) × (1024 ≤ length (now room)) ⌝ }
+    requires { ⌜ (tableBytes ≤ length (now table)) × (leastText ≤ length (now room)) ⌝ }
     ensures { λ r. ⌜ leavesStep r (now (table .exit)) (now (words .exit)) (now (room .exit)) ≡ stepPrinting (tookInput trace (now (table .entry)) (now (words .entry)) (now (input .entry))) (now (room .entry)) ⌝ }
 {
     let stage = trace.stage;
@@ -90,7 +94,7 @@ pub fn take_step(
     words: &mut [u16],
     room: &mut [u8],
 ) -> Took
-    requires { ⌜ (4128 ≤ length (now table)) × (1024 ≤ length (now room)) ⌝ }
+    requires { ⌜ (tableBytes ≤ length (now table)) × (leastText ≤ length (now room)) ⌝ }
     ensures { λ r. ⌜ leavesStep r (now (table .exit)) (now (words .exit)) (now (room .exit)) ≡ stepPrinting (step trace (now (table .entry)) (now (words .entry)) (now (input .entry))) (now (room .entry)) ⌝ }
 {
     if trace.is_waiting() {

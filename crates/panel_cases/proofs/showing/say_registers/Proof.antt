@@ -1,14 +1,15 @@
 -- `panel_cases::showing::say_registers` is safe and ends.
 use Prim.Native.Nat.{_-_, _≤_}
 use borrow.Author.Needs.{needs}
+use Rattle.wire.specs.Addresses.{registerCount}
 use Rattle.panel_cases.proofs.showing.say_registers.Statement.{statement}
 use Rattle.panel_cases.proofs.showing.say_registers.Tie as tie
 
 abbrev Inv-loop : tie.InvT-loop
-Inv-loop panel i₀ i = i ≤ 256
+Inv-loop panel i₀ i = i ≤ registerCount
 
 abbrev μ-loop : tie.MeasureT-loop
-μ-loop panel i₀ i = 256 - i
+μ-loop panel i₀ i = registerCount - i
 
 pub say-registers-spec : {M : Type 1} → statement M
 say-registers-spec =

@@ -4,17 +4,17 @@ use mathlib.Core.Path.{_≡_}
 use mathlib.Core.List.{_++_}
 use Prim.Native.Nat.{_*_, _-_, _≤_}
 use lib.ListN.{length, take, drop}
-use Rattle.trace.specs.Steps.{lineRun}
+use Rattle.trace.specs.Steps.{lineRun, longestRun}
 use Rattle.trace.proofs.Runs.{run-room, run-fits, run-less, kind-inside, run-inside, run-more, run-stops, run-ends}
 use Rattle.trace.proofs.run.gather_run.Statement.{statement}
 use Rattle.trace.proofs.run.gather_run.Tie as tie
 
 abbrev Inv-loop : tie.InvT-loop
 Inv-loop input run₀ n₀ run n =
-    (n ≤ 256) × (length run ≡ 256) × (lineRun 256 input ≡ take n run ++ lineRun (256 - n) (drop (2 * n) input))
+    (n ≤ longestRun) × (length run ≡ longestRun) × (lineRun longestRun input ≡ take n run ++ lineRun (longestRun - n) (drop (2 * n) input))
 
 abbrev μ-loop : tie.MeasureT-loop
-μ-loop input run₀ n₀ run n = 256 - n
+μ-loop input run₀ n₀ run n = longestRun - n
 
 pub gather-run-spec : {M : Type 1} → statement M
 gather-run-spec =
