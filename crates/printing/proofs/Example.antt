@@ -38,7 +38,7 @@ use Rattle.telling.specs.Lines.{framesText, reportText}
 use Rattle.telling.specs.Events.{touchText, contactTold, liftTold, event}
 use Rattle.trace.specs.Events.{startedBy, eventAnswered, eventDone, itemDone, grown, tookByte}
 use Rattle.telling.specs.Events.{replyRoom, askedOnce}
-use Rattle.trace.specs.Output.{allReports, endAnswered, endStarted, endAt, endText, printed, newHeld, traceOutput}
+use Rattle.trace.specs.Output.{allReports, endAnswered, endStarted, endAt, endText, inputText, newHeld, traceOutput}
 
 -- "Input: 00 5A A5 01 00 02 03 20 01 E0"
 abbrev setup : List ℕ
@@ -77,5 +77,5 @@ abbrev page-line : List ℕ
 page-line = 0x45 ∷ 0x20 ∷ 0x30 ∷ 0x30 ∷ 0x30 ∷ 0x30 ∷ 0x0A ∷ []
 
 pub printed-trace : traceOutput (setup ++ touchRecord ++ frame ++ touches) ≡ command-line ++ reply-line ++ touch-line ++ touch-line ++ page-line
-unfolding traceOutput printed newHeld allReports endText endAt endStarted endAnswered askedOnce replyRoom tookByte grown itemDone eventDone eventAnswered startedBy event contactTold liftTold touchText reportText framesText bodyLength mayCome setupIn recordPut recordCounted noItem tableOf newTrace isStarted isOver lineText writtenText lined spaced hexByte hexDigit decimal started startJudged newPanel noPanel fedByte reporting handing accepting acknowledged lent contacting contactJudged contactOn lifting contactNumber liftNumber touched pressed acting showing catching lifted performance registersReplying replying registersReply readRegistersOutcome replyTooLong Outcome.numberOf startRegisters registerAt registerRun pageOf isDown withStatus isTouchOff withPlace found Judge.judged wrong goodRecord goodStep firstOf recordsFrom recordOf kindOf stepFields areaAt signed givenByte asked padded withByte settled stillClosed passes isPass look behind afterHeader Place.judged cutShort frameLaid rightCheck contentOf mostData leastLength frameOf framed enclosed lengthByte checkBytes checkLength headerBytes checkValue checkFrom byteStep bitSteps bitStep polynomial laid laidAt over
+unfolding traceOutput inputText newHeld allReports endText endAt endStarted endAnswered askedOnce replyRoom tookByte grown itemDone eventDone eventAnswered startedBy event contactTold liftTold touchText reportText framesText bodyLength mayCome setupIn recordPut recordCounted noItem tableOf newTrace isStarted isOver lineText writtenText lined spaced hexByte hexDigit decimal started startJudged newPanel noPanel fedByte reporting handing accepting acknowledged lent contacting contactJudged contactOn lifting contactNumber liftNumber touched pressed acting showing catching lifted performance registersReplying replying registersReply readRegistersOutcome replyTooLong Outcome.numberOf startRegisters registerAt registerRun pageOf isDown withStatus isTouchOff withPlace found Judge.judged wrong goodRecord goodStep firstOf recordsFrom recordOf kindOf stepFields areaAt signed givenByte asked padded withByte settled stillClosed passes isPass look behind afterHeader Place.judged cutShort frameLaid rightCheck contentOf mostData leastLength frameOf framed enclosed lengthByte checkBytes checkLength headerBytes checkValue checkFrom byteStep bitSteps bitStep polynomial laid laidAt over
 printed-trace = refl

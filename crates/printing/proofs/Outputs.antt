@@ -21,32 +21,32 @@ use Rattle.trace.specs.Items.{bodyLength, mayCome}
 use Rattle.telling.specs.Events.{event}
 use Rattle.trace.specs.Events.{startedBy, eventAnswered, eventDone, itemDone, grown, tookByte}
 use Rattle.trace.specs.Steps.{lineRun}
-use Rattle.trace.specs.Output.{allReports, endAt, endText, printed}
+use Rattle.trace.specs.Output.{allReports, endAt, endText, inputText}
 use Rattle.frame.specs.Frame.{longestFrame}
 use Rattle.printing.proofs.HeldSound.{HeldSound}
 use Rattle.printing.proofs.AllReports.{reportShown, none-reported, first-reported}
 
 -- the reports that wait, and then what the input prints
 unfoldable pub outputFrom : Held → List ℕ → List ℕ
-outputFrom held input = allReports longestFrame held .text ++ printed (allReports longestFrame held .held) input
+outputFrom held input = allReports longestFrame held .text ++ inputText (allReports longestFrame held .held) input
 
-pub quiet-output : (held : Held) (input : List ℕ) → waits (held .trace) ≡ false → outputFrom held input ≡ printed held input
+pub quiet-output : (held : Held) (input : List ℕ) → waits (held .trace) ≡ false → outputFrom held input ≡ inputText held input
 unfolding outputFrom
-quiet-output held input quiet = ap (λ (s : Shown). s .text ++ printed (s .held) input) (none-reported longestFrame held quiet)
+quiet-output held input quiet = ap (λ (s : Shown). s .text ++ inputText (s .held) input) (none-reported longestFrame held quiet)
 
 pub report-output : (held : Held) (input : List ℕ) → HeldSound held → waits (held .trace) ≡ true
     → outputFrom held input ≡ reportShown held .text ++ outputFrom (reportShown held .held) input
 unfolding outputFrom
 report-output held input sound is =
     let later = allReports longestFrame (reportShown held .held) in
-    ap (λ (s : Shown). s .text ++ printed (s .held) input) (first-reported held sound is)
-    ∙ append-assoc (reportShown held .text) (later .text) (printed (later .held) input)
+    ap (λ (s : Shown). s .text ++ inputText (s .held) input) (first-reported held sound is)
+    ∙ append-assoc (reportShown held .text) (later .text) (inputText (later .held) input)
 
 pub byte-output : (held : Held) (b : ℕ) (input : List ℕ) → waits (held .trace) ≡ false
     → outputFrom held (b ∷ input)
     ≡ tookByte (held .trace) (held .table) (held .words) b .text ++ outputFrom (tookByte (held .trace) (held .table) (held .words) b .held) input
-unfolding outputFrom printed
-byte-output held b input quiet = ap (λ (s : Shown). s .text ++ printed (s .held) (b ∷ input)) (none-reported longestFrame held quiet)
+unfolding outputFrom inputText
+byte-output held b input quiet = ap (λ (s : Shown). s .text ++ inputText (s .held) (b ∷ input)) (none-reported longestFrame held quiet)
 
 -- ---- After an X
 
@@ -72,7 +72,7 @@ unfolding tookByte
 over-takes held b is = rw is
 
 pub end-output : (held : Held) → waits (held .trace) ≡ false → outputFrom held [] ≡ endText (held .trace) (held .table)
-unfolding printed
+unfolding inputText
 end-output held quiet = quiet-output held [] quiet
 
 -- "and the program stops"

@@ -13,7 +13,7 @@ use Rattle.wire.proofs.Over.{over-nil, over-part}
 use Rattle.wire.proofs.Parts.{part-whole}
 use Rattle.text.specs.declared.Line.{Line}
 use Rattle.text.specs.Text.{lineText, writtenText}
-use Rattle.text.proofs.Lengths.{lineText-length-le, writtenText-length}
+use Rattle.text.proofs.Lengths.{lineText-length-le, writtenText-length-le}
 use Rattle.text.specs.declared.Line.the-variants as line
 use Rattle.commands.specs.declared.Outcome.{Outcome}
 use Rattle.commands.specs.Outcome as Outcome
@@ -51,7 +51,7 @@ behind s t room left part k m first second =
 
 module _ (a : ℕ) (reply room left : List ℕ) (k : ℕ) (short : a ≤ acknowledgementBytes) (long : length reply ≡ leastRoom) where
   acknowledgement-short : length (writtenText (take a reply)) ≤ writtenBytes acknowledgementBytes
-  acknowledgement-short = omega (arith, writtenText-length (take a reply), length-take-le a reply (omega arith))
+  acknowledgement-short = omega (arith, writtenText-length-le (take a reply), length-take-le a reply (omega arith))
 
   module _ (wide : writtenBytes acknowledgementBytes ≤ length room) (is : lays k left ≡ laid (leb (length (writtenText (take (a - 0) reply))) (length room)) (writtenText (take (a - 0) reply)) room) where
     pub acknowledgement-printed : lays k left ≡ prints (writtenText (take a reply)) room
@@ -71,7 +71,7 @@ module _ (a : ℕ) (reply room left : List ℕ) (k : ℕ) (short : a ≤ acknowl
     reply-short : length (writtenText (take r (drop a reply))) ≤ writtenBytes longestFrame
     reply-short =
         let inside : r ≤ length (drop a reply) = rw length-drop (omega arith) in
-        omega (arith, writtenText-length (take r (drop a reply)), length-take-le r (drop a reply) inside)
+        omega (arith, writtenText-length-le (take r (drop a reply)), length-take-le r (drop a reply) inside)
 
     module _ (wide : writtenBytes longestFrame ≤ length room)
         (is : lays k left ≡ laid (leb (length (writtenText (take (a + r - a) (drop a reply)))) (length room)) (writtenText (take (a + r - a) (drop a reply))) room)

@@ -18,11 +18,11 @@ use Rattle.panel.specs.declared.Panel.{Panel}
 use Rattle.panel.specs.declared.FedBytes.{FedBytes}
 use Rattle.panel.specs.Inputs.{fedBytes}
 use Rattle.trace.specs.declared.Trace.{Trace}
-use Rattle.trace.specs.declared.Printed.{Printed}
+use Rattle.trace.specs.declared.TracePrinted.{TracePrinted}
 use Rattle.trace.specs.declared.Took.{Took}
 use Rattle.trace.specs.declared.Answer.the-variants.{Done, NotLent}
 use Rattle.telling.specs.Told.{leastText}
-use Rattle.trace.specs.State.{withPanel, waits, isStarted, keptRecords, tableBytes, lentTo, EventLeft, leavesTrace, tracePrinting, TraceLeft, leaves, printing}
+use Rattle.trace.specs.State.{withPanel, waits, isStarted, keptRecords, tableBytes, lentTo, EventLeft, leavesEvent, eventPrinting, ByteLeft, leavesByte, bytePrinting}
 use Rattle.trace.specs.Events.{tookByte}
 use Rattle.telling.specs.Events.{askedOnce}
 use Rattle.trace.specs.Steps.{lineRun, longestRun, ranBytes, tookOne, tookLines, tookInput, step, StepLeft, leavesStep, stepPrinting, steps, stepping}
@@ -138,13 +138,13 @@ module _ (trace : Trace) (table words room : List ℕ) where
   no-input [] is = ap (λ (l : List ℕ). leavesStep (record { trace = trace; used = 0; count = 0 }) table words l) (sym (over-nil room))
   no-input (b ∷ input) is = absurd (omega arith)
 
-  pub one-byte : (input : List ℕ) (done : Printed) (table′ words′ left : List ℕ) → (length input ≡ 0 → ⊥)
-      → leaves done table′ words′ left ≡ printing (tookByte trace table words (getD input 0 0)) room
+  pub one-byte : (input : List ℕ) (done : TracePrinted) (table′ words′ left : List ℕ) → (length input ≡ 0 → ⊥)
+      → leavesByte done table′ words′ left ≡ bytePrinting (tookByte trace table words (getD input 0 0)) room
       → leavesStep (record { trace = done .trace; used = 1; count = done .count }) table′ words′ left ≡ stepPrinting (tookOne trace table words input) room
   unfolding tookOne
   one-byte [] done table′ words′ left some e = absurd (some refl)
   one-byte (b ∷ input) done table′ words′ left some e =
-      ap (λ (l : TraceLeft). leavesStep (record { trace = l .printed .trace; used = 1; count = l .printed .count }) (l .table) (l .words) (l .room)) e
+      ap (λ (l : ByteLeft). leavesStep (record { trace = l .printed .trace; used = 1; count = l .printed .count }) (l .table) (l .words) (l .room)) e
 
 -- ---- A step
 
@@ -180,8 +180,8 @@ module _ (trace : Trace) (table words room input : List ℕ) (took : Took) (tabl
   takes-one is e = rw (rw is-b at is) e
 
 module _ (trace : Trace) (table words room input : List ℕ) (w : Bool) (is-w : w ≡ waits trace) where
-  pub hands-one : (done : Printed) (words′ left : List ℕ) → w ≡ true
-      → leavesTrace done words′ left ≡ tracePrinting trace (askedOnce (trace .panel) words) room
+  pub hands-one : (done : TracePrinted) (words′ left : List ℕ) → w ≡ true
+      → leavesEvent done words′ left ≡ eventPrinting trace (askedOnce (trace .panel) words) room
       → leavesStep (record { trace = done .trace; used = 0; count = done .count }) table words′ left ≡ stepPrinting (step trace table words input) room
   unfolding step
   hands-one done words′ left is e =

@@ -68,16 +68,16 @@ ending trace table room =
     (ends (record { answer = NotLent; count = 0 }) room)
 
 -- after each byte the reports; at the end the last line; nothing after an X
-unfoldable pub printed : Held → List ℕ → List ℕ
-printed held [] = endText (held .trace) (held .table)
-printed held (b ∷ input) =
+unfoldable pub inputText : Held → List ℕ → List ℕ
+inputText held [] = endText (held .trace) (held .table)
+inputText held (b ∷ input) =
     let one = tookByte (held .trace) (held .table) (held .words) b in
     let all = allReports longestFrame (one .held) in
-    one .text ++ (all .text ++ printed (all .held) input)
+    one .text ++ (all .text ++ inputText (all .held) input)
 
 -- "The words begin as 0."
 unfoldable pub newHeld : Held
 newHeld = holds newTrace (replicate tableBytes 0) (replicate wordCount 0)
 
 unfoldable pub traceOutput : List ℕ → List ℕ
-traceOutput input = printed newHeld input
+traceOutput input = inputText newHeld input

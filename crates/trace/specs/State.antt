@@ -16,7 +16,7 @@ use Rattle.trace.specs.declared.Stage.{Stage}
 use Rattle.trace.specs.declared.Stage.the-variants.{Bare, Ready, Started, Over}
 use Rattle.trace.specs.declared.Trace.{Trace}
 use Rattle.telling.specs.Told.{Told, leastText}
-use Rattle.trace.specs.declared.Printed.{Printed}
+use Rattle.trace.specs.declared.TracePrinted.{TracePrinted}
 
 -- what a trace is and what it is lent: the table so far, and the words
 pub record Held : Type 0 where
@@ -121,27 +121,27 @@ lentTo table words text = leb tableBytes table && eqb words wordCount && leb lea
 
 -- what an event or a report leaves, and its text over the room
 pub record EventLeft : Type 0 where
-  pub printed : Printed
+  pub printed : TracePrinted
   pub words : List ℕ
   pub room : List ℕ
 
-abbrev pub leavesTrace : Printed → List ℕ → List ℕ → EventLeft
-leavesTrace printed words room = record { printed = printed; words = words; room = room }
+abbrev pub leavesEvent : TracePrinted → List ℕ → List ℕ → EventLeft
+leavesEvent printed words room = record { printed = printed; words = words; room = room }
 
-abbrev pub tracePrinting : Trace → Told → List ℕ → EventLeft
-tracePrinting trace told room =
-    leavesTrace (record { trace = withPanel trace (told .panel); count = length (told .text) }) (told .words) (over (told .text) room)
+abbrev pub eventPrinting : Trace → Told → List ℕ → EventLeft
+eventPrinting trace told room =
+    leavesEvent (record { trace = withPanel trace (told .panel); count = length (told .text) }) (told .words) (over (told .text) room)
 
 -- what a byte of the input leaves, the table included
-pub record TraceLeft : Type 0 where
-  pub printed : Printed
+pub record ByteLeft : Type 0 where
+  pub printed : TracePrinted
   pub table : List ℕ
   pub words : List ℕ
   pub room : List ℕ
 
-abbrev pub leaves : Printed → List ℕ → List ℕ → List ℕ → TraceLeft
-leaves printed table words room = record { printed = printed; table = table; words = words; room = room }
+abbrev pub leavesByte : TracePrinted → List ℕ → List ℕ → List ℕ → ByteLeft
+leavesByte printed table words room = record { printed = printed; table = table; words = words; room = room }
 
-abbrev pub printing : Shown → List ℕ → TraceLeft
-printing shown room =
-    leaves (record { trace = shown .held .trace; count = length (shown .text) }) (shown .held .table) (shown .held .words) (over (shown .text) room)
+abbrev pub bytePrinting : Shown → List ℕ → ByteLeft
+bytePrinting shown room =
+    leavesByte (record { trace = shown .held .trace; count = length (shown .text) }) (shown .held .table) (shown .held .words) (over (shown .text) room)

@@ -16,9 +16,9 @@ use Rattle.telling.specs.Events.{askedOnce}
 use Rattle.trace.specs.Events.{tookByte}
 
 -- 01's number of each answer
-unfoldable pub numberOf : Answer → ℕ
-numberOf Done = 0
-numberOf NotLent = 14
+unfoldable pub numberOfStep : Answer → ℕ
+numberOfStep Done = 0
+numberOfStep NotLent = 14
 
 -- the line bytes of the whole items of kind 01 at the front, at most so many
 unfoldable pub lineRun : ℕ → List ℕ → List ℕ

@@ -3,11 +3,11 @@ ghost use mathlib.Core.Path.{_≡_};
 ghost use Prim.Native.Nat.{_≤_};
 ghost use lib.ListN.{length};
 ghost use Rattle.telling.specs.Told.{leastText};
-ghost use Rattle.trace.specs.State.{leaves, printing, tableBytes};
+ghost use Rattle.trace.specs.State.{leavesByte, bytePrinting, tableBytes};
 ghost use Rattle.trace.specs.Events.{itemDone, grown, tookByte};
-use crate::Printed;
 use crate::Stage;
 use crate::Trace;
+use crate::TracePrinted;
 use crate::event;
 use crate::item;
 use crate::lines;
@@ -23,15 +23,15 @@ fn do_item(
     table: &mut [u8],
     words: &mut [u16],
     room: &mut [u8],
-) -> Printed
+) -> TracePrinted
     requires { ⌜ (tableBytes ≤ length (now table)) × (leastText ≤ length (now room)) ⌝ }
-    ensures { λ r. ⌜ leaves r (now (table .exit)) (now (words .exit)) (now (room .exit)) ≡ printing (itemDone trace (now (table .entry)) (now (words .entry)) item) (now (room .entry)) ⌝ }
+    ensures { λ r. ⌜ leavesByte r (now (table .exit)) (now (words .exit)) (now (room .exit)) ≡ bytePrinting (itemDone trace (now (table .entry)) (now (words .entry)) item) (now (room .entry)) ⌝ }
 {
     let kind = item[0];
     if kind == 0 {
         let setup = item::setup_in(&item);
         let stage = Stage::Ready;
-        return Printed {
+        return TracePrinted {
             trace: Trace {
                 stage: stage,
                 setup: setup,
@@ -43,7 +43,7 @@ fn do_item(
     if kind == 5 {
         records::put(trace.records, item, table);
         let records = records::counted(trace.records);
-        return Printed {
+        return TracePrinted {
             trace: Trace {
                 records: records,
                 ..trace
@@ -55,9 +55,9 @@ fn do_item(
 }
 
 // One byte more of an item; one that is whole with it is done.
-fn grow(trace: Trace, b: u8, table: &mut [u8], words: &mut [u16], room: &mut [u8]) -> Printed
+fn grow(trace: Trace, b: u8, table: &mut [u8], words: &mut [u16], room: &mut [u8]) -> TracePrinted
     requires { ⌜ (tableBytes ≤ length (now table)) × (leastText ≤ length (now room)) ⌝ }
-    ensures { λ r. ⌜ leaves r (now (table .exit)) (now (words .exit)) (now (room .exit)) ≡ printing (grown trace (now (table .entry)) (now (words .entry)) b) (now (room .entry)) ⌝ }
+    ensures { λ r. ⌜ leavesByte r (now (table .exit)) (now (words .exit)) (now (room .exit)) ≡ bytePrinting (grown trace (now (table .entry)) (now (words .entry)) b) (now (room .entry)) ⌝ }
 {
     let old = trace.item;
     let item = item::with_byte(old, trace.have, b);
@@ -70,7 +70,7 @@ fn grow(trace: Trace, b: u8, table: &mut [u8], words: &mut [u16], room: &mut [u8
             room,
         );
     }
-    Printed {
+    TracePrinted {
         trace: item::gather(trace, item, trace.have + 1),
         count: 0,
     }
@@ -83,13 +83,13 @@ pub fn take_byte(
     table: &mut [u8],
     words: &mut [u16],
     room: &mut [u8],
-) -> Printed
+) -> TracePrinted
     requires { ⌜ (tableBytes ≤ length (now table)) × (leastText ≤ length (now room)) ⌝ }
-    ensures { λ r. ⌜ leaves r (now (table .exit)) (now (words .exit)) (now (room .exit)) ≡ printing (tookByte trace (now (table .entry)) (now (words .entry)) b) (now (room .entry)) ⌝ }
+    ensures { λ r. ⌜ leavesByte r (now (table .exit)) (now (words .exit)) (now (room .exit)) ≡ bytePrinting (tookByte trace (now (table .entry)) (now (words .entry)) b) (now (room .entry)) ⌝ }
 {
     let stage = trace.stage;
     if stages::is_last(stage) {
-        return Printed {
+        return TracePrinted {
             trace: trace,
             count: 0,
         };

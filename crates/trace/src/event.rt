@@ -3,12 +3,12 @@ ghost use mathlib.Core.Path.{_≡_};
 ghost use Prim.Native.Nat.{_≤_};
 ghost use lib.ListN.{length};
 ghost use Rattle.telling.specs.Told.{leastText};
-ghost use Rattle.trace.specs.State.{leavesTrace, tracePrinting, leaves, printing, tableBytes};
+ghost use Rattle.trace.specs.State.{leavesEvent, eventPrinting, leavesByte, bytePrinting, tableBytes};
 ghost use Rattle.trace.specs.Events.{startedBy, eventDone};
 ghost use Rattle.telling.specs.Events.{event};
-use crate::Printed;
 use crate::Stage;
 use crate::Trace;
+use crate::TracePrinted;
 use crate::lines;
 use crate::records;
 use crate::stages;
@@ -42,14 +42,14 @@ fn started_event(
     part: &[u8],
     words: &mut [u16],
     room: &mut [u8],
-) -> Printed
+) -> TracePrinted
     requires { ⌜ leastText ≤ length (now room) ⌝ }
-    ensures { λ r. ⌜ leavesTrace r (now (words .exit)) (now (room .exit)) ≡ tracePrinting trace (event panel (now (part .entry)) (now (words .entry)) item) (now (room .entry)) ⌝ }
+    ensures { λ r. ⌜ leavesEvent r (now (words .exit)) (now (room .exit)) ≡ eventPrinting trace (event panel (now (part .entry)) (now (words .entry)) item) (now (room .entry)) ⌝ }
 {
     let done = telling::tell_event(panel, item, part, words, room);
     let next = done.panel;
     let stage = Stage::Started;
-    Printed {
+    TracePrinted {
         trace: Trace {
             stage: stage,
             panel: next,
@@ -66,9 +66,9 @@ pub fn any_event(
     table: &[u8],
     words: &mut [u16],
     room: &mut [u8],
-) -> Printed
+) -> TracePrinted
     requires { ⌜ (tableBytes ≤ length (now table)) × (leastText ≤ length (now room)) ⌝ }
-    ensures { λ r. ⌜ leaves r (now (table .entry)) (now (words .exit)) (now (room .exit)) ≡ printing (eventDone trace (now (table .entry)) (now (words .entry)) item) (now (room .entry)) ⌝ }
+    ensures { λ r. ⌜ leavesByte r (now (table .entry)) (now (words .exit)) (now (room .exit)) ≡ bytePrinting (eventDone trace (now (table .entry)) (now (words .entry)) item) (now (room .entry)) ⌝ }
 {
     let n = records::kept(trace.records) * RECORD_BYTES;
     let begun = begin(trace, &table[0..n]);

@@ -67,7 +67,7 @@ pub struct Ended {
 }
 
 // What a byte or a report does to the trace, and how many bytes of text were written for it.
-struct Printed {
+struct TracePrinted {
     trace: Trace,
     count: usize,
 }

@@ -7,9 +7,9 @@ ghost use Rattle.text.specs.Text.{lineText};
 ghost use Rattle.telling.specs.Told.{prints, leastText};
 ghost use Rattle.telling.specs.Lengths.{longestLine};
 ghost use Rattle.trace.specs.State.{stopped};
-use crate::Printed;
 use crate::Stage;
 use crate::Trace;
+use crate::TracePrinted;
 use text::Line;
 
 // Writes a line over the front of a room that has space for it; answers how many bytes.
@@ -21,13 +21,13 @@ pub fn print_line(line: Line, room: &mut [u8]) -> usize
 }
 
 // The trace fails with a line.
-pub fn stop(trace: Trace, line: Line, room: &mut [u8]) -> Printed
+pub fn stop(trace: Trace, line: Line, room: &mut [u8]) -> TracePrinted
     requires { ⌜ leastText ≤ length (now room) ⌝ }
     ensures { λ r. ⌜ (r .trace ≡ stopped trace) × (lays (r .count) (now (room .exit)) ≡ prints (lineText line) (now (room .entry))) ⌝ }
 {
     let stage = Stage::Over;
     let count = print_line(line, room);
-    Printed {
+    TracePrinted {
         trace: Trace {
             stage: stage,
             ..trace
