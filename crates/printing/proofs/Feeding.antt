@@ -10,14 +10,14 @@ use lib.Dec.{leb}
 use lib.ListN.{length, take, drop, length-append, take-append-drop}
 use lib.Seq.{drop-append-le}
 use Rattle.wire.specs.Bytes.{Bytes}
+use Rattle.wire.specs.Addresses.{wordCount}
 use Rattle.wire.proofs.Over.{take-over}
 use Rattle.reading.proofs.ByteLists.{bytes-nil, bytes-cons, bytes-append, bytes-drop}
 use Rattle.line.proofs.Truths.{never, or-left, or-right}
-use Rattle.wire.specs.Addresses.{wordCount}
 use Rattle.panel.specs.Start.{newPanel, noPanel}
-use Rattle.trace.specs.declared.Answer.the-variants.{Done}
 use Rattle.telling.specs.Told.{leastText}
-use Rattle.trace.specs.State.{Held, newTrace, tableBytes, waits, lentTo}
+use Rattle.trace.specs.declared.Answer.the-variants.{Done}
+use Rattle.trace.specs.State.{Held, newTrace, tableBytes, waits, lentTo, isLent}
 use Rattle.trace.specs.Steps.{step, Stepping, stepping}
 use Rattle.trace.specs.Output.{endText, Ending, ending, newHeld, traceOutput}
 use Rattle.printing.specs.Feeding.{stepCalled, heldAfter, endCalled, Fed, by-step, by-end, by-stop, Caller, calls, callsEach}
@@ -39,9 +39,9 @@ call-onward : (held : Held) (chunk rest room : List ℕ) → HeldSound held → 
     → CallOnward held chunk rest (stepCalled held chunk room)
 unfolding stepping
 call-onward held chunk rest room sound are =
-    by-test (λ (s : Stepping). s .stepped .answer ≡ Done → CallOnward held chunk rest s) (lentTo (length (held .table)) (length (held .words)) (length room)) _ _
+    by-test (λ (s : Stepping). s .stepped .answer ≡ Done → CallOnward held chunk rest s) (isLent held room) _ _
     (λ lent done.
-    let s = step (held .trace) (held .table) (held .words) chunk in
+    let s = step held chunk in
     let on = step-onward held chunk rest sound are in
     record {
       sound = on .sound;
@@ -94,7 +94,7 @@ new-keeps-none = refl
 call-done : (held : Held) (chunk room : List ℕ) → HeldSound held → leastText ≤ length room → stepCalled held chunk room .stepped .answer ≡ Done
 unfolding stepping lentTo
 call-done held chunk room sound lent =
-    rw (le-leb tableBytes (length (held .table)) (sound .table), eq-eqb (length (held .words)) wordCount (sound .words), le-leb leastText (length room) lent)
+    rw (le-leb tableBytes (length (held .table)) (sound .table), eq-eqb (length (held .memory .words)) wordCount (sound .memory .words), le-leb leastText (length room) lent)
 
 end-done : (held : Held) (room : List ℕ) → HeldSound held → leastText ≤ length room → endCalled held room .ended .answer ≡ Done
 unfolding ending

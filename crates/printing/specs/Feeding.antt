@@ -6,18 +6,18 @@ use mathlib.Core.List.{List, [], _++_}
 use lib.Dec.{leb}
 use lib.ListN.{length, take, drop}
 use Rattle.frame.specs.Frame.{longestFrame}
-use Rattle.trace.specs.declared.Answer.the-variants.{Done}
 use Rattle.telling.specs.Told.{leastText}
+use Rattle.trace.specs.declared.Answer.the-variants.{Done}
 use Rattle.trace.specs.State.{Held, holds, waits, isOver}
 use Rattle.trace.specs.Steps.{Stepping, stepping}
 use Rattle.trace.specs.Output.{Ending, ending}
 
 -- one call of `step`, and what is lent again at the next
 abbrev pub stepCalled : Held → List ℕ → List ℕ → Stepping
-stepCalled held chunk room = stepping (held .trace) chunk (held .table) (held .words) room
+stepCalled held chunk room = stepping held chunk room
 
 abbrev pub heldAfter : Stepping → Held
-heldAfter s = holds (s .stepped .trace) (s .table) (s .words)
+heldAfter s = holds (s .stepped .trace) (s .table) (s .memory)
 
 -- the call of `end`
 abbrev pub endCalled : Held → List ℕ → Ending

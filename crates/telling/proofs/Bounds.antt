@@ -18,17 +18,16 @@ use Rattle.line.specs.declared.Report.{Report}
 use Rattle.line.specs.declared.Report.the-variants as line
 use Rattle.line.specs.declared.Asked.{Asked}
 use Rattle.line.specs.Methods.{asked}
+use Rattle.touch.specs.declared.Setup.{Setup}
 use Rattle.registers.specs.declared.Registers.{Registers}
 use Rattle.commands.specs.declared.Outcome.{Outcome}
 use Rattle.commands.specs.Effect.{isDone, replying, registersReplying, wordsReplying}
 use Rattle.commands.specs.Perform.{Performance, performance}
-use Rattle.touch.specs.declared.Setup.{Setup}
 use Rattle.panel.specs.declared.Panel.{Panel}
 use Rattle.panel.specs.declared.Reported.{Reported}
 use Rattle.panel.specs.State.{headerFor, headerOf, answering}
 use Rattle.panel.specs.Reporting.{lent, acknowledged, accepting, reports, Reporting, handing, reporting}
-use Rattle.telling.specs.Lines.{acknowledgedBy, repliedBy}
-use Rattle.telling.specs.Lengths.{acknowledgementBytes}
+use Rattle.telling.specs.Inner.{acknowledgementBytes, repliedBy, acknowledgedBy}
 
 laid-at-most : (may : Bool) (bytes room : List ℕ) (n : ℕ) → length bytes ≤ n → laid may bytes room .count ≤ n
 unfolding laid

@@ -11,19 +11,19 @@ use lib.Seq.{length-take-le}
 use Rattle.wire.specs.Room.{over, Laid, lays, laid}
 use Rattle.wire.proofs.Over.{over-nil, over-part}
 use Rattle.wire.proofs.Parts.{part-whole}
-use Rattle.text.specs.declared.Line.{Line}
-use Rattle.text.specs.Text.{lineText, writtenText}
-use Rattle.text.proofs.Lengths.{lineText-length-le, writtenText-length-le}
-use Rattle.text.specs.declared.Line.the-variants as line
+use Rattle.frame.specs.Frame.{longestFrame}
+use Rattle.frame.specs.Writer.{leastRoom}
 use Rattle.commands.specs.declared.Outcome.{Outcome}
 use Rattle.commands.specs.Outcome as Outcome
 use Rattle.panel.specs.declared.Handed.{Handed}
 use Rattle.panel.specs.declared.Handed.the-variants as handed
-use Rattle.frame.specs.Frame.{longestFrame}
-use Rattle.frame.specs.Writer.{leastRoom}
-use Rattle.telling.specs.Told.{prints, leastText}
-use Rattle.telling.specs.Lines.{framesText, acknowledgedBy, repliedBy, reportText}
-use Rattle.telling.specs.Lengths.{acknowledgementBytes, longestLine, writtenBytes}
+use Rattle.text.specs.declared.Line.{Line}
+use Rattle.text.specs.Text.{lineText, writtenText}
+use Rattle.text.specs.declared.Line.the-variants as line
+use Rattle.text.proofs.Lengths.{lineText-length-le, writtenText-length-le}
+use Rattle.telling.specs.Told.{leastText}
+use Rattle.telling.specs.Inner.{writtenBytes, longestLine, acknowledgementBytes, prints, repliedBy, acknowledgedBy}
+use Rattle.telling.specs.Lines.{framesText, reportText}
 
 -- what fits is laid whole
 fitting : (s room : List ℕ) → length s ≤ length room → laid (leb (length s) (length room)) s room ≡ prints s room

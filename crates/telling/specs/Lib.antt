@@ -1,4 +1,5 @@
+pub mod Memory
 pub mod Told
 pub mod Lines
-pub mod Lengths
 pub mod Events
+pub mod Inner

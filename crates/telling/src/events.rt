@@ -6,8 +6,10 @@ ghost use Rattle.wire.specs.Room.{lays};
 ghost use Rattle.panel.specs.Numbers.{liftNumber};
 ghost use Rattle.panel.specs.Inputs.{fedByte, fedMark};
 ghost use Rattle.panel.specs.Contacts.{lifting};
-ghost use Rattle.telling.specs.Told.{prints, leavesPanel, panelPrinting, leastText};
+ghost use Rattle.telling.specs.Inner.{prints};
+ghost use Rattle.telling.specs.Told.{leavesPanel, panelPrinting, leastText};
 ghost use Rattle.telling.specs.Events.{touchText, contactTold, event};
+ghost use Rattle.telling.specs.Memory.{remembering};
 use crate::ITEM_BYTES;
 use crate::PanelPrinted;
 use crate::lines;
@@ -38,7 +40,7 @@ fn do_contact(
     room: &mut [u8],
 ) -> PanelPrinted
     requires { ⌜ leastText ≤ length (now room) ⌝ }
-    ensures { λ r. ⌜ leavesPanel r (now (words .exit)) (now (room .exit)) ≡ panelPrinting (contactTold panel (now (table .entry)) (now (words .entry)) x y) (now (room .entry)) ⌝ }
+    ensures { λ r. ⌜ leavesPanel r (remembering (now (words .exit))) (now (room .exit)) ≡ panelPrinting (contactTold panel (now (table .entry)) (remembering (now (words .entry))) x y) (now (room .entry)) ⌝ }
 {
     let done = panel.contact(table, words, x, y);
     let answer = done.answer;
@@ -72,7 +74,7 @@ pub fn do_event(
     room: &mut [u8],
 ) -> PanelPrinted
     requires { ⌜ leastText ≤ length (now room) ⌝ }
-    ensures { λ r. ⌜ leavesPanel r (now (words .exit)) (now (room .exit)) ≡ panelPrinting (event panel (now (table .entry)) (now (words .entry)) item) (now (room .entry)) ⌝ }
+    ensures { λ r. ⌜ leavesPanel r (remembering (now (words .exit))) (now (room .exit)) ≡ panelPrinting (event panel (now (table .entry)) (remembering (now (words .entry))) item) (now (room .entry)) ⌝ }
 {
     let kind = item[0];
     if kind == 1 {

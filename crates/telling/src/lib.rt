@@ -2,6 +2,7 @@
 ghost use mathlib.Core.Path.{_≡_};
 ghost use Rattle.telling.specs.Told.{leavesPanel, printedIn};
 ghost use Rattle.telling.specs.Events.{event, askedOnce};
+ghost use Rattle.telling.specs.Memory.{remembering};
 use panel::Panel;
 use touch::RECORD_BYTES;
 
@@ -30,7 +31,7 @@ pub fn tell_event(
     words: &mut [u16],
     room: &mut [u8],
 ) -> PanelPrinted
-    ensures { λ r. ⌜ leavesPanel r (now (words .exit)) (now (room .exit)) ≡ printedIn (event panel (now (table .entry)) (now (words .entry)) item) panel (now (words .entry)) (now (room .entry)) ⌝ }
+    ensures { λ r. ⌜ leavesPanel r (remembering (now (words .exit))) (now (room .exit)) ≡ printedIn (event panel (now (table .entry)) (remembering (now (words .entry))) item) panel (remembering (now (words .entry))) (now (room .entry)) ⌝ }
 {
     if room.len() < LEAST_TEXT {
         return PanelPrinted {
@@ -43,7 +44,7 @@ pub fn tell_event(
 
 // Asks for one report and prints it; with room below `LEAST_TEXT` nothing is done.
 pub fn tell_report(panel: Panel, words: &mut [u16], room: &mut [u8]) -> PanelPrinted
-    ensures { λ r. ⌜ leavesPanel r (now (words .exit)) (now (room .exit)) ≡ printedIn (askedOnce panel (now (words .entry))) panel (now (words .entry)) (now (room .entry)) ⌝ }
+    ensures { λ r. ⌜ leavesPanel r (remembering (now (words .exit))) (now (room .exit)) ≡ printedIn (askedOnce panel (remembering (now (words .entry)))) panel (remembering (now (words .entry))) (now (room .entry)) ⌝ }
 {
     if room.len() < LEAST_TEXT {
         return PanelPrinted {

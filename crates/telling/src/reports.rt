@@ -4,6 +4,7 @@ ghost use Prim.Native.Nat.{_≤_};
 ghost use lib.ListN.{length};
 ghost use Rattle.telling.specs.Told.{leavesPanel, panelPrinting, leastText};
 ghost use Rattle.telling.specs.Events.{replyRoom, askedOnce};
+ghost use Rattle.telling.specs.Memory.{remembering};
 use crate::PanelPrinted;
 use crate::lines;
 use frame::LEAST_ROOM;
@@ -19,7 +20,7 @@ fn no_reply() -> [u8; LEAST_ROOM]
 // Asks for one report and prints it.
 pub fn ask_once(panel: Panel, words: &mut [u16], room: &mut [u8]) -> PanelPrinted
     requires { ⌜ leastText ≤ length (now room) ⌝ }
-    ensures { λ r. ⌜ leavesPanel r (now (words .exit)) (now (room .exit)) ≡ panelPrinting (askedOnce panel (now (words .entry))) (now (room .entry)) ⌝ }
+    ensures { λ r. ⌜ leavesPanel r (remembering (now (words .exit))) (now (room .exit)) ≡ panelPrinting (askedOnce panel (remembering (now (words .entry)))) (now (room .entry)) ⌝ }
 {
     let mut reply = no_reply();
     let done = panel.report(words, &mut reply);

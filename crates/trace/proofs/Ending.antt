@@ -1,5 +1,5 @@
 -- Laws of the end of the input, and of a new trace.
-use mathlib.Core.Path.{_≡_, refl, sym, ap, _∙_}
+use mathlib.Core.Path.{_≡_, sym, ap, _∙_}
 use mathlib.Core.Bool.{true, false, _&&_}
 use mathlib.Core.List.{List}
 use Prim.Native.Nat.{ℕ, _*_, _-_, _≤_, min}
@@ -9,25 +9,26 @@ use lib.ListN.{length, take}
 use Rattle.wire.specs.Room.{Laid, lays}
 use Rattle.wire.proofs.Over.{over-nil}
 use Rattle.line.proofs.Truths.{and-left, and-right}
+use Rattle.touch.specs.Table.{recordBytes}
 use Rattle.registers.specs.Touched.{pageOf}
-use Rattle.text.specs.declared.Line.the-variants as line
-use Rattle.text.specs.Text.{lineText}
 use Rattle.panel.specs.declared.Start.{Start}
 use Rattle.panel.specs.declared.StartAnswer.{StartAnswer}
 use Rattle.panel.specs.declared.StartAnswer.the-variants as start
 use Rattle.panel.specs.Numbers.{startNumber}
 use Rattle.panel.specs.Start.{started}
-use Rattle.touch.specs.Table.{recordBytes}
+use Rattle.text.specs.declared.Line.the-variants as line
+use Rattle.text.specs.Text.{lineText}
+use Rattle.telling.specs.Inner.{prints}
+use Rattle.telling.specs.Told.{leastText}
 use Rattle.trace.specs.declared.Stage.{Stage}
 use Rattle.trace.specs.declared.Stage.the-variants.{Bare, Ready, Started, Over}
 use Rattle.trace.specs.declared.Trace.{Trace}
 use Rattle.trace.specs.declared.Answer.the-variants.{Done, NotLent}
-use Rattle.telling.specs.Told.{prints, leastText}
-use Rattle.trace.proofs.Items.{table-part}
 use Rattle.trace.specs.State.{noItem, newTrace, keptRecords, tableBytes, tableOf}
 use Rattle.trace.specs.Lines.{refusalText, wrongText}
 use Rattle.trace.specs.Events.{startedBy}
 use Rattle.trace.specs.Output.{endAnswered, endStarted, endAt, endText, ends, ending}
+use Rattle.trace.proofs.Items.{table-part}
 
 module _ (trace : Trace) (table room left : List ℕ) (n k : ℕ) (is-k : k ≡ min (trace .records) keptRecords) (begun : Start)
     (is-begun : begun ≡ startedBy trace (take (k * recordBytes - 0) table)) where

@@ -3,7 +3,9 @@ ghost use mathlib.Core.Path.{_≡_};
 ghost use Prim.Native.Nat.{_≤_};
 ghost use lib.ListN.{length};
 ghost use Rattle.telling.specs.Told.{leastText};
-ghost use Rattle.trace.specs.State.{leavesByte, bytePrinting, tableBytes};
+ghost use Rattle.telling.specs.Memory.{remembering};
+ghost use Rattle.trace.specs.Inner.{bytePrinting, leavesByte};
+ghost use Rattle.trace.specs.State.{tableBytes, holds};
 ghost use Rattle.trace.specs.Events.{itemDone, grown, tookByte};
 use crate::Stage;
 use crate::Trace;
@@ -25,7 +27,7 @@ fn do_item(
     room: &mut [u8],
 ) -> TracePrinted
     requires { ⌜ (tableBytes ≤ length (now table)) × (leastText ≤ length (now room)) ⌝ }
-    ensures { λ r. ⌜ leavesByte r (now (table .exit)) (now (words .exit)) (now (room .exit)) ≡ bytePrinting (itemDone trace (now (table .entry)) (now (words .entry)) item) (now (room .entry)) ⌝ }
+    ensures { λ r. ⌜ leavesByte r (now (table .exit)) (remembering (now (words .exit))) (now (room .exit)) ≡ bytePrinting (itemDone (holds trace (now (table .entry)) (remembering (now (words .entry)))) item) (now (room .entry)) ⌝ }
 {
     let kind = item[0];
     if kind == 0 {
@@ -57,7 +59,7 @@ fn do_item(
 // One byte more of an item; one that is whole with it is done.
 fn grow(trace: Trace, b: u8, table: &mut [u8], words: &mut [u16], room: &mut [u8]) -> TracePrinted
     requires { ⌜ (tableBytes ≤ length (now table)) × (leastText ≤ length (now room)) ⌝ }
-    ensures { λ r. ⌜ leavesByte r (now (table .exit)) (now (words .exit)) (now (room .exit)) ≡ bytePrinting (grown trace (now (table .entry)) (now (words .entry)) b) (now (room .entry)) ⌝ }
+    ensures { λ r. ⌜ leavesByte r (now (table .exit)) (remembering (now (words .exit))) (now (room .exit)) ≡ bytePrinting (grown (holds trace (now (table .entry)) (remembering (now (words .entry)))) b) (now (room .entry)) ⌝ }
 {
     let old = trace.item;
     let item = item::with_byte(old, trace.have, b);
@@ -85,7 +87,7 @@ pub fn take_byte(
     room: &mut [u8],
 ) -> TracePrinted
     requires { ⌜ (tableBytes ≤ length (now table)) × (leastText ≤ length (now room)) ⌝ }
-    ensures { λ r. ⌜ leavesByte r (now (table .exit)) (now (words .exit)) (now (room .exit)) ≡ bytePrinting (tookByte trace (now (table .entry)) (now (words .entry)) b) (now (room .entry)) ⌝ }
+    ensures { λ r. ⌜ leavesByte r (now (table .exit)) (remembering (now (words .exit))) (now (room .exit)) ≡ bytePrinting (tookByte (holds trace (now (table .entry)) (remembering (now (words .entry)))) b) (now (room .entry)) ⌝ }
 {
     let stage = trace.stage;
     if stages::is_last(stage) {

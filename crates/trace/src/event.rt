@@ -3,9 +3,11 @@ ghost use mathlib.Core.Path.{_≡_};
 ghost use Prim.Native.Nat.{_≤_};
 ghost use lib.ListN.{length};
 ghost use Rattle.telling.specs.Told.{leastText};
-ghost use Rattle.trace.specs.State.{leavesEvent, eventPrinting, leavesByte, bytePrinting, tableBytes};
-ghost use Rattle.trace.specs.Events.{startedBy, eventDone};
+ghost use Rattle.telling.specs.Memory.{remembering};
 ghost use Rattle.telling.specs.Events.{event};
+ghost use Rattle.trace.specs.Inner.{bytePrinting, leavesByte, eventPrinting, leavesEvent};
+ghost use Rattle.trace.specs.State.{tableBytes, holds};
+ghost use Rattle.trace.specs.Events.{startedBy, eventDone};
 use crate::Stage;
 use crate::Trace;
 use crate::TracePrinted;
@@ -44,7 +46,7 @@ fn started_event(
     room: &mut [u8],
 ) -> TracePrinted
     requires { ⌜ leastText ≤ length (now room) ⌝ }
-    ensures { λ r. ⌜ leavesEvent r (now (words .exit)) (now (room .exit)) ≡ eventPrinting trace (event panel (now (part .entry)) (now (words .entry)) item) (now (room .entry)) ⌝ }
+    ensures { λ r. ⌜ leavesEvent r (remembering (now (words .exit))) (now (room .exit)) ≡ eventPrinting trace (event panel (now (part .entry)) (remembering (now (words .entry))) item) (now (room .entry)) ⌝ }
 {
     let done = telling::tell_event(panel, item, part, words, room);
     let next = done.panel;
@@ -68,7 +70,7 @@ pub fn any_event(
     room: &mut [u8],
 ) -> TracePrinted
     requires { ⌜ (tableBytes ≤ length (now table)) × (leastText ≤ length (now room)) ⌝ }
-    ensures { λ r. ⌜ leavesByte r (now (table .entry)) (now (words .exit)) (now (room .exit)) ≡ bytePrinting (eventDone trace (now (table .entry)) (now (words .entry)) item) (now (room .entry)) ⌝ }
+    ensures { λ r. ⌜ leavesByte r (now (table .entry)) (remembering (now (words .exit))) (now (room .exit)) ≡ bytePrinting (eventDone (holds trace (now (table .entry)) (remembering (now (words .entry)))) item) (now (room .entry)) ⌝ }
 {
     let n = records::kept(trace.records) * RECORD_BYTES;
     let begun = begin(trace, &table[0..n]);

@@ -1,6 +1,7 @@
 // 01, "The trace program", as a library: a trace is a value that takes the input a piece at a time and writes lines into a lent room.
 ghost use mathlib.Core.Path.{_≡_};
-ghost use Rattle.trace.specs.State.{newTrace, waits, isOver};
+ghost use Rattle.telling.specs.Memory.{remembering};
+ghost use Rattle.trace.specs.State.{newTrace, waits, isOver, holds};
 ghost use Rattle.trace.specs.Steps.{steps, stepping};
 ghost use Rattle.trace.specs.Output.{ends, ending};
 use panel::Panel;
@@ -122,7 +123,7 @@ impl Trace {
 
     // Hands over one report, or takes some of the input; writes the lines of it over the front of the room.
     pub fn step(self, input: &[u8], table: &mut [u8], words: &mut [u16], room: &mut [u8]) -> Stepped
-        ensures { λ r. ⌜ steps r (now (table .exit)) (now (words .exit)) (now (room .exit)) ≡ stepping self (now (input .entry)) (now (table .entry)) (now (words .entry)) (now (room .entry)) ⌝ }
+        ensures { λ r. ⌜ steps r (now (table .exit)) (remembering (now (words .exit))) (now (room .exit)) ≡ stepping (holds self (now (table .entry)) (remembering (now (words .entry)))) (now (input .entry)) (now (room .entry)) ⌝ }
     {
         if step::is_lent(table.len(), words.len(), room.len()) {
             let took = step::take_step(self, input, table, words, room);

@@ -3,8 +3,10 @@ ghost use mathlib.Core.Path.{_≡_};
 ghost use Prim.Native.Nat.{_≤_};
 ghost use lib.ListN.{length};
 ghost use Rattle.telling.specs.Told.{leastText};
-ghost use Rattle.trace.specs.State.{lentTo, tableBytes};
-ghost use Rattle.trace.specs.Steps.{tookOne, tookLines, tookInput, step, leavesStep, stepPrinting};
+ghost use Rattle.telling.specs.Memory.{remembering};
+ghost use Rattle.trace.specs.State.{lentTo, tableBytes, holds};
+ghost use Rattle.trace.specs.Inner.{stepPrinting, leavesStep};
+ghost use Rattle.trace.specs.Steps.{tookOne, tookLines, tookInput, step};
 use crate::LEAST_TEXT;
 use crate::TABLE_BYTES;
 use crate::Took;
@@ -31,7 +33,7 @@ fn take_one(
     room: &mut [u8],
 ) -> Took
     requires { ⌜ (tableBytes ≤ length (now table)) × (leastText ≤ length (now room)) ⌝ }
-    ensures { λ r. ⌜ leavesStep r (now (table .exit)) (now (words .exit)) (now (room .exit)) ≡ stepPrinting (tookOne trace (now (table .entry)) (now (words .entry)) (now (input .entry))) (now (room .entry)) ⌝ }
+    ensures { λ r. ⌜ leavesStep r (now (table .exit)) (remembering (now (words .exit))) (now (room .exit)) ≡ stepPrinting (tookOne (holds trace (now (table .entry)) (remembering (now (words .entry)))) (now (input .entry))) (now (room .entry)) ⌝ }
 {
     if input.len() == 0 {
         return Took {
@@ -58,7 +60,7 @@ fn take_lines(
     room: &mut [u8],
 ) -> Took
     requires { ⌜ (tableBytes ≤ length (now table)) × (leastText ≤ length (now room)) ⌝ }
-    ensures { λ r. ⌜ leavesStep r (now (table .exit)) (now (words .exit)) (now (room .exit)) ≡ stepPrinting (tookLines trace (now (table .entry)) (now (words .entry)) (now (input .entry))) (now (room .entry)) ⌝ }
+    ensures { λ r. ⌜ leavesStep r (now (table .exit)) (remembering (now (words .exit))) (now (room .exit)) ≡ stepPrinting (tookLines (holds trace (now (table .entry)) (remembering (now (words .entry)))) (now (input .entry))) (now (room .entry)) ⌝ }
 {
     let mut run = run::no_run();
     let n = run::gather_run(input, &mut run);
@@ -77,7 +79,7 @@ fn take_input(
     room: &mut [u8],
 ) -> Took
     requires { ⌜ (tableBytes ≤ length (now table)) × (leastText ≤ length (now room)) ⌝ }
-    ensures { λ r. ⌜ leavesStep r (now (table .exit)) (now (words .exit)) (now (room .exit)) ≡ stepPrinting (tookInput trace (now (table .entry)) (now (words .entry)) (now (input .entry))) (now (room .entry)) ⌝ }
+    ensures { λ r. ⌜ leavesStep r (now (table .exit)) (remembering (now (words .exit))) (now (room .exit)) ≡ stepPrinting (tookInput (holds trace (now (table .entry)) (remembering (now (words .entry)))) (now (input .entry))) (now (room .entry)) ⌝ }
 {
     let stage = trace.stage;
     if stages::is_started(stage) & (trace.have == 0) {
@@ -95,7 +97,7 @@ pub fn take_step(
     room: &mut [u8],
 ) -> Took
     requires { ⌜ (tableBytes ≤ length (now table)) × (leastText ≤ length (now room)) ⌝ }
-    ensures { λ r. ⌜ leavesStep r (now (table .exit)) (now (words .exit)) (now (room .exit)) ≡ stepPrinting (step trace (now (table .entry)) (now (words .entry)) (now (input .entry))) (now (room .entry)) ⌝ }
+    ensures { λ r. ⌜ leavesStep r (now (table .exit)) (remembering (now (words .exit))) (now (room .exit)) ≡ stepPrinting (step (holds trace (now (table .entry)) (remembering (now (words .entry)))) (now (input .entry))) (now (room .entry)) ⌝ }
 {
     if trace.is_waiting() {
         let done = report::hand_over(trace, words, room);
