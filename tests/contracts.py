@@ -1,7 +1,7 @@
 #!/usr/bin/env python3
 """Holds every public function under crates/ against docs/CONTRACTS.md and against the proofs that one answer fits its contract.
 
-Each public function of a crate in crates.txt (a method as Type::method)
+Each public function of a crate in crates.txt (a method as Type::method; `source.py` says what is public)
 - has no `requires` and has an `ensures`;
 - stands in docs/CONTRACTS.md, in a row below the heading of its crate, with what it answers and at least two wrong answers that are ruled out;
 - has a theorem NAME-determined in its crate's proofs/Determined.antt (in NAME - for _), which speaks of the contract of this very function and of
@@ -118,8 +118,7 @@ def theorem_fault(function, others):
         return f"no theorem {names[-1]} in crates/{function.crate}/proofs/Determined.antt"
     if not re.search(r"^(pub )?mod Determined$", read(function.crate, "Lib.antt"), re.M):
         return f"crates/{function.crate}/proofs/Lib.antt does not declare Determined"
-    module = function.name.replace("::", ".")
-    alias = re.search(rf"^use \S+\.proofs\.{re.escape(module)}\.Reads as (\S+)$", text, re.M)
+    alias = re.search(rf"^use \S+\.proofs\.{re.escape(function.proof)}\.Reads as (\S+)$", text, re.M)
     if not alias or f" {alias.group(1)}.Post" not in says or "OneAnswer" not in says:
         return f"the theorem {names[-1]} does not say OneAnswer of the contract of {function.name}"
     lent, left = function.parameters.count("&mut "), says.count("now (s ")

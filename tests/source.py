@@ -1,4 +1,11 @@
-"""What the code under crates/ declares: crates, functions with their contracts and bodies, structs and enums. Found by a scan, not by a parser."""
+"""What the code under crates/ declares: crates, functions with their contracts and bodies, structs and enums. Found by a scan, not by a parser.
+
+A crate's root is src/lib.rt or src/main.rt; each other file of src/ is a module, named after the file. What a crate offers to others is
+
+- each `pub fn` of the root, and of a module that the root declares by `pub mod`;
+- each `pub fn` of a module that the root offers by `pub use module::name;` or `pub use module::{a, b};`;
+- each `pub` method of an impl block, wherever it stands, of a type that is `pub` in the root or offered in the same way.
+"""
 import dataclasses
 import pathlib
 import re
@@ -11,7 +18,8 @@ CLOSING = {"(": ")", "{": "}", "[": "]"}
 class Function:
     crate: str
     file: pathlib.Path
-    # With its type in front, as Reader::ask, where it stands in an impl block.
+    # As callers write it behind the crate's name: with its type in front, as Reader::ask, where it stands in an impl block; with its module where that is
+    # how it is reached, as asking::helper.
     name: str
     line: int
     public: bool
@@ -21,6 +29,8 @@ class Function:
     # Where the text inside the body's braces begins and ends in the file.
     begin: int
     end: int
+    # The folder of its proof below proofs/, with points: the type and the method, or the module and the function.
+    proof: str
 
 
 def crates():
@@ -35,6 +45,17 @@ def crates():
 
 def code_files(crate):
     return sorted((TOP / "crates" / crate / "src").rglob("*.rt"))
+
+
+def root_file(crate):
+    folder = TOP / "crates" / crate / "src"
+    return next(folder / name for name in ("lib.rt", "main.rt") if (folder / name).is_file())
+
+
+def module_of(crate, file):
+    """The name of the module that a file holds, "" for the root."""
+    root = root_file(crate)
+    return "" if file == root else "::".join(file.relative_to(root.parent).with_suffix("").parts)
 
 
 def blank(text):
@@ -68,32 +89,76 @@ def body_at(text, at):
 
 def impl_blocks(text):
     """Name, begin and end of each impl block."""
-    for found in re.finditer(r"\bimpl\s+(\w+)\s*\{", text):
+    for found in re.finditer(r"\bimpl(?:<[^>]*>)?\s+(\w+)(?:<[^>]*>)?\s*\{", text):
         yield found.group(1), found.end(), behind(text, found.end() - 1)
 
 
-def functions_in(crate, file):
+# ---- What a crate offers
+
+
+def offers(crate):
+    """What the root offers of its modules: pairs of module and name, and the modules that are public as a whole."""
+    root = root_file(crate)
+    text = blank(root.read_text())
+    pairs = set()
+    for found in re.finditer(r"\bpub\s+use\s+([^;]*);", text):
+        form = re.fullmatch(r"(?:(?:crate|self)::)?(\w+(?:::\w+)*?)::(?:(\w+)|\{([\w\s,]*)\})", found.group(1).strip())
+        if form is None:
+            raise ValueError(f"{root.relative_to(TOP)}: `{found.group()}` is neither `pub use module::name;` nor `pub use module::{{a, b}};`")
+        names = [form.group(2)] if form.group(2) else split_items(form.group(3))
+        pairs.update((form.group(1), name) for name in names)
+    return pairs, set(re.findall(r"\bpub\s+mod\s+(\w+)", text))
+
+
+def is_offered(module, name, offered):
+    pairs, modules = offered
+    return module == "" or module in modules or (module, name) in pairs
+
+
+def public_types(crate, offered):
+    """The structs and enums that other crates can name."""
+    kinds = set()
+    for file in code_files(crate):
+        module = module_of(crate, file)
+        for found in re.finditer(r"\bpub\s+(?:struct|enum)\s+(\w+)", blank(file.read_text())):
+            if is_offered(module, found.group(1), offered):
+                kinds.add(found.group(1))
+    return kinds
+
+
+def functions_in(crate, file, offered, kinds):
     text = blank(file.read_text())
     impls = list(impl_blocks(text))
+    module = module_of(crate, file)
     for found in re.finditer(r"(\bpub\s+)?(?:extern\s+)?\bfn\s+(\w+)\s*\(", text):
-        owner = [name + "::" for name, begin, end in impls if begin <= found.start() < end]
+        owner = next((name for name, begin, end in impls if begin <= found.start() < end), None)
+        plain = found.group(2)
+        path = [owner, plain] if owner else [*module.split("::"), plain] if module else [plain]
+        reached = owner in kinds if owner else is_offered(module, plain, offered)
+        by_name = owner is None and (module, plain) in offered[0]
         parameters = behind(text, found.end() - 1)
         opened = body_at(text, parameters)
         yield Function(
             crate=crate,
             file=file,
-            name="".join(owner) + found.group(2),
+            name=plain if by_name else "::".join(path),
             line=text.count("\n", 0, found.start(2)) + 1,
-            public=found.group(1) is not None,
+            public=found.group(1) is not None and reached,
             parameters=text[found.end():parameters - 1],
             contract=text[parameters:opened],
             begin=opened + 1,
             end=behind(text, opened) - 1,
+            proof=".".join(path),
         )
 
 
 def functions(crate):
-    return [function for file in code_files(crate) for function in functions_in(crate, file)]
+    offered = offers(crate)
+    kinds = public_types(crate, offered)
+    return [function for file in code_files(crate) for function in functions_in(crate, file, offered, kinds)]
+
+
+# ---- Types
 
 
 def split_items(text):

@@ -4,7 +4,10 @@ ghost use Prim.Native.Nat.{_≤_};
 ghost use lib.ListN.{length};
 use libc::STDIN_FILENO;
 use libc::STDOUT_FILENO;
+use trace::LEAST_TEXT;
+use trace::TABLE_BYTES;
 use trace::Trace;
+use wire::WORD_COUNT;
 
 // Writes the text at the front of a room.
 fn write_text(room: &[u8], n: usize) {
@@ -23,7 +26,7 @@ fn write_full(room: &[u8], filled: usize, n: usize) -> usize
     if left < n {
         return 0;
     }
-    if left - n < 1024 {
+    if left - n < LEAST_TEXT {
         write_text(room, filled + n);
         return 0;
     }
@@ -98,8 +101,8 @@ fn finish(trace: Trace, table: &[u8], room: &mut [u8]) {
 }
 
 fn main() {
-    let mut table = [0u8; 4128];
-    let mut words = [0u16; 28672];
+    let mut table = [0u8; TABLE_BYTES];
+    let mut words = [0u16; WORD_COUNT];
     let mut room = io::large_buffer();
     let trace = read_all(&mut table, &mut words, &mut room);
     finish(trace, &table, &mut room);

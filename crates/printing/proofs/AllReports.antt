@@ -1,13 +1,14 @@
--- Laws of `allReports`: each report leaves fewer of the at most 258 bytes kept, so asking more often changes nothing.
+-- Laws of `allReports`: each report leaves fewer of the bytes kept, at most as many as the longest frame has, so asking more often changes nothing.
 use mathlib.Core.Path.{_≡_, refl, sym, ap, _∙_}
 use mathlib.Core.Bool.{Bool, true, false, not, _&&_}
 use mathlib.Core.List.{List, []}
-use Prim.Native.Nat.{ℕ, zero, suc, _≤_, _<_}
+use Prim.Native.Nat.{ℕ, zero, suc, _-_, _≤_, _<_}
 use native.Mathlib.Omega.{arith}
 use borrow.Author.Tests.{eq-eqb, ltb-true, not-false}
 use lib.Dec.{ltb}
 use lib.ListN.{length}
-use Rattle.frame.specs.Writer.{leastRoom}
+use Rattle.wire.specs.Addresses.{wordCount}
+use Rattle.frame.specs.Frame.{longestFrame}
 use Rattle.reading.specs.Place.{Rules, Seen, pass, wait, bad, accepted, look, reportOf}
 use Rattle.reading.specs.Moves.{Kept, isReport, waiting, handed, afterReport}
 use Rattle.reading.proofs.Moves.{report-shorter}
@@ -21,12 +22,13 @@ use Rattle.line.specs.Methods.{busy, isAnswer, asked}
 use Rattle.line.specs.Reached.{reportAs}
 use Rattle.line.proofs.Carried.{waiting-is, ask-carried}
 use Rattle.line.proofs.Truths.{never, and-left}
-use Rattle.wire.specs.Addresses.{wordCount}
 use Rattle.panel.specs.declared.Panel.{Panel}
 use Rattle.panel.specs.Reporting.{lent, handing, reporting}
 use Rattle.panel.specs.Sound.{lineOf, Sound}
-use Rattle.trace.specs.State.{Held, Shown, showsTold, following, waits, isStarted}
+use Rattle.telling.specs.Memory.{Memory, Whole}
 use Rattle.telling.specs.Events.{replyRoom, askedOnce}
+use Rattle.trace.specs.State.{Held, Shown, shows, following, waits, isStarted}
+use Rattle.trace.specs.Events.{reportShown}
 use Rattle.trace.specs.Output.{allReports}
 use Rattle.printing.proofs.HeldSound.{HeldSound, waits-started, report-held-sound}
 
@@ -51,7 +53,7 @@ all-lent : (words : List ℕ) → length words ≡ wordCount → lent (length wo
 unfolding lent replyRoom
 all-lent words long = rw (eq-eqb (length words) wordCount long)
 
-module _ (panel : Panel) (words : List ℕ) (sound : Sound panel) (is-busy : busy (panel .reader) ≡ true) where
+module _ (panel : Panel) (memory : Memory) (sound : Sound panel) (is-busy : busy (panel .reader) ≡ true) where
   abbrev line-is : Line
   line-is = lineOf (panel .setup)
 
@@ -70,16 +72,17 @@ module _ (panel : Panel) (words : List ℕ) (sound : Sound panel) (is-busy : bus
       some-report (rulesFor line-is) (look (rulesFor line-is) (kept-is .closed) (kept-is .bytes)) is-waiting
       (sym (ap (λ (a : Asked). a .report) (asked-is ∙ ask-carried line-is kept-is (sound .reads .reached .few))) ∙ is)
 
-  reader-left : length words ≡ wordCount → askedOnce panel words .panel .reader ≡ asked (panel .reader) .reader
+  reader-left : Whole memory → askedOnce panel memory .panel .reader ≡ asked (panel .reader) .reader
   unfolding askedOnce reporting
-  reader-left long = rw (all-lent words long) (handed-reader (asked (panel .reader)) (asked (panel .reader) .report) panel words replyRoom not-nothing)
+  reader-left whole =
+      rw (all-lent (memory .words) (whole .words)) (handed-reader (asked (panel .reader)) (asked (panel .reader) .report) panel (memory .words) replyRoom not-nothing)
 
-  pub report-less : length words ≡ wordCount → askedOnce panel words .panel .reader .len < panel .reader .len
-  report-less long =
+  pub report-less : Whole memory → askedOnce panel memory .panel .reader .len < panel .reader .len
+  report-less whole =
       let before : panel .reader .len ≡ length (kept-is .bytes) = ap (λ (r : Reader). r .len) (sound .reads .is) in
-      let left : askedOnce panel words .panel .reader ≡ readerOf line-is (afterReport (rulesFor line-is) kept-is) =
-      reader-left long ∙ ap (λ (a : Asked). a .reader) (asked-is ∙ ask-carried line-is kept-is (sound .reads .reached .few)) in
-      let after : askedOnce panel words .panel .reader .len ≡ length (afterReport (rulesFor line-is) kept-is .bytes) = ap (λ (r : Reader). r .len) left in
+      let left : askedOnce panel memory .panel .reader ≡ readerOf line-is (afterReport (rulesFor line-is) kept-is) =
+      reader-left whole ∙ ap (λ (a : Asked). a .reader) (asked-is ∙ ask-carried line-is kept-is (sound .reads .reached .few)) in
+      let after : askedOnce panel memory .panel .reader .len ≡ length (afterReport (rulesFor line-is) kept-is .bytes) = ap (λ (r : Reader). r .len) left in
       omega (arith, report-shorter (rulesFor line-is) kept-is is-waiting)
 
 -- ---- Asking again and again
@@ -88,32 +91,25 @@ module _ (panel : Panel) (words : List ℕ) (sound : Sound panel) (is-busy : bus
 abbrev pub keptBy : Held → ℕ
 keptBy held = held .trace .panel .reader .len
 
--- one report handed over
-abbrev pub reportShown : Held → Shown
-reportShown held = showsTold (held .trace) (held .table) (askedOnce (held .trace .panel) (held .words))
-
 pub report-fewer : (held : Held) → HeldSound held → waits (held .trace) ≡ true → keptBy (reportShown held .held) < keptBy held
 report-fewer held sound is =
-    report-less (held .trace .panel) (held .words) (sound .panel (waits-started (held .trace) (held .table) (held .words) sound is)) is (sound .words)
+    report-less (held .trace .panel) (held .memory) (sound .panel (waits-started held sound is)) is (sound .memory)
 
-pub report-stays-sound : (held : Held) → HeldSound held → waits (held .trace) ≡ true → HeldSound (reportShown held .held)
-report-stays-sound held sound is = report-held-sound (held .trace) (held .table) (held .words) sound is
-
--- never more than 258 bytes are kept
-pub kept-258 : (held : Held) → HeldSound held → keptBy held ≤ 258
-kept-258 held sound = go (isStarted (held .trace .stage)) refl
+-- never more bytes are kept than the longest frame has
+pub kept-at-most : (held : Held) → HeldSound held → keptBy held ≤ longestFrame
+kept-at-most held sound = go (isStarted (held .trace .stage)) refl
   where
-    go : (b : Bool) → isStarted (held .trace .stage) ≡ b → keptBy held ≤ 258
+    go : (b : Bool) → isStarted (held .trace .stage) ≡ b → keptBy held ≤ longestFrame
     go true is =
         let reads = sound .panel is .reads in
         let long : keptBy held ≡ length (reads .kept .bytes) = ap (λ (r : Reader). r .len) (reads .is) in
         omega (arith, reads .reached .few)
     go false is =
-        let room = ltb (keptBy held) 258 in
+        let room = ltb (keptBy held) longestFrame in
         let free : (room && not (isAnswer (held .trace .panel .reader .head))) ≡ true = not-false _ (sound .quiet is) in
-        omega (arith, ltb-true (keptBy held) 258 (and-left room (not (isAnswer (held .trace .panel .reader .head))) free))
+        omega (arith, ltb-true (keptBy held) longestFrame (and-left room (not (isAnswer (held .trace .panel .reader .head))) free))
 
-pub none-reported : (n : ℕ) (held : Held) → waits (held .trace) ≡ false → allReports n held ≡ record { held = held; text = [] }
+pub none-reported : (n : ℕ) (held : Held) → waits (held .trace) ≡ false → allReports n held ≡ shows held []
 unfolding allReports
 none-reported zero held quiet = refl
 none-reported (suc n) held quiet = rw quiet
@@ -136,14 +132,14 @@ enough (suc n) held sound few = go (waits (held .trace)) refl (enough n (reportS
         → allReports (suc (suc n)) held ≡ allReports (suc n) held
     go true is rest =
         one-reported (suc n) held is
-        ∙ ap (λ (s : Shown). following (reportShown held .text) s) (rest (report-stays-sound held sound is) (omega (arith, report-fewer held sound is)))
+        ∙ ap (λ (s : Shown). following (reportShown held .text) s) (rest (report-held-sound held sound is) (omega (arith, report-fewer held sound is)))
         ∙ sym (one-reported n held is)
     go false is rest = none-reported (suc (suc n)) held is ∙ sym (none-reported (suc n) held is)
 
 -- a report that waits is the first of all
 pub first-reported : (held : Held) → HeldSound held → waits (held .trace) ≡ true
-    → allReports 258 held ≡ following (reportShown held .text) (allReports 258 (reportShown held .held))
+    → allReports longestFrame held ≡ following (reportShown held .text) (allReports longestFrame (reportShown held .held))
 first-reported held sound is =
-    one-reported 257 held is
+    one-reported (longestFrame - 1) held is
     ∙ ap (λ (s : Shown). following (reportShown held .text) s)
-    (sym (enough 257 (reportShown held .held) (report-stays-sound held sound is) (omega (arith, report-fewer held sound is, kept-258 held sound))))
+    (sym (enough (longestFrame - 1) (reportShown held .held) (report-held-sound held sound is) (omega (arith, report-fewer held sound is, kept-at-most held sound))))

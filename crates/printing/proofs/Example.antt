@@ -5,7 +5,7 @@ use Prim.Native.Nat.{ℕ}
 use Rattle.wire.specs.Room.{over, laidAt, laid}
 use Rattle.check_value.specs.CheckValue.{polynomial, bitStep, bitSteps, byteStep, checkFrom, checkValue}
 use Rattle.frame.specs.Frame.{headerBytes, checkLength, checkBytes, lengthByte, enclosed, framed, frameOf, leastLength, mostData, contentOf, rightCheck}
-use Rattle.frame.specs.Writer.{leastRoom, frameLaid}
+use Rattle.frame.specs.Writer.{frameLaid}
 use Rattle.reading.specs.Place as Place
 use Rattle.reading.specs.Place.{cutShort, afterHeader, behind, look}
 use Rattle.reading.specs.Moves.{isPass, passes, stillClosed, settled, withByte}
@@ -19,7 +19,6 @@ use Rattle.touch.specs.Judge.{goodStep, goodRecord, wrong}
 use Rattle.touch.specs.Find.{found}
 use Rattle.registers.specs.Table.{startRegisters, registerAt, registerRun}
 use Rattle.registers.specs.Touched.{pageOf, isDown, withStatus, isTouchOff, withPlace}
-use Rattle.wire.specs.Addresses.{registerCount, wordCount}
 use Rattle.commands.specs.Outcome as Outcome
 use Rattle.commands.specs.Outcome.{replyTooLong, readRegistersOutcome}
 use Rattle.commands.specs.Reply.{registersReply}
@@ -32,13 +31,13 @@ use Rattle.panel.specs.Inputs.{fedByte}
 use Rattle.panel.specs.Reporting.{lent, acknowledged, accepting, handing, reporting}
 use Rattle.panel.specs.Contacts.{contactOn, contactJudged, contacting, lifting}
 use Rattle.text.specs.Text.{hexDigit, hexByte, decimal, spaced, lined, lineText, writtenText}
-use Rattle.trace.specs.State.{noItem, keptRecords, tableBytes, tableOf, newTrace, isStarted, isOver}
-use Rattle.trace.specs.Items.{bodyLength, mayCome, setupIn, recordPut, recordCounted}
+use Rattle.telling.specs.Memory.{newMemory}
 use Rattle.telling.specs.Lines.{framesText, reportText}
-use Rattle.telling.specs.Events.{touchText, contactTold, liftTold, event}
+use Rattle.telling.specs.Events.{touchText, contactTold, liftTold, event, replyRoom, askedOnce}
+use Rattle.trace.specs.State.{noItem, tableOf, newTrace, isStarted, isOver}
+use Rattle.trace.specs.Items.{bodyLength, mayCome, setupIn, recordPut, recordCounted}
 use Rattle.trace.specs.Events.{startedBy, eventAnswered, eventDone, itemDone, grown, tookByte}
-use Rattle.telling.specs.Events.{replyRoom, askedOnce}
-use Rattle.trace.specs.Output.{allReports, endAnswered, endStarted, endAt, endText, printed, newHeld, traceOutput}
+use Rattle.trace.specs.Output.{allReports, endAnswered, endStarted, endAt, endText, inputText, newHeld, traceOutput}
 
 -- "Input: 00 5A A5 01 00 02 03 20 01 E0"
 abbrev setup : List ℕ
@@ -77,5 +76,5 @@ abbrev page-line : List ℕ
 page-line = 0x45 ∷ 0x20 ∷ 0x30 ∷ 0x30 ∷ 0x30 ∷ 0x30 ∷ 0x0A ∷ []
 
 pub printed-trace : traceOutput (setup ++ touchRecord ++ frame ++ touches) ≡ command-line ++ reply-line ++ touch-line ++ touch-line ++ page-line
-unfolding traceOutput printed newHeld allReports endText endAt endStarted endAnswered askedOnce replyRoom tookByte grown itemDone eventDone eventAnswered startedBy event contactTold liftTold touchText reportText framesText bodyLength mayCome setupIn recordPut recordCounted noItem keptRecords tableBytes tableOf newTrace isStarted isOver lineText writtenText lined spaced hexByte hexDigit decimal started startJudged newPanel noPanel fedByte reporting handing accepting acknowledged lent contacting contactJudged contactOn lifting contactNumber liftNumber touched pressed acting showing catching lifted performance registersReplying replying registersReply readRegistersOutcome replyTooLong Outcome.numberOfOutcome startRegisters registerAt registerRun pageOf isDown withStatus isTouchOff withPlace found Judge.judged wrong goodRecord goodStep firstOf recordsFrom recordOf kindOf stepFields areaAt signed givenByte asked padded withByte settled stillClosed passes isPass look behind afterHeader Place.decidedByCheck cutShort frameLaid rightCheck contentOf mostData leastLength frameOf framed enclosed lengthByte checkBytes checkLength headerBytes checkValue checkFrom byteStep bitSteps bitStep polynomial laid laidAt over
+unfolding traceOutput inputText newHeld newMemory allReports endText endAt endStarted endAnswered askedOnce replyRoom tookByte grown itemDone eventDone eventAnswered startedBy event contactTold liftTold touchText reportText framesText bodyLength mayCome setupIn recordPut recordCounted noItem tableOf newTrace isStarted isOver lineText writtenText lined spaced hexByte hexDigit decimal started startJudged newPanel noPanel fedByte reporting handing accepting acknowledged lent contacting contactJudged contactOn lifting contactNumber liftNumber touched pressed acting showing catching lifted performance registersReplying replying registersReply readRegistersOutcome replyTooLong Outcome.numberOfOutcome startRegisters registerAt registerRun pageOf isDown withStatus isTouchOff withPlace found Judge.judged wrong goodRecord goodStep firstOf recordsFrom recordOf kindOf stepFields areaAt signed givenByte asked padded withByte settled stillClosed passes isPass look behind afterHeader Place.decidedByCheck cutShort frameLaid rightCheck contentOf mostData leastLength frameOf framed enclosed lengthByte checkBytes checkLength headerBytes checkValue checkFrom byteStep bitSteps bitStep polynomial laid laidAt over
 printed-trace = refl

@@ -10,17 +10,17 @@ use lib.Dec.{leb}
 use lib.ListN.{length, take, drop, length-append, take-append-drop}
 use lib.Seq.{drop-append-le}
 use Rattle.wire.specs.Bytes.{Bytes}
+use Rattle.wire.specs.Addresses.{wordCount}
 use Rattle.wire.proofs.Over.{take-over}
 use Rattle.reading.proofs.ByteLists.{bytes-nil, bytes-cons, bytes-append, bytes-drop}
 use Rattle.line.proofs.Truths.{never, or-left, or-right}
-use Rattle.wire.specs.Addresses.{wordCount}
 use Rattle.panel.specs.Start.{newPanel, noPanel}
-use Rattle.trace.specs.declared.Answer.the-variants.{Done}
 use Rattle.telling.specs.Told.{leastText}
-use Rattle.trace.specs.State.{Held, newTrace, tableBytes, waits, lentTo}
+use Rattle.trace.specs.declared.Answer.the-variants.{Done}
+use Rattle.trace.specs.State.{Held, newTrace, tableBytes, waits, lentTo, isLent}
 use Rattle.trace.specs.Steps.{step, Stepping, stepping}
 use Rattle.trace.specs.Output.{endText, Ending, ending, newHeld, traceOutput}
-use Rattle.printing.specs.Feeding.{stepCalled, heldAfter, endCalled, Fed, by-step, by-end, by-stop, Caller, calls}
+use Rattle.printing.specs.Feeding.{stepCalled, heldAfter, endCalled, Fed, by-step, by-end, by-stop, Caller, calls, callsEach}
 use Rattle.printing.proofs.ByTest.{by-test}
 use Rattle.printing.proofs.HeldSound.{HeldSound, new-quiet, new-held-sound}
 use Rattle.printing.proofs.AllReports.{keptBy}
@@ -33,15 +33,15 @@ record CallOnward (held : Held) (chunk rest : List ℕ) (s : Stepping) : Type 0 
   within : s .stepped .used ≤ length chunk
   prints : outputFrom held (chunk ++ rest) ≡ take (s .stepped .count) (s .room) ++ outputFrom (heldAfter s) (drop (s .stepped .used) chunk ++ rest)
   nearer : (waits (held .trace) ≡ true) ⊎ (0 < length chunk)
-      → length (drop (s .stepped .used) chunk) * 259 + keptBy (heldAfter s) < length chunk * 259 + keptBy held
+      → length (drop (s .stepped .used) chunk) * callsEach + keptBy (heldAfter s) < length chunk * callsEach + keptBy held
 
 call-onward : (held : Held) (chunk rest room : List ℕ) → HeldSound held → Bytes chunk → stepCalled held chunk room .stepped .answer ≡ Done
     → CallOnward held chunk rest (stepCalled held chunk room)
 unfolding stepping
 call-onward held chunk rest room sound are =
-    by-test (λ (s : Stepping). s .stepped .answer ≡ Done → CallOnward held chunk rest s) (lentTo (length (held .table)) (length (held .words)) (length room)) _ _
+    by-test (λ (s : Stepping). s .stepped .answer ≡ Done → CallOnward held chunk rest s) (isLent held room) _ _
     (λ lent done.
-    let s = step (held .trace) (held .table) (held .words) chunk in
+    let s = step held chunk in
     let on = step-onward held chunk rest sound are in
     record {
       sound = on .sound;
@@ -94,7 +94,7 @@ new-keeps-none = refl
 call-done : (held : Held) (chunk room : List ℕ) → HeldSound held → leastText ≤ length room → stepCalled held chunk room .stepped .answer ≡ Done
 unfolding stepping lentTo
 call-done held chunk room sound lent =
-    rw (le-leb tableBytes (length (held .table)) (sound .table), eq-eqb (length (held .words)) wordCount (sound .words), le-leb leastText (length room) lent)
+    rw (le-leb tableBytes (length (held .table)) (sound .table), eq-eqb (length (held .memory .words)) wordCount (sound .memory .words), le-leb leastText (length room) lent)
 
 end-done : (held : Held) (room : List ℕ) → HeldSound held → leastText ≤ length room → endCalled held room .ended .answer ≡ Done
 unfolding ending
@@ -131,14 +131,14 @@ module _ (held : Held) (left room text : List ℕ) (k : ℕ) (sound : HeldSound 
       rw whole at fed
 
   step-nearer : (waits (held .trace) ≡ true) ⊎ (0 < length (take (suc k) left))
-      → length (drop (called .stepped .used) left) * 259 + keptBy (heldAfter called) < length left * 259 + keptBy held
+      → length (drop (called .stepped .used) left) * callsEach + keptBy (heldAfter called) < length left * callsEach + keptBy held
   step-nearer some =
       let long : length left ≡ length (take (suc k) left) + length (drop (suc k) left) = ap length (sym whole) ∙ length-append (take (suc k) left) (drop (suc k) left) in
       let behind : length (drop (called .stepped .used) left) ≡ length (drop (called .stepped .used) (take (suc k) left)) + length (drop (suc k) left) =
       ap length left-is ∙ length-append (drop (called .stepped .used) (take (suc k) left)) (drop (suc k) left) in
       omega (arith, on .nearer some)
 
-calls-fed : (caller : Caller) (n : ℕ) (held : Held) (left : List ℕ) → HeldSound held → Bytes left → length left * 259 + keptBy held < n
+calls-fed : (caller : Caller) (n : ℕ) (held : Held) (left : List ℕ) → HeldSound held → Bytes left → length left * callsEach + keptBy held < n
     → Fed held left (calls caller n held left)
 unfolding calls
 calls-fed caller zero held left sound are few = absurd (omega arith)
@@ -159,9 +159,9 @@ calls-fed caller (suc n) held left sound are few =
     some true is going = inl is
     some false is going = inr (some-handed (caller .more held left) left going)
 
--- Every caller's calls are done, and come to the end: 259 for each byte of the input, and one, are enough.
-pub every-caller-feeds : (caller : Caller) (input : List ℕ) → Bytes input → Fed newHeld input (calls caller (suc (length input * 259)) newHeld input)
-every-caller-feeds caller input are = calls-fed caller (suc (length input * 259)) newHeld input new-held-sound are (omega (arith, new-keeps-none))
+-- Every caller's calls are done, and come to the end: `callsEach` for each byte of the input, and one, are enough.
+pub every-caller-feeds : (caller : Caller) (input : List ℕ) → Bytes input → Fed newHeld input (calls caller (suc (length input * callsEach)) newHeld input)
+every-caller-feeds caller input are = calls-fed caller (suc (length input * callsEach)) newHeld input new-held-sound are (omega (arith, new-keeps-none))
 
-pub every-caller-prints : (caller : Caller) (input : List ℕ) → Bytes input → calls caller (suc (length input * 259)) newHeld input ≡ traceOutput input
-every-caller-prints caller input are = feeding-prints input (calls caller (suc (length input * 259)) newHeld input) are (every-caller-feeds caller input are)
+pub every-caller-prints : (caller : Caller) (input : List ℕ) → Bytes input → calls caller (suc (length input * callsEach)) newHeld input ≡ traceOutput input
+every-caller-prints caller input are = feeding-prints input (calls caller (suc (length input * callsEach)) newHeld input) are (every-caller-feeds caller input are)

@@ -9,11 +9,12 @@ use lib.Dec.{eqb, ltb, leb}
 use lib.ListN.{length, drop, set, replicate, length-set, length-replicate, length-drop}
 use Rattle.wire.specs.Bytes.{Bytes}
 use Rattle.wire.specs.ByteOrder.{byteAt, wordAt}
+use Rattle.wire.specs.Addresses.{wordCount}
 use Rattle.wire.proofs.LaidAt.{length-laidAt}
 use Rattle.frame.specs.Frame.{headerBytes}
 use Rattle.reading.specs.Place.{look, behind, cutShort}
 use Rattle.line.proofs.Truths.{never, and-left}
-use Rattle.wire.specs.Addresses.{wordCount}
+use Rattle.touch.specs.Table.{recordBytes}
 use Rattle.panel.specs.declared.Panel.{Panel}
 use Rattle.panel.specs.declared.Start.{Start}
 use Rattle.panel.specs.declared.StartAnswer.{StartAnswer}
@@ -23,20 +24,20 @@ use Rattle.panel.specs.Inputs.{fedBytes}
 use Rattle.panel.specs.Sound.{Sound}
 use Rattle.panel.proofs.Soundness.{byte-sound, mark-sound, bytes-sound, report-sound, contact-sound, lift-sound}
 use Rattle.panel.proofs.Invariant.{started-sound}
-use Rattle.trace.specs.declared.Trace.{Trace}
+use Rattle.telling.specs.Memory.{Memory, newMemory, Whole}
 use Rattle.telling.specs.Told.{Told, tells}
-use Rattle.trace.specs.State.{Held, holds, Shown, showsTold, noItem, keptRecords, tableBytes, tableOf, newTrace, idle, withPanel, stopped, waits, isStarted, isOver}
+use Rattle.telling.specs.Events.{contactTold, liftTold, event, itemBytes, replyRoom, askedOnce}
+use Rattle.trace.specs.declared.Trace.{Trace}
+use Rattle.trace.specs.State.{Held, Shown, showsTold, withTrace, metTable, noItem, keptRecords, tableBytes, newTrace, idle, withPanel, stopped, waits, isStarted, isOver}
 use Rattle.trace.specs.Items.{bodyLength, mayCome, recordPut}
-use Rattle.telling.specs.Events.{contactTold, liftTold, event}
-use Rattle.trace.specs.Events.{startedBy, eventAnswered, eventDone, itemDone, grown, tookByte}
-use Rattle.telling.specs.Events.{replyRoom, askedOnce}
+use Rattle.trace.specs.Events.{startedBy, eventAnswered, eventDone, itemDone, grown, tookByte, reportShown}
 use Rattle.trace.specs.Output.{newHeld}
 use Rattle.printing.proofs.ByTest.{by-test}
 use Rattle.printing.proofs.WordLengths.{reported-words, contacted-words}
 
--- an item is gathered in 33 bytes, all 0 between two items
+-- an item is gathered in the bytes of the longest, all 0 between two items
 pub record ItemSound (trace : Trace) : Type 0 where
-  pub long : length (trace .item) ≡ 33
+  pub long : length (trace .item) ≡ itemBytes
   pub are-bytes : Bytes (trace .item)
   pub none : trace .have ≡ 0 → trace .item ≡ noItem
 
@@ -48,7 +49,7 @@ pub record HeldSound (held : Held) : Type 0 where
   pub over : isOver (held .trace .stage) ≡ true → held .trace .have ≡ 0
   pub item : ItemSound (held .trace)
   pub table : tableBytes ≤ length (held .table)
-  pub words : length (held .words) ≡ wordCount
+  pub memory : Whole (held .memory)
 
 bytes-zeros : (n : ℕ) → Bytes (replicate n 0)
 bytes-zeros zero i = omega arith
@@ -64,13 +65,17 @@ bytes-set (x ∷ xs) (suc k) b byte are (suc i) = bytes-set xs k b byte (λ j. a
 
 no-item-sound : (trace : Trace) → ItemSound (idle trace)
 unfolding noItem
-no-item-sound trace = record { long = length-replicate {A = ℕ} 33 0; are-bytes = bytes-zeros 33; none = λ zero. refl }
+no-item-sound trace = record { long = length-replicate {A = ℕ} itemBytes 0; are-bytes = bytes-zeros itemBytes; none = λ zero. refl }
 
 -- ---- A new trace
 
 pub new-quiet : waits newTrace ≡ false
 unfolding newTrace noPanel newPanel look behind cutShort headerBytes
 new-quiet = refl
+
+new-whole : Whole newMemory
+unfolding newMemory
+new-whole = record { words = length-replicate {A = ℕ} wordCount 0 }
 
 pub new-held-sound : HeldSound newHeld
 unfolding newHeld newTrace isStarted isOver
@@ -81,31 +86,39 @@ new-held-sound =
       over = λ is. never (cc);
       item = no-item-sound newTrace;
       table = omega (arith, length-replicate {A = ℕ} tableBytes 0);
-      words = length-replicate {A = ℕ} wordCount 0;
+      memory = new-whole;
     }
 
 -- ---- An event and a report, of the panel
 
 record ToldSound (told : Told) : Type 0 where
   panel : Sound (told .panel)
-  words : length (told .words) ≡ wordCount
+  memory : Whole (told .memory)
 
-event-sound : (panel : Panel) (table words item : List ℕ) → Sound panel → length words ≡ wordCount → Bytes item → ToldSound (event panel table words item)
-unfolding event contactTold liftTold
-event-sound panel table words item sound long are =
-    by-test ToldSound (eqb (byteAt item 0) 1) _ _ (λ is. record { panel = byte-sound panel sound (byteAt item 1) (are 1); words = long })
-    (λ not-1. by-test ToldSound (eqb (byteAt item 0) 2) _ _ (λ is. record { panel = mark-sound panel sound; words = long })
-    (λ not-2. by-test ToldSound (eqb (byteAt item 0) 3) _ _
-    (λ is. record {
-      panel = contact-sound panel sound table words (wordAt item 1) (wordAt item 3);
-      words = contacted-words panel table words (wordAt item 1) (wordAt item 3) ∙ long;
-    })
-    (λ not-3. record { panel = lift-sound panel sound; words = long })))
+contact-told-sound : (panel : Panel) (table : List ℕ) (memory : Memory) (x y : ℕ) → Sound panel → Whole memory → ToldSound (contactTold panel table memory x y)
+unfolding contactTold
+contact-told-sound panel table memory x y sound whole =
+    record {
+      panel = contact-sound panel sound table (memory .words) x y;
+      memory = record { words = contacted-words panel table (memory .words) x y ∙ whole .words };
+    }
 
-asked-sound : (panel : Panel) (words : List ℕ) → Sound panel → length words ≡ wordCount → ToldSound (askedOnce panel words)
+event-sound : (panel : Panel) (table : List ℕ) (memory : Memory) (item : List ℕ) → Sound panel → Whole memory → Bytes item
+    → ToldSound (event panel table memory item)
+unfolding event liftTold
+event-sound panel table memory item sound whole are =
+    by-test ToldSound (eqb (byteAt item 0) 1) _ _ (λ is. record { panel = byte-sound panel sound (byteAt item 1) (are 1); memory = whole })
+    (λ not-1. by-test ToldSound (eqb (byteAt item 0) 2) _ _ (λ is. record { panel = mark-sound panel sound; memory = whole })
+    (λ not-2. by-test ToldSound (eqb (byteAt item 0) 3) _ _ (λ is. contact-told-sound panel table memory (wordAt item 1) (wordAt item 3) sound whole)
+    (λ not-3. record { panel = lift-sound panel sound; memory = whole })))
+
+asked-sound : (panel : Panel) (memory : Memory) → Sound panel → Whole memory → ToldSound (askedOnce panel memory)
 unfolding askedOnce
-asked-sound panel words sound long =
-    record { panel = report-sound panel sound words replyRoom; words = reported-words panel words replyRoom ∙ long }
+asked-sound panel memory sound whole =
+    record {
+      panel = report-sound panel sound (memory .words) replyRoom;
+      memory = record { words = reported-words panel (memory .words) replyRoom ∙ whole .words };
+    }
 
 -- a panel that a start gave is sound
 begun-sound : (trace : Trace) (part : List ℕ) → (isStarted (trace .stage) ≡ true → Sound (trace .panel)) → startedBy trace part .answer ≡ start.Started
@@ -117,8 +130,8 @@ begun-sound trace part sound =
 
 -- ---- The trace with one thing changed
 
-module _ (trace : Trace) (table words : List ℕ) (item : ItemSound trace) (lent : tableBytes ≤ length table) where
-  told-sound : (told : Told) → ToldSound told → HeldSound (showsTold trace table told .held)
+module _ (held : Held) (item : ItemSound (held .trace)) (lent : tableBytes ≤ length (held .table)) where
+  told-sound : (told : Told) → ToldSound told → HeldSound (showsTold held told .held)
   unfolding isStarted isOver
   told-sound told sound =
       record {
@@ -127,54 +140,53 @@ module _ (trace : Trace) (table words : List ℕ) (item : ItemSound trace) (lent
         over = λ is. never (cc);
         item = record { long = item .long; are-bytes = item .are-bytes; none = item .none };
         table = lent;
-        words = sound .words;
+        memory = sound .memory;
       }
 
-  module _ (long : length words ≡ wordCount) (none-waits : waits trace ≡ false) (whole : trace .have ≡ 0) where
-    stopped-sound : HeldSound (holds (stopped trace) table words)
+  module _ (whole : Whole (held .memory)) (none-waits : waits (held .trace) ≡ false) (between : held .trace .have ≡ 0) where
+    stopped-sound : HeldSound (withTrace held (stopped (held .trace)))
     unfolding isStarted
     stopped-sound =
         record {
           panel = λ is. never (cc);
           quiet = λ is. none-waits;
-          over = λ is. whole;
+          over = λ is. between;
           item = record { long = item .long; are-bytes = item .are-bytes; none = item .none };
           table = lent;
-          words = long;
+          memory = whole;
         }
 
-    module _ (sound : isStarted (trace .stage) ≡ true → Sound (trace .panel)) where
+    module _ (sound : isStarted (held .trace .stage) ≡ true → Sound (held .trace .panel)) where
       answered-sound : (answer : StartAnswer) (panel : Panel) (gathered : List ℕ) → Bytes gathered → (answer ≡ start.Started → Sound panel)
-          → HeldSound (eventAnswered answer panel trace table words gathered .held)
+          → HeldSound (eventAnswered answer panel held gathered .held)
       unfolding eventAnswered
       answered-sound start.Started panel gathered are begun =
-          told-sound (event panel (tableOf (trace .records) table) words gathered)
-          (event-sound panel (tableOf (trace .records) table) words gathered (begun refl) long are)
+          told-sound (event panel (metTable held) (held .memory) gathered) (event-sound panel (metTable held) (held .memory) gathered (begun refl) whole are)
       answered-sound start.WrongSetup panel gathered are begun = stopped-sound
       answered-sound start.NotRecords panel gathered are begun = stopped-sound
       answered-sound (start.WrongRecord i) panel gathered are begun = stopped-sound
 
-      event-done-sound : (gathered : List ℕ) → Bytes gathered → HeldSound (eventDone trace table words gathered .held)
+      event-done-sound : (gathered : List ℕ) → Bytes gathered → HeldSound (eventDone held gathered .held)
       unfolding eventDone
       event-done-sound gathered are =
-          let part = tableOf (trace .records) table in
-          answered-sound (startedBy trace part .answer) (startedBy trace part .panel) gathered are (begun-sound trace part sound)
+          let begun = startedBy (held .trace) (metTable held) in
+          answered-sound (begun .answer) (begun .panel) gathered are (begun-sound (held .trace) (metTable held) sound)
 
-put-table : (records : ℕ) (gathered table : List ℕ) → length gathered ≡ 33 → tableBytes ≤ length table → tableBytes ≤ length (recordPut records gathered table)
-unfolding recordPut tableBytes keptRecords
+put-table : (records : ℕ) (gathered table : List ℕ) → length gathered ≡ itemBytes → tableBytes ≤ length table → tableBytes ≤ length (recordPut records gathered table)
+unfolding recordPut
 put-table records gathered table long lent =
-    by-test (λ (l : List ℕ). 4128 ≤ length l) (ltb records 129) _ _
+    by-test (λ (l : List ℕ). tableBytes ≤ length l) (ltb records keptRecords) _ _
     (λ more.
-    let fits : records * 32 + length (drop 1 gathered) ≤ length table = simp length-drop (omega (arith, ltb-true records 129 more)) in
-    omega (arith, length-laidAt table (drop 1 gathered) (records * 32) fits))
+    let fits : records * recordBytes + length (drop 1 gathered) ≤ length table = simp length-drop (omega (arith, ltb-true records keptRecords more)) in
+    omega (arith, length-laidAt table (drop 1 gathered) (records * recordBytes) fits))
     (λ full. lent)
 
 -- ---- One byte
 
-item-sound : (trace : Trace) (table words gathered : List ℕ) → HeldSound (holds trace table words) → waits trace ≡ false → trace .have ≡ 0 → length gathered ≡ 33 → Bytes gathered
-    → HeldSound (itemDone trace table words gathered .held)
+item-sound : (held : Held) (gathered : List ℕ) → HeldSound held → waits (held .trace) ≡ false → held .trace .have ≡ 0 → length gathered ≡ itemBytes → Bytes gathered
+    → HeldSound (itemDone held gathered .held)
 unfolding itemDone isStarted isOver
-item-sound trace table words gathered sound none-waits whole long are =
+item-sound held gathered sound none-waits between long are =
     by-test (λ (s : Shown). HeldSound (s .held)) (eqb (byteAt gathered 0) 0) _ _
     (λ is. record {
       panel = λ no. never (cc);
@@ -182,7 +194,7 @@ item-sound trace table words gathered sound none-waits whole long are =
       over = λ no. never (cc);
       item = record { long = sound .item .long; are-bytes = sound .item .are-bytes; none = sound .item .none };
       table = sound .table;
-      words = sound .words;
+      memory = sound .memory;
     })
     (λ not-0. by-test (λ (s : Shown). HeldSound (s .held)) (eqb (byteAt gathered 0) 5) _ _
     (λ is. record {
@@ -190,57 +202,59 @@ item-sound trace table words gathered sound none-waits whole long are =
       quiet = sound .quiet;
       over = sound .over;
       item = record { long = sound .item .long; are-bytes = sound .item .are-bytes; none = sound .item .none };
-      table = put-table (trace .records) gathered table long (sound .table);
-      words = sound .words;
+      table = put-table (held .trace .records) gathered (held .table) long (sound .table);
+      memory = sound .memory;
     })
-    (λ not-5. event-done-sound trace table words (sound .item) (sound .table) (sound .words) none-waits whole (sound .panel) gathered are))
+    (λ not-5. event-done-sound held (sound .item) (sound .table) (sound .memory) none-waits between (sound .panel) gathered are))
 
-module _ (trace : Trace) (table words : List ℕ) (b : ℕ) (byte : b < 256) (sound : HeldSound (holds trace table words)) (none-waits : waits trace ≡ false) where
-  grown-sound : isOver (trace .stage) ≡ false → HeldSound (grown trace table words b .held)
+module _ (held : Held) (b : ℕ) (byte : b < 256) (sound : HeldSound held) (none-waits : waits (held .trace) ≡ false) where
+  grown-sound : isOver (held .trace .stage) ≡ false → HeldSound (grown held b .held)
   unfolding grown
   grown-sound going =
+      let trace = held .trace in
       let gathered = set (trace .item) (trace .have) b in
-      let long : length gathered ≡ 33 = length-set (trace .item) (trace .have) b ∙ sound .item .long in
+      let long : length gathered ≡ itemBytes = length-set (trace .item) (trace .have) b ∙ sound .item .long in
       let are : Bytes gathered = bytes-set (trace .item) (trace .have) b byte (sound .item .are-bytes) in
       by-test (λ (s : Shown). HeldSound (s .held)) (leb (bodyLength (byteAt gathered 0)) (trace .have)) _ _
-      (λ whole. item-sound (idle trace) table words gathered
-      (record { panel = sound .panel; quiet = sound .quiet; over = λ is. refl; item = no-item-sound trace; table = sound .table; words = sound .words }) none-waits refl long are)
+      (λ whole. item-sound (withTrace held (idle trace)) gathered
+      (record { panel = sound .panel; quiet = sound .quiet; over = λ is. refl; item = no-item-sound trace; table = sound .table; memory = sound .memory }) none-waits refl long are)
       (λ more. record {
         panel = sound .panel;
         quiet = sound .quiet;
         over = λ is. (let z : _≡_ {A = Bool} true false = sym is ∙ going in never (cc));
         item = record { long = long; are-bytes = are; none = λ is. absurd (omega arith) };
         table = sound .table;
-        words = sound .words;
+        memory = sound .memory;
       })
 
-  pub byte-held-sound : HeldSound (tookByte trace table words b .held)
+  pub byte-held-sound : HeldSound (tookByte held b .held)
   unfolding tookByte
   byte-held-sound =
-      by-test (λ (s : Shown). HeldSound (s .held)) (isOver (trace .stage)) _ _ (λ over. sound)
-      (λ going. by-test (λ (s : Shown). HeldSound (s .held)) (eqb (trace .have) 0 && not (mayCome (trace .stage) b)) _ _
-      (λ wrong. stopped-sound trace table words (sound .item) (sound .table) (sound .words) none-waits
-      (eqb-true (trace .have) 0 (and-left (eqb (trace .have) 0) (not (mayCome (trace .stage) b)) wrong)))
+      let none = eqb (held .trace .have) 0 in
+      let other = not (mayCome (held .trace .stage) b) in
+      by-test (λ (s : Shown). HeldSound (s .held)) (isOver (held .trace .stage)) _ _ (λ over. sound)
+      (λ going. by-test (λ (s : Shown). HeldSound (s .held)) (none && other) _ _
+      (λ wrong. stopped-sound held (sound .item) (sound .table) (sound .memory) none-waits (eqb-true (held .trace .have) 0 (and-left none other wrong)))
       (λ right. grown-sound going))
 
 -- ---- A report, and a run
 
-module _ (trace : Trace) (table words : List ℕ) (sound : HeldSound (holds trace table words)) where
+module _ (held : Held) (sound : HeldSound held) where
   -- a report waits only in a panel that is started
-  pub waits-started : waits trace ≡ true → isStarted (trace .stage) ≡ true
-  waits-started is = go (isStarted (trace .stage)) refl
+  pub waits-started : waits (held .trace) ≡ true → isStarted (held .trace .stage) ≡ true
+  waits-started is = go (isStarted (held .trace .stage)) refl
     where
-      go : (b : Bool) → isStarted (trace .stage) ≡ b → b ≡ true
+      go : (b : Bool) → isStarted (held .trace .stage) ≡ b → b ≡ true
       go true so = refl
       go false so = let z : _≡_ {A = Bool} true false = sym is ∙ sound .quiet so in never (cc)
 
-  pub report-held-sound : waits trace ≡ true → HeldSound (showsTold trace table (askedOnce (trace .panel) words) .held)
+  pub report-held-sound : waits (held .trace) ≡ true → HeldSound (reportShown held .held)
   report-held-sound is =
-      told-sound trace table words (sound .item) (sound .table) (askedOnce (trace .panel) words)
-      (asked-sound (trace .panel) words (sound .panel (waits-started is)) (sound .words))
+      told-sound held (sound .item) (sound .table) (askedOnce (held .trace .panel) (held .memory))
+      (asked-sound (held .trace .panel) (held .memory) (sound .panel (waits-started is)) (sound .memory))
 
-  pub run-held-sound : (bytes : List ℕ) → isStarted (trace .stage) ≡ true → Bytes bytes
-      → HeldSound (holds (withPanel trace (fedBytes (trace .panel) bytes .panel)) table words)
+  pub run-held-sound : (bytes : List ℕ) → isStarted (held .trace .stage) ≡ true → Bytes bytes
+      → HeldSound (withTrace held (withPanel (held .trace) (fedBytes (held .trace .panel) bytes .panel)))
   run-held-sound bytes is are =
-      told-sound trace table words (sound .item) (sound .table) (tells (fedBytes (trace .panel) bytes .panel) words [])
-      (record { panel = bytes-sound (trace .panel) (sound .panel is) bytes are; words = sound .words })
+      told-sound held (sound .item) (sound .table) (tells (fedBytes (held .trace .panel) bytes .panel) (held .memory) [])
+      (record { panel = bytes-sound (held .trace .panel) (sound .panel is) bytes are; memory = sound .memory })

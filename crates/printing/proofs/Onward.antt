@@ -9,19 +9,22 @@ use borrow.Author.Tests.{eqb-true, eqb-false}
 use lib.Dec.{eqb}
 use lib.ListN.{length, drop, length-drop}
 use Rattle.wire.specs.Bytes.{Bytes}
+use Rattle.frame.specs.Frame.{longestFrame}
 use Rattle.reading.proofs.ByteLists.{bytes-nil, bytes-cons}
 use Rattle.line.specs.Methods.{busy, givenBytes}
 use Rattle.line.proofs.Truths.{never, and-left, and-right}
 use Rattle.panel.specs.declared.Panel.{Panel}
 use Rattle.panel.specs.Inputs.{fedByte, fedBytes}
+use Rattle.telling.specs.Memory.{Memory}
 use Rattle.trace.specs.declared.Stage.{Stage}
 use Rattle.trace.specs.declared.Stage.the-variants.{Bare, Ready, Started, Over}
 use Rattle.trace.specs.declared.Trace.{Trace}
-use Rattle.trace.specs.State.{Held, holds, shows, noItem, withPanel, waits, isStarted}
+use Rattle.trace.specs.State.{Held, holds, shows, noItem, withPanel, withTrace, waits, isStarted}
 use Rattle.trace.specs.Steps.{lineRun, Step, takes, ranBytes, tookOne, longestRun, tookLines, tookInput, step}
+use Rattle.printing.specs.Feeding.{callsEach}
 use Rattle.printing.proofs.ByTest.{by-test}
-use Rattle.printing.proofs.HeldSound.{HeldSound, byte-held-sound, run-held-sound}
-use Rattle.printing.proofs.AllReports.{keptBy, report-fewer, report-stays-sound, kept-258}
+use Rattle.printing.proofs.HeldSound.{HeldSound, byte-held-sound, report-held-sound, run-held-sound}
+use Rattle.printing.proofs.AllReports.{keptBy, report-fewer, kept-at-most}
 use Rattle.printing.proofs.Outputs.{outputFrom, report-output, byte-output, fed-none, fed-more, between, run-output}
 
 -- a step leaves what is sound, what is printed before it is its text and what is printed behind it, and one that has something to do comes nearer to the end
@@ -30,10 +33,10 @@ pub record Onward (held : Held) (chunk rest : List ℕ) (s : Step) : Type 0 wher
   pub within : s .used ≤ length chunk
   pub prints : outputFrom held (chunk ++ rest) ≡ s .shown .text ++ outputFrom (s .shown .held) (drop (s .used) chunk ++ rest)
   pub nearer : (waits (held .trace) ≡ true) ⊎ (0 < length chunk)
-      → length (drop (s .used) chunk) * 259 + keptBy (s .shown .held) < length chunk * 259 + keptBy held
+      → length (drop (s .used) chunk) * callsEach + keptBy (s .shown .held) < length chunk * callsEach + keptBy held
 
 one-onward : (held : Held) (chunk rest : List ℕ) → HeldSound held → Bytes chunk → waits (held .trace) ≡ false
-    → Onward held chunk rest (tookOne (held .trace) (held .table) (held .words) chunk)
+    → Onward held chunk rest (tookOne held chunk)
 unfolding tookOne
 one-onward held [] rest sound are quiet = record { sound = sound; within = omega arith; prints = refl; nearer = some }
   where
@@ -41,8 +44,8 @@ one-onward held [] rest sound are quiet = record { sound = sound; within = omega
     some (inl is) = let z : _≡_ {A = Bool} true false = sym is ∙ quiet in never (cc)
     some (inr less) = absurd (omega arith)
 one-onward held (b ∷ chunk) rest sound are quiet =
-    let next = byte-held-sound (held .trace) (held .table) (held .words) b (are 0) sound quiet in
-    record { sound = next; within = omega arith; prints = byte-output held b (chunk ++ rest) quiet; nearer = λ some. omega (arith, kept-258 _ next) }
+    let next = byte-held-sound held b (are 0) sound quiet in
+    record { sound = next; within = omega arith; prints = byte-output held b (chunk ++ rest) quiet; nearer = λ some. omega (arith, kept-at-most _ next) }
 
 -- a run is given one byte at least
 some-used : (panel : Panel) (bytes : List ℕ) → busy (panel .reader) ≡ false → (length bytes ≡ 0 → ⊥) → 1 ≤ fedBytes panel bytes .used
@@ -89,7 +92,7 @@ started-is Ready is = never (cc)
 started-is Started is = refl
 started-is Over is = never (cc)
 
-module _ (trace : Trace) (table words : List ℕ) (is-started : isStarted (trace .stage) ≡ true) (is-none : trace .have ≡ 0) (is-item : trace .item ≡ noItem) where
+module _ (trace : Trace) (table : List ℕ) (memory : Memory) (is-started : isStarted (trace .stage) ≡ true) (is-none : trace .have ≡ 0) (is-item : trace .item ≡ noItem) where
   with-panel-is : (panel : Panel) → withPanel trace panel ≡ between (trace .setup) (trace .records) panel
   with-panel-is panel = rw (is-none, is-item)
 
@@ -99,39 +102,39 @@ module _ (trace : Trace) (table words : List ℕ) (is-started : isStarted (trace
       (started-is (trace .stage) is-started)
       ∙ with-panel-is (trace .panel)
 
-  ran-output : (n : ℕ) (chunk rest : List ℕ) → outputFrom (holds trace table words) (chunk ++ rest)
-      ≡ outputFrom (holds (withPanel trace (fedBytes (trace .panel) (lineRun n chunk) .panel)) table words)
+  ran-output : (n : ℕ) (chunk rest : List ℕ) → outputFrom (holds trace table memory) (chunk ++ rest)
+      ≡ outputFrom (holds (withPanel trace (fedBytes (trace .panel) (lineRun n chunk) .panel)) table memory)
       (drop (fedBytes (trace .panel) (lineRun n chunk) .used * 2) chunk ++ rest)
   ran-output n chunk rest =
       let fed = fedBytes (trace .panel) (lineRun n chunk) in
-      ap (λ (t : Trace). outputFrom (holds t table words) (chunk ++ rest)) trace-is
-      ∙ run-output (trace .setup) (trace .records) table words rest n (trace .panel) chunk
-      ∙ ap (λ (t : Trace). outputFrom (holds t table words) (drop (fed .used * 2) chunk ++ rest)) (sym (with-panel-is (fed .panel)))
+      ap (λ (t : Trace). outputFrom (holds t table memory) (chunk ++ rest)) trace-is
+      ∙ run-output (trace .setup) (trace .records) table memory rest n (trace .panel) chunk
+      ∙ ap (λ (t : Trace). outputFrom (holds t table memory) (drop (fed .used * 2) chunk ++ rest)) (sym (with-panel-is (fed .panel)))
 
 run-onward : (held : Held) (chunk rest : List ℕ) (n : ℕ) → HeldSound held → Bytes chunk → waits (held .trace) ≡ false → isStarted (held .trace .stage) ≡ true
     → held .trace .have ≡ 0 → (length (lineRun n chunk) ≡ 0 → ⊥)
     → Onward held chunk rest
-    (takes (ranBytes (held .trace) (lineRun n chunk) .used) (shows (ranBytes (held .trace) (lineRun n chunk) .trace) (held .table) (held .words) []))
+    (takes (ranBytes (held .trace) (lineRun n chunk) .used) (shows (withTrace held (ranBytes (held .trace) (lineRun n chunk) .trace)) []))
 unfolding ranBytes
 run-onward held chunk rest n sound are quiet is-started is-none some =
-    let next = run-held-sound (held .trace) (held .table) (held .words) sound (lineRun n chunk) is-started (bytes-run n chunk are) in
+    let next = run-held-sound held sound (lineRun n chunk) is-started (bytes-run n chunk are) in
     record {
       sound = next;
       within = run-within (held .trace .panel) n chunk;
-      prints = ran-output (held .trace) (held .table) (held .words) is-started is-none (sound .item .none is-none) n chunk rest;
-      nearer = λ more. nearer more (kept-258 _ next) (some-used (held .trace .panel) (lineRun n chunk) quiet some);
+      prints = ran-output (held .trace) (held .table) (held .memory) is-started is-none (sound .item .none is-none) n chunk rest;
+      nearer = λ more. nearer more (kept-at-most _ next) (some-used (held .trace .panel) (lineRun n chunk) quiet some);
     }
   where
-    nearer : (waits (held .trace) ≡ true) ⊎ (0 < length chunk) → {k u : ℕ} → k ≤ 258 → 1 ≤ u → length (drop (u * 2) chunk) * 259 + k < length chunk * 259 + keptBy held
+    nearer : (waits (held .trace) ≡ true) ⊎ (0 < length chunk) → {k u : ℕ} → k ≤ longestFrame → 1 ≤ u → length (drop (u * 2) chunk) * callsEach + k < length chunk * callsEach + keptBy held
     nearer (inl is) few used = let z : _≡_ {A = Bool} true false = sym is ∙ quiet in never (cc)
     nearer (inr long) few used = simp length-drop (omega arith)
 
-pub step-onward : (held : Held) (chunk rest : List ℕ) → HeldSound held → Bytes chunk → Onward held chunk rest (step (held .trace) (held .table) (held .words) chunk)
+pub step-onward : (held : Held) (chunk rest : List ℕ) → HeldSound held → Bytes chunk → Onward held chunk rest (step held chunk)
 unfolding step tookInput tookLines
 step-onward held chunk rest sound are =
     by-test (Onward held chunk rest) (waits (held .trace)) _ _
     (λ is. record {
-      sound = report-stays-sound held sound is;
+      sound = report-held-sound held sound is;
       within = omega arith;
       prints = report-output held (chunk ++ rest) sound is;
       nearer = λ some. omega (arith, report-fewer held sound is);

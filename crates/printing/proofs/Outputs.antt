@@ -7,45 +7,47 @@ use native.Mathlib.Omega.{arith}
 use borrow.Author.Tests.{eqb-true, eq-eqb}
 use lib.Dec.{eqb}
 use lib.ListN.{drop, set}
+use Rattle.frame.specs.Frame.{longestFrame}
 use Rattle.line.specs.Methods.{busy, givenBytes}
 use Rattle.line.proofs.Truths.{never}
 use Rattle.touch.specs.declared.Setup.{Setup}
 use Rattle.panel.specs.declared.Panel.{Panel}
 use Rattle.panel.specs.declared.FedBytes.{FedBytes}
 use Rattle.panel.specs.Inputs.{fedByte, fedBytes}
+use Rattle.telling.specs.Events.{event}
+use Rattle.telling.specs.Memory.{Memory}
 use Rattle.trace.specs.declared.Stage.{Stage}
 use Rattle.trace.specs.declared.Stage.the-variants.{Bare, Ready, Started, Over}
 use Rattle.trace.specs.declared.Trace.{Trace}
-use Rattle.trace.specs.State.{Held, holds, Shown, noItem, gathering, waits, isStarted, isOver}
+use Rattle.trace.specs.State.{Held, holds, Shown, shows, noItem, gathering, waits, isStarted, isOver}
 use Rattle.trace.specs.Items.{bodyLength, mayCome}
-use Rattle.telling.specs.Events.{event}
-use Rattle.trace.specs.Events.{startedBy, eventAnswered, eventDone, itemDone, grown, tookByte}
+use Rattle.trace.specs.Events.{startedBy, eventAnswered, eventDone, itemDone, grown, tookByte, reportShown}
 use Rattle.trace.specs.Steps.{lineRun}
-use Rattle.trace.specs.Output.{allReports, endAt, endText, printed}
+use Rattle.trace.specs.Output.{allReports, endAt, endText, inputText}
 use Rattle.printing.proofs.HeldSound.{HeldSound}
-use Rattle.printing.proofs.AllReports.{reportShown, none-reported, first-reported}
+use Rattle.printing.proofs.AllReports.{none-reported, first-reported}
 
 -- the reports that wait, and then what the input prints
 unfoldable pub outputFrom : Held → List ℕ → List ℕ
-outputFrom held input = allReports 258 held .text ++ printed (allReports 258 held .held) input
+outputFrom held input = allReports longestFrame held .text ++ inputText (allReports longestFrame held .held) input
 
-pub quiet-output : (held : Held) (input : List ℕ) → waits (held .trace) ≡ false → outputFrom held input ≡ printed held input
+pub quiet-output : (held : Held) (input : List ℕ) → waits (held .trace) ≡ false → outputFrom held input ≡ inputText held input
 unfolding outputFrom
-quiet-output held input quiet = ap (λ (s : Shown). s .text ++ printed (s .held) input) (none-reported 258 held quiet)
+quiet-output held input quiet = ap (λ (s : Shown). s .text ++ inputText (s .held) input) (none-reported longestFrame held quiet)
 
 pub report-output : (held : Held) (input : List ℕ) → HeldSound held → waits (held .trace) ≡ true
     → outputFrom held input ≡ reportShown held .text ++ outputFrom (reportShown held .held) input
 unfolding outputFrom
 report-output held input sound is =
-    let later = allReports 258 (reportShown held .held) in
-    ap (λ (s : Shown). s .text ++ printed (s .held) input) (first-reported held sound is)
-    ∙ append-assoc (reportShown held .text) (later .text) (printed (later .held) input)
+    let later = allReports longestFrame (reportShown held .held) in
+    ap (λ (s : Shown). s .text ++ inputText (s .held) input) (first-reported held sound is)
+    ∙ append-assoc (reportShown held .text) (later .text) (inputText (later .held) input)
 
 pub byte-output : (held : Held) (b : ℕ) (input : List ℕ) → waits (held .trace) ≡ false
     → outputFrom held (b ∷ input)
-    ≡ tookByte (held .trace) (held .table) (held .words) b .text ++ outputFrom (tookByte (held .trace) (held .table) (held .words) b .held) input
-unfolding outputFrom printed
-byte-output held b input quiet = ap (λ (s : Shown). s .text ++ printed (s .held) (b ∷ input)) (none-reported 258 held quiet)
+    ≡ tookByte held b .text ++ outputFrom (tookByte held b .held) input
+unfolding outputFrom inputText
+byte-output held b input quiet = ap (λ (s : Shown). s .text ++ inputText (s .held) (b ∷ input)) (none-reported longestFrame held quiet)
 
 -- ---- After an X
 
@@ -65,13 +67,12 @@ unfolding endText endAt
 over-ends held sound is =
     rw (eq-eqb (held .trace .have) 0 (sound .over is)) (ap (λ (stage : Stage). endAt stage (held .trace) (held .table)) (over-is (held .trace .stage) is))
 
-over-takes : (held : Held) (b : ℕ) → isOver (held .trace .stage) ≡ true
-    → tookByte (held .trace) (held .table) (held .words) b ≡ record { held = held; text = [] }
+over-takes : (held : Held) (b : ℕ) → isOver (held .trace .stage) ≡ true → tookByte held b ≡ shows held []
 unfolding tookByte
 over-takes held b is = rw is
 
 pub end-output : (held : Held) → waits (held .trace) ≡ false → outputFrom held [] ≡ endText (held .trace) (held .table)
-unfolding printed
+unfolding inputText
 end-output held quiet = quiet-output held [] quiet
 
 -- "and the program stops"
@@ -97,18 +98,18 @@ fed-more panel b bytes is = rw is
 abbrev pub between : Setup → ℕ → Panel → Trace
 between setup records panel = record { stage = Started; item = noItem; have = 0; setup = setup; records = records; panel = panel }
 
-module _ (setup : Setup) (records : ℕ) (table words : List ℕ) where
+module _ (setup : Setup) (records : ℕ) (table : List ℕ) (memory : Memory) where
   abbrev pub lined : Panel → Held
-  lined panel = holds (between setup records panel) table words
+  lined panel = holds (between setup records panel) table memory
 
   abbrev kindTaken : Panel → Held
-  kindTaken panel = holds (gathering (between setup records panel) (set noItem 0 1) 1) table words
+  kindTaken panel = holds (gathering (between setup records panel) (set noItem 0 1) 1) table memory
 
-  kind-taken : (panel : Panel) → tookByte (between setup records panel) table words 1 ≡ record { held = kindTaken panel; text = [] }
+  kind-taken : (panel : Panel) → tookByte (lined panel) 1 ≡ shows (kindTaken panel) []
   unfolding tookByte isOver mayCome grown bodyLength noItem
   kind-taken panel = refl
 
-  byte-taken : (panel : Panel) (b : ℕ) → tookByte (kindTaken panel .trace) table words b ≡ record { held = lined (fedByte panel b .panel); text = [] }
+  byte-taken : (panel : Panel) (b : ℕ) → tookByte (kindTaken panel) b ≡ shows (lined (fedByte panel b .panel)) []
   unfolding tookByte isOver isStarted grown bodyLength noItem itemDone eventDone startedBy eventAnswered event
   byte-taken panel b = refl
 

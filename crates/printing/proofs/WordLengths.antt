@@ -9,13 +9,13 @@ use lib.ListN.{length, take, drop, length-set}
 use Rattle.wire.specs.ByteOrder.{wordAt}
 use Rattle.wire.proofs.LaidAt.{length-laidAt}
 use Rattle.line.specs.Methods.{asked}
-use Rattle.registers.specs.declared.Registers.{Registers}
-use Rattle.registers.specs.Touched.{pageOf, isDown, withStatus, withPlace}
-use Rattle.words.specs.Words.{wordSet, wordsOf, wordsWritten}
 use Rattle.touch.specs.declared.Found.{Found}
 use Rattle.touch.specs.declared.Found.the-variants as found
 use Rattle.touch.specs.Setup.{checkingOf}
 use Rattle.touch.specs.Find as Find
+use Rattle.registers.specs.declared.Registers.{Registers}
+use Rattle.registers.specs.Touched.{pageOf, isDown, withStatus, withPlace}
+use Rattle.words.specs.Words.{wordSet, wordsOf, wordsWritten}
 use Rattle.commands.specs.Outcome.{writeWordsOutcome}
 use Rattle.commands.specs.Effect.{isDone, wordsWriting}
 use Rattle.commands.specs.Perform.{Performance, performance}

@@ -1,22 +1,23 @@
 -- The library called on an input: steps on any front part of what is left, with any room, and the end once nothing is left and no report waits, or no more after an X.
-use Prim.Native.Nat.{ℕ, zero, suc, _≤_}
+use Prim.Native.Nat.{ℕ, zero, suc, _+_, _≤_}
 use mathlib.Core.Path.{_≡_}
 use mathlib.Core.Bool.{true, false, cond, _||_}
 use mathlib.Core.List.{List, [], _++_}
 use lib.Dec.{leb}
 use lib.ListN.{length, take, drop}
-use Rattle.trace.specs.declared.Answer.the-variants.{Done}
+use Rattle.frame.specs.Frame.{longestFrame}
 use Rattle.telling.specs.Told.{leastText}
+use Rattle.trace.specs.declared.Answer.the-variants.{Done}
 use Rattle.trace.specs.State.{Held, holds, waits, isOver}
 use Rattle.trace.specs.Steps.{Stepping, stepping}
 use Rattle.trace.specs.Output.{Ending, ending}
 
 -- one call of `step`, and what is lent again at the next
 abbrev pub stepCalled : Held → List ℕ → List ℕ → Stepping
-stepCalled held chunk room = stepping (held .trace) chunk (held .table) (held .words) room
+stepCalled held chunk room = stepping held chunk room
 
 abbrev pub heldAfter : Stepping → Held
-heldAfter s = holds (s .stepped .trace) (s .table) (s .words)
+heldAfter s = holds (s .stepped .trace) (s .table) (s .memory)
 
 -- the call of `end`
 abbrev pub endCalled : Held → List ℕ → Ending
@@ -37,6 +38,10 @@ pub record Caller : Type 0 where
   pub more : Held → List ℕ → ℕ
   pub room : Held → List ℕ → List ℕ
   pub lent : (held : Held) (left : List ℕ) → leastText ≤ length (room held left)
+
+-- calls that are enough for each byte of the input: one that takes it, and one for each byte that may be kept
+abbrev pub callsEach : ℕ
+callsEach = longestFrame + 1
 
 -- what its calls write, at most n of them: steps while a report waits or input is left, and then the end
 unfoldable pub calls : Caller → ℕ → Held → List ℕ → List ℕ

@@ -13,9 +13,9 @@ use Rattle.telling.proofs.tell_event.Kinds as tell-event-kinds
 pub tell-report-determined :
     OneAnswerLeft 2 tell-report-kinds.ps tell-report-kinds.r tell-report.Post {B = List ℕ × List ℕ} (λ κs s. (now (s .1 .0), now (s .1 .1 .0)))
 tell-report-determined κs a x y s t p q =
-    (ap (λ (d : PanelLeft). d .printed) (p ∙ sym q), ap (λ (d : PanelLeft). (d .words, d .room)) (p ∙ sym q))
+    (ap (λ (d : PanelLeft). d .printed) (p ∙ sym q), ap (λ (d : PanelLeft). (d .memory .words, d .room)) (p ∙ sym q))
 
 pub tell-event-determined :
     OneAnswerLeft 3 tell-event-kinds.ps tell-event-kinds.r tell-event.Post {B = List ℕ × List ℕ} (λ κs s. (now (s .1 .1 .1 .0), now (s .1 .1 .1 .1 .0)))
 tell-event-determined κs a x y s t p q =
-    (ap (λ (d : PanelLeft). d .printed) (p ∙ sym q), ap (λ (d : PanelLeft). (d .words, d .room)) (p ∙ sym q))
+    (ap (λ (d : PanelLeft). d .printed) (p ∙ sym q), ap (λ (d : PanelLeft). (d .memory .words, d .room)) (p ∙ sym q))

@@ -11,23 +11,26 @@ use lib.Seq.{length-take-le}
 use Rattle.wire.specs.Room.{over, Laid, lays, laid}
 use Rattle.wire.proofs.Over.{over-nil, over-part}
 use Rattle.wire.proofs.Parts.{part-whole}
-use Rattle.text.specs.declared.Line.{Line}
-use Rattle.text.specs.Text.{lineText, writtenText}
-use Rattle.text.proofs.Lengths.{lineText-length-le, writtenText-length}
-use Rattle.text.specs.declared.Line.the-variants as line
+use Rattle.frame.specs.Frame.{longestFrame}
+use Rattle.frame.specs.Writer.{leastRoom}
 use Rattle.commands.specs.declared.Outcome.{Outcome}
 use Rattle.commands.specs.Outcome as Outcome
 use Rattle.panel.specs.declared.Handed.{Handed}
 use Rattle.panel.specs.declared.Handed.the-variants as handed
-use Rattle.telling.specs.Told.{prints}
-use Rattle.telling.specs.Lines.{framesText, acknowledgedBy, repliedBy, reportText}
+use Rattle.text.specs.declared.Line.{Line}
+use Rattle.text.specs.Text.{lineText, writtenText}
+use Rattle.text.specs.declared.Line.the-variants as line
+use Rattle.text.proofs.Lengths.{lineText-length-le, writtenText-length-le}
+use Rattle.telling.specs.Told.{leastText}
+use Rattle.telling.specs.Inner.{writtenBytes, longestLine, acknowledgementBytes, prints, repliedBy, acknowledgedBy}
+use Rattle.telling.specs.Lines.{framesText, reportText}
 
 -- what fits is laid whole
 fitting : (s room : List ℕ) → length s ≤ length room → laid (leb (length s) (length room)) s room ≡ prints s room
 unfolding laid
 fitting s room fits = rw (le-leb (length s) (length room) fits)
 
-pub line-printed : (line : Line) (room left : List ℕ) (k : ℕ) → 1024 ≤ length room
+pub line-printed : (line : Line) (room left : List ℕ) (k : ℕ) → leastText ≤ length room
     → lays k left ≡ laid (leb (length (lineText line)) (length room)) (lineText line) room → lays k left ≡ prints (lineText line) room
 line-printed line room left k wide is = is ∙ fitting (lineText line) room (omega (arith, lineText-length-le line))
 
@@ -46,31 +49,31 @@ behind s t room left part k m first second =
 
 -- ---- An acknowledgement and a reply
 
-module _ (a : ℕ) (reply room left : List ℕ) (k : ℕ) (short : a ≤ 7) (long : length reply ≡ 265) where
-  acknowledgement-short : length (writtenText (take a reply)) ≤ 23
-  acknowledgement-short = omega (arith, writtenText-length (take a reply), length-take-le a reply (omega arith))
+module _ (a : ℕ) (reply room left : List ℕ) (k : ℕ) (short : a ≤ acknowledgementBytes) (long : length reply ≡ leastRoom) where
+  acknowledgement-short : length (writtenText (take a reply)) ≤ writtenBytes acknowledgementBytes
+  acknowledgement-short = omega (arith, writtenText-length-le (take a reply), length-take-le a reply (omega arith))
 
-  module _ (wide : 1000 ≤ length room) (is : lays k left ≡ laid (leb (length (writtenText (take (a - 0) reply))) (length room)) (writtenText (take (a - 0) reply)) room) where
+  module _ (wide : writtenBytes acknowledgementBytes ≤ length room) (is : lays k left ≡ laid (leb (length (writtenText (take (a - 0) reply))) (length room)) (writtenText (take (a - 0) reply)) room) where
     pub acknowledgement-printed : lays k left ≡ prints (writtenText (take a reply)) room
     acknowledgement-printed = (rw (sub-zero a) at is) ∙ fitting (writtenText (take a reply)) room (omega (arith, acknowledgement-short))
 
-    pub acknowledgement-count : k ≤ 23
+    pub acknowledgement-count : k ≤ writtenBytes acknowledgementBytes
     acknowledgement-count =
         let k-is : k ≡ length (writtenText (take a reply)) = ap (λ (l : Laid). l .count) acknowledgement-printed in
         omega (arith, acknowledgement-short)
 
-  module _ (r : ℕ) (brief : r ≤ 258) where
+  module _ (r : ℕ) (brief : r ≤ longestFrame) where
     reply-is : take (a + r - a) (drop a reply) ≡ take r (drop a reply)
     reply-is =
         let r-is : a + r - a ≡ r = omega arith in
         ap (λ (n : ℕ). take n (drop a reply)) r-is
 
-    reply-short : length (writtenText (take r (drop a reply))) ≤ 776
+    reply-short : length (writtenText (take r (drop a reply))) ≤ writtenBytes longestFrame
     reply-short =
         let inside : r ≤ length (drop a reply) = rw length-drop (omega arith) in
-        omega (arith, writtenText-length (take r (drop a reply)), length-take-le r (drop a reply) inside)
+        omega (arith, writtenText-length-le (take r (drop a reply)), length-take-le r (drop a reply) inside)
 
-    module _ (wide : 776 ≤ length room)
+    module _ (wide : writtenBytes longestFrame ≤ length room)
         (is : lays k left ≡ laid (leb (length (writtenText (take (a + r - a) (drop a reply)))) (length room)) (writtenText (take (a + r - a) (drop a reply))) room)
       where
         pub reply-printed : lays k left ≡ prints (writtenText (take r (drop a reply))) room
@@ -78,7 +81,7 @@ module _ (a : ℕ) (reply room left : List ℕ) (k : ℕ) (short : a ≤ 7) (lon
             is ∙ ap (λ (s : List ℕ). laid (leb (length (writtenText s)) (length room)) (writtenText s) room) reply-is
             ∙ fitting (writtenText (take r (drop a reply))) room (omega (arith, reply-short))
 
-        pub reply-count : k ≤ 776
+        pub reply-count : k ≤ writtenBytes longestFrame
         reply-count =
             let k-is : k ≡ length (writtenText (take r (drop a reply))) = ap (λ (l : Laid). l .count) reply-printed in
             omega (arith, reply-short)
@@ -91,8 +94,8 @@ frames-printed a r k m reply room left part first second = behind (writtenText (
 
 -- ---- A line, then what was written
 
-pub line-count : (line : Line) (room left : List ℕ) (k : ℕ) → 1024 ≤ length room
-    → lays k left ≡ laid (leb (length (lineText line)) (length room)) (lineText line) room → k ≤ 10
+pub line-count : (line : Line) (room left : List ℕ) (k : ℕ) → leastText ≤ length room
+    → lays k left ≡ laid (leb (length (lineText line)) (length room)) (lineText line) room → k ≤ longestLine
 line-count line room left k wide is =
     let k-is : k ≡ length (lineText line) = ap (λ (l : Laid). l .count) (line-printed line room left k wide is) in
     omega (arith, lineText-length-le line)
@@ -133,16 +136,16 @@ module _ (h : Handed) (reply room : List ℕ) where
       accepted-printed is is-n e =
           e ∙ ap (λ (i : ℕ). prints (lineText (line.Frame command i) ++ framesText a r reply) room) is-n ∙ ap (λ (x : Handed). prints (reportText x reply) room) (sym is)
 
-module _ (h : Handed) (command a : ℕ) (is : h ≡ handed.BadCheck command a) (short : acknowledgedBy h ≤ 7) where
-  pub bad-short : a ≤ 7
+module _ (h : Handed) (command a : ℕ) (is : h ≡ handed.BadCheck command a) (short : acknowledgedBy h ≤ acknowledgementBytes) where
+  pub bad-short : a ≤ acknowledgementBytes
   unfolding acknowledgedBy
   bad-short = rw is at short
 
 module _ (h : Handed) (command count a r : ℕ) (outcome : Outcome) (is : h ≡ handed.Accepted command count outcome a r) where
-  pub accepted-short : acknowledgedBy h ≤ 7 → a ≤ 7
+  pub accepted-short : acknowledgedBy h ≤ acknowledgementBytes → a ≤ acknowledgementBytes
   unfolding acknowledgedBy
   accepted-short short = rw is at short
 
-  pub accepted-brief : repliedBy h ≤ 258 → r ≤ 258
+  pub accepted-brief : repliedBy h ≤ longestFrame → r ≤ longestFrame
   unfolding repliedBy
   accepted-brief brief = rw is at brief

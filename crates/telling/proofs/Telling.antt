@@ -7,8 +7,6 @@ use lib.ListN.{length, getD}
 use Rattle.wire.specs.ByteOrder.{wordAt}
 use Rattle.wire.specs.Room.{Laid, lays}
 use Rattle.wire.proofs.Over.{over-nil}
-use Rattle.text.specs.declared.Line.the-variants as line
-use Rattle.text.specs.Text.{lineText}
 use Rattle.panel.specs.declared.Panel.{Panel}
 use Rattle.panel.specs.declared.Fed.{Fed}
 use Rattle.panel.specs.declared.Lifted.{Lifted}
@@ -18,10 +16,14 @@ use Rattle.panel.specs.Numbers.{contactNumber, liftNumber}
 use Rattle.panel.specs.Inputs.{fedByte, fedMark}
 use Rattle.panel.specs.Contacts.{Contacting, contacts, contacting, lifting}
 use Rattle.panel.specs.Reporting.{Reporting, reports, reporting}
+use Rattle.text.specs.declared.Line.the-variants as line
+use Rattle.text.specs.Text.{lineText}
 use Rattle.telling.specs.declared.PanelPrinted.{PanelPrinted}
-use Rattle.telling.specs.Told.{Told, tells, prints, leavesPanel, panelPrinting, leastText, printedIn}
+use Rattle.telling.specs.Inner.{prints}
+use Rattle.telling.specs.Told.{Told, tells, leavesPanel, panelPrinting, leastText, printedIn}
 use Rattle.telling.specs.Lines.{reportText}
 use Rattle.telling.specs.Events.{touchText, contactTold, liftTold, event, replyRoom, askedOnce}
+use Rattle.telling.specs.Memory.{Memory, remembering}
 
 pub byte-fed : (panel : Panel) (b : ℕ) (fed : Fed) → fed ≡ fedByte panel b → fed .panel ≡ fedByte panel b .panel
 byte-fed panel b fed is = ap (λ (f : Fed). f .panel) is
@@ -30,9 +32,9 @@ pub mark-fed : (panel : Panel) (fed : Fed) → fed ≡ fedMark panel → fed .pa
 mark-fed panel fed is = ap (λ (f : Fed). f .panel) is
 
 -- text laid for what is told of a panel
-told-left : (panel : Panel) (words text room left : List ℕ) (k : ℕ) → lays k left ≡ prints text room
-    → leavesPanel (record { panel = panel; count = k }) words left ≡ panelPrinting (tells panel words text) room
-told-left panel words text room left k e = ap (λ (l : Laid). leavesPanel (record { panel = panel; count = l .count }) words (l .room)) e
+told-left : (panel : Panel) (memory : Memory) (text room left : List ℕ) (k : ℕ) → lays k left ≡ prints text room
+    → leavesPanel (record { panel = panel; count = k }) memory left ≡ panelPrinting (tells panel memory text) room
+told-left panel memory text room left k e = ap (λ (l : Laid). leavesPanel (record { panel = panel; count = l .count }) memory (l .room)) e
 
 module _ (panel : Panel) (room left : List ℕ) (n k : ℕ) (is-text : lays k left ≡ prints (lineText (line.Touch n)) room) where
   module _ (done : Lifted) (is-done : done ≡ lifting panel) (is-n : n ≡ liftNumber (done .answer)) where
@@ -44,71 +46,71 @@ module _ (panel : Panel) (room left : List ℕ) (n k : ℕ) (is-text : lays k le
 
   module _ (table words words′ : List ℕ) (x y : ℕ) (done : Contacted)
       (is-done : contacts (done .answer) (done .panel) words′ ≡ contacting panel table words x y) (is-n : n ≡ contactNumber (done .answer)) where
-    pub contact-printed : leavesPanel (record { panel = done .panel; count = k }) words′ left ≡ panelPrinting (contactTold panel table words x y) room
+    pub contact-printed : leavesPanel (record { panel = done .panel; count = k }) (remembering words′) left ≡ panelPrinting (contactTold panel table (remembering words) x y) room
     unfolding contactTold touchText
     contact-printed =
-        told-left (done .panel) words′ (lineText (line.Touch n)) room left k is-text
-        ∙ ap (λ (i : ℕ). panelPrinting (tells (done .panel) words′ (lineText (line.Touch i))) room) is-n
-        ∙ ap (λ (d : Contacting). panelPrinting (tells (d .contacted .panel) (d .words) (lineText (line.Touch (contactNumber (d .contacted .answer))))) room) is-done
+        told-left (done .panel) (remembering words′) (lineText (line.Touch n)) room left k is-text
+        ∙ ap (λ (i : ℕ). panelPrinting (tells (done .panel) (remembering words′) (lineText (line.Touch i))) room) is-n
+        ∙ ap (λ (d : Contacting). panelPrinting (tells (d .contacted .panel) (remembering (d .words)) (lineText (line.Touch (contactNumber (d .contacted .answer))))) room) is-done
 
 pub lift-left : (panel : Panel) (done : Lifted) → done ≡ lifting panel → done .panel ≡ lifting panel .panel
 lift-left panel done is = ap (λ (d : Lifted). d .panel) is
 
 pub report-printed : (panel : Panel) (words words′ reply reply′ room left : List ℕ) (k : ℕ) (done : Reported) → reply ≡ replyRoom
     → reports done words′ reply′ ≡ reporting panel words reply → lays k left ≡ prints (reportText (done .handed) reply′) room
-    → leavesPanel (record { panel = done .panel; count = k }) words′ left ≡ panelPrinting (askedOnce panel words) room
+    → leavesPanel (record { panel = done .panel; count = k }) (remembering words′) left ≡ panelPrinting (askedOnce panel (remembering words)) room
 unfolding askedOnce
 report-printed panel words words′ reply reply′ room left k done is-reply is-done is-text =
-    told-left (done .panel) words′ (reportText (done .handed) reply′) room left k is-text
-    ∙ ap (λ (r : Reporting). panelPrinting (tells (r .reported .panel) (r .words) (reportText (r .reported .handed) (r .room))) room) (rw is-reply at is-done)
+    told-left (done .panel) (remembering words′) (reportText (done .handed) reply′) room left k is-text
+    ∙ ap (λ (r : Reporting). panelPrinting (tells (r .reported .panel) (remembering (r .words)) (reportText (r .reported .handed) (r .room))) room) (rw is-reply at is-done)
 
 -- ---- An event, by its kind
 
-module _ (panel : Panel) (item table words room : List ℕ) where
-  quiet-left : (next : Panel) → leavesPanel (record { panel = next; count = 0 }) words room ≡ panelPrinting (tells next words []) room
-  quiet-left next = ap (λ (l : List ℕ). leavesPanel (record { panel = next; count = 0 }) words l) (sym (over-nil room))
+module _ (panel : Panel) (item table room : List ℕ) (memory : Memory) where
+  quiet-left : (next : Panel) → leavesPanel (record { panel = next; count = 0 }) memory room ≡ panelPrinting (tells next memory []) room
+  quiet-left next = ap (λ (l : List ℕ). leavesPanel (record { panel = next; count = 0 }) memory l) (sym (over-nil room))
 
   pub event-byte : (next : Panel) → getD item 0 0 ≡ 1 → next ≡ fedByte panel (getD item 1 0) .panel
-      → leavesPanel (record { panel = next; count = 0 }) words room ≡ panelPrinting (event panel table words item) room
+      → leavesPanel (record { panel = next; count = 0 }) memory room ≡ panelPrinting (event panel table memory item) room
   unfolding event
   event-byte next is-kind is-next = rw is-kind (rw (← is-next) (quiet-left next))
 
   module _ (not-1 : getD item 0 0 ≡ 1 → ⊥) where
     pub event-mark : (next : Panel) → getD item 0 0 ≡ 2 → next ≡ fedMark panel .panel
-        → leavesPanel (record { panel = next; count = 0 }) words room ≡ panelPrinting (event panel table words item) room
+        → leavesPanel (record { panel = next; count = 0 }) memory room ≡ panelPrinting (event panel table memory item) room
     unfolding event
     event-mark next is-kind is-next = rw is-kind (rw (← is-next) (quiet-left next))
 
     module _ (not-2 : getD item 0 0 ≡ 2 → ⊥) where
-      pub event-contact : (r : PanelPrinted) (words′ left : List ℕ) (x y : ℕ) → getD item 0 0 ≡ 3 → x ≡ wordAt item 1 → y ≡ wordAt item 3
-          → leavesPanel r words′ left ≡ panelPrinting (contactTold panel table words x y) room
-          → leavesPanel r words′ left ≡ panelPrinting (event panel table words item) room
+      pub event-contact : (r : PanelPrinted) (memory′ : Memory) (left : List ℕ) (x y : ℕ) → getD item 0 0 ≡ 3 → x ≡ wordAt item 1 → y ≡ wordAt item 3
+          → leavesPanel r memory′ left ≡ panelPrinting (contactTold panel table memory x y) room
+          → leavesPanel r memory′ left ≡ panelPrinting (event panel table memory item) room
       unfolding event
-      event-contact r words′ left x y is-kind is-x is-y e = rw is-kind (rw (is-x, is-y) at e)
+      event-contact r memory′ left x y is-kind is-x is-y e = rw is-kind (rw (is-x, is-y) at e)
 
       pub event-lift : (r : PanelPrinted) (left : List ℕ) → (getD item 0 0 ≡ 3 → ⊥) → r .panel ≡ lifting panel .panel
           → lays (r .count) left ≡ prints (touchText (liftNumber (lifting panel .answer))) room
-          → leavesPanel r words left ≡ panelPrinting (event panel table words item) room
+          → leavesPanel r memory left ≡ panelPrinting (event panel table memory item) room
       unfolding event liftTold
       event-lift r left not-3 is-panel is-text =
           rw (ne-eqb (getD item 0 0) 1 not-1, ne-eqb (getD item 0 0) 2 not-2, ne-eqb (getD item 0 0) 3 not-3)
-          (ap (λ (l : Laid). leavesPanel (record { panel = r .panel; count = l .count }) words (l .room)) is-text
-          ∙ ap (λ (p : Panel). panelPrinting (tells p words (touchText (liftNumber (lifting panel .answer)))) room) is-panel)
+          (ap (λ (l : Laid). leavesPanel (record { panel = r .panel; count = l .count }) memory (l .room)) is-text
+          ∙ ap (λ (p : Panel). panelPrinting (tells p memory (touchText (liftNumber (lifting panel .answer)))) room) is-panel)
 
 -- ---- With and without room
 
-module _ (told : Told) (panel : Panel) (words room : List ℕ) where
-  pub told-in : (r : PanelPrinted) (words′ left : List ℕ) → 1024 ≤ length room → leavesPanel r words′ left ≡ panelPrinting told room
-      → leavesPanel r words′ left ≡ printedIn told panel words room
-  unfolding printedIn leastText
-  told-in r words′ left wide e = rw (le-leb 1024 (length room) wide) e
+module _ (told : Told) (panel : Panel) (memory : Memory) (room : List ℕ) where
+  pub told-in : (r : PanelPrinted) (memory′ : Memory) (left : List ℕ) → leastText ≤ length room → leavesPanel r memory′ left ≡ panelPrinting told room
+      → leavesPanel r memory′ left ≡ printedIn told panel memory room
+  unfolding printedIn
+  told-in r memory′ left wide e = rw (le-leb leastText (length room) wide) e
 
-  pub not-told : length room < 1024 → leavesPanel (record { panel = panel; count = 0 }) words room ≡ printedIn told panel words room
-  unfolding printedIn leastText
-  not-told narrow = rw (lt-leb 1024 (length room) narrow)
+  pub not-told : length room < leastText → leavesPanel (record { panel = panel; count = 0 }) memory room ≡ printedIn told panel memory room
+  unfolding printedIn
+  not-told narrow = rw (lt-leb leastText (length room) narrow)
 
   -- what is printed where there is room
-  pub printed-in : (r : PanelPrinted) (words′ left : List ℕ) → 1024 ≤ length room → leavesPanel r words′ left ≡ printedIn told panel words room
-      → leavesPanel r words′ left ≡ panelPrinting told room
-  unfolding printedIn leastText
-  printed-in r words′ left wide e = e ∙ rw (le-leb 1024 (length room) wide)
+  pub printed-in : (r : PanelPrinted) (memory′ : Memory) (left : List ℕ) → leastText ≤ length room → leavesPanel r memory′ left ≡ printedIn told panel memory room
+      → leavesPanel r memory′ left ≡ panelPrinting told room
+  unfolding printedIn
+  printed-in r memory′ left wide e = e ∙ rw (le-leb leastText (length room) wide)

@@ -2,11 +2,11 @@
 use Prim.Native.Nat.{ℕ}
 use mathlib.Core.List.{List, [], _++_}
 use lib.ListN.{take, drop}
-use Rattle.text.specs.declared.Line.the-variants as line
-use Rattle.text.specs.Text.{lineText, writtenText}
 use Rattle.commands.specs.Outcome as Outcome
 use Rattle.panel.specs.declared.Handed.{Handed}
 use Rattle.panel.specs.declared.Handed.the-variants as handed
+use Rattle.text.specs.declared.Line.the-variants as line
+use Rattle.text.specs.Text.{lineText, writtenText}
 
 -- "`O` and one frame written, an acknowledgement on a line of its own before the reply"
 unfoldable pub framesText : (acknowledged replied : ℕ) → List ℕ → List ℕ
@@ -19,16 +19,3 @@ reportText handed.Nothing room = []
 reportText (handed.BadCheck command acknowledged) room = lineText (line.BadCheck command) ++ framesText acknowledged 0 room
 reportText (handed.Accepted command count outcome acknowledged replied) room =
     lineText (line.Frame command (Outcome.numberOfOutcome outcome)) ++ framesText acknowledged replied room
-
--- how long an acknowledgement and a reply were written
-unfoldable pub acknowledgedBy : Handed → ℕ
-acknowledgedBy handed.NotLent = 0
-acknowledgedBy handed.Nothing = 0
-acknowledgedBy (handed.BadCheck command acknowledged) = acknowledged
-acknowledgedBy (handed.Accepted command count outcome acknowledged replied) = acknowledged
-
-unfoldable pub repliedBy : Handed → ℕ
-repliedBy handed.NotLent = 0
-repliedBy handed.Nothing = 0
-repliedBy (handed.BadCheck command acknowledged) = 0
-repliedBy (handed.Accepted command count outcome acknowledged replied) = replied

@@ -13,7 +13,7 @@ use Rattle.wire.proofs.Over.{over-nil, over-more, over-part, laid-not, laid-who
 use Rattle.text.specs.declared.Line.{Line}
 use Rattle.text.specs.declared.Line.the-variants.{Frame, BadCheck, Touch, End, Failed, WrongRecord}
 use Rattle.text.specs.Text.{hexDigit, hexByte, decimal, spaced, lined, lineText, writtenText, blank, lineFeed}
-use Rattle.text.proofs.Lengths.{length-spaced, written-length}
+use Rattle.text.proofs.Lengths.{length-spaced, writtenText-length}
 
 -- a text that is copied whole
 module _ (text room : List ℕ) where
@@ -145,7 +145,7 @@ module _ (frame room : List ℕ) (some : length frame ≡ 0 → ⊥) where
   text = writtenText frame
 
   long : length text ≡ 2 + 3 * length frame
-  long = written-length frame (some-frame frame some)
+  long = writtenText-length frame (some-frame frame some)
 
   pub written-short : length room < 2 → lays 0 room ≡ laid (leb (length text) (length room)) text room
   written-short small = laid-not (leb (length text) (length room)) text room (lt-leb (length text) (length room) (omega (arith, long)))

@@ -40,12 +40,12 @@ lineText-length-le (Failed number) = simp length-append (omega (arith, length-de
 lineText-length-le (WrongRecord number) = simp length-append (omega (arith, length-decimal-le number, length-decimal-le 13))
 
 -- a frame that was written
-pub written-length : (frame : List ℕ) → 0 < length frame → length (writtenText frame) ≡ 2 + 3 * length frame
+pub writtenText-length : (frame : List ℕ) → 0 < length frame → length (writtenText frame) ≡ 2 + 3 * length frame
 unfolding writtenText
-written-length [] some = absurd (omega arith)
-written-length (b ∷ bytes) some = length-lined 79 (spaced (b ∷ bytes)) ∙ ap (λ (n : ℕ). 2 + n) (length-spaced (b ∷ bytes))
+writtenText-length [] some = absurd (omega arith)
+writtenText-length (b ∷ bytes) some = length-lined 79 (spaced (b ∷ bytes)) ∙ ap (λ (n : ℕ). 2 + n) (length-spaced (b ∷ bytes))
 
-pub writtenText-length : (frame : List ℕ) → length (writtenText frame) ≤ 2 + 3 * length frame
+pub writtenText-length-le : (frame : List ℕ) → length (writtenText frame) ≤ 2 + 3 * length frame
 unfolding writtenText
-writtenText-length [] = omega arith
-writtenText-length (b ∷ bytes) = omega (arith, length-lined 79 (spaced (b ∷ bytes)), length-spaced (b ∷ bytes))
+writtenText-length-le [] = omega arith
+writtenText-length-le (b ∷ bytes) = omega (arith, length-lined 79 (spaced (b ∷ bytes)), length-spaced (b ∷ bytes))

@@ -1,5 +1,5 @@
 -- Laws of the end of the input, and of a new trace.
-use mathlib.Core.Path.{_≡_, refl, sym, ap, _∙_}
+use mathlib.Core.Path.{_≡_, sym, ap, _∙_}
 use mathlib.Core.Bool.{true, false, _&&_}
 use mathlib.Core.List.{List}
 use Prim.Native.Nat.{ℕ, _*_, _-_, _≤_, min}
@@ -9,28 +9,30 @@ use lib.ListN.{length, take}
 use Rattle.wire.specs.Room.{Laid, lays}
 use Rattle.wire.proofs.Over.{over-nil}
 use Rattle.line.proofs.Truths.{and-left, and-right}
+use Rattle.touch.specs.Table.{recordBytes}
 use Rattle.registers.specs.Touched.{pageOf}
-use Rattle.text.specs.declared.Line.the-variants as line
-use Rattle.text.specs.Text.{lineText}
 use Rattle.panel.specs.declared.Start.{Start}
 use Rattle.panel.specs.declared.StartAnswer.{StartAnswer}
 use Rattle.panel.specs.declared.StartAnswer.the-variants as start
 use Rattle.panel.specs.Numbers.{startNumber}
 use Rattle.panel.specs.Start.{started}
+use Rattle.text.specs.declared.Line.the-variants as line
+use Rattle.text.specs.Text.{lineText}
+use Rattle.telling.specs.Inner.{prints}
+use Rattle.telling.specs.Told.{leastText}
 use Rattle.trace.specs.declared.Stage.{Stage}
 use Rattle.trace.specs.declared.Stage.the-variants.{Bare, Ready, Started, Over}
 use Rattle.trace.specs.declared.Trace.{Trace}
 use Rattle.trace.specs.declared.Answer.the-variants.{Done, NotLent}
-use Rattle.telling.specs.Told.{prints, leastText}
-use Rattle.trace.proofs.Items.{table-part}
 use Rattle.trace.specs.State.{noItem, newTrace, keptRecords, tableBytes, tableOf}
 use Rattle.trace.specs.Lines.{refusalText, wrongText}
 use Rattle.trace.specs.Events.{startedBy}
 use Rattle.trace.specs.Output.{endAnswered, endStarted, endAt, endText, ends, ending}
+use Rattle.trace.proofs.Items.{table-part}
 
 module _ (trace : Trace) (table room left : List ℕ) (n k : ℕ) (is-k : k ≡ min (trace .records) keptRecords) (begun : Start)
-    (is-begun : begun ≡ startedBy trace (take (k * 32 - 0) table)) where
-  the-part : take (k * 32 - 0) table ≡ tableOf (trace .records) table
+    (is-begun : begun ≡ startedBy trace (take (k * recordBytes - 0) table)) where
+  the-part : take (k * recordBytes - 0) table ≡ tableOf (trace .records) table
   the-part = table-part (trace .records) table k is-k
 
   answered-so : (answer : StartAnswer) → begun .answer ≡ answer → prints (endAnswered answer (begun .panel)) room ≡ prints (endStarted trace table) room
@@ -84,25 +86,21 @@ unfolding endAt
 after-failure trace table room whole is = ap (λ (l : List ℕ). lays 0 l) (sym (over-nil room)) ∙ at-stage trace table room room 0 whole Over is
 
 module _ (trace : Trace) (table room : List ℕ) where
-  judged : (leb 4128 (length table) && leb 1024 (length room)) ≡ (leb tableBytes (length table) && leb leastText (length room))
-  unfolding tableBytes keptRecords leastText
-  judged = refl
-
-  pub lent-ends : (n : ℕ) (left : List ℕ) → (leb 4128 (length table) && leb 1024 (length room)) ≡ true → lays n left ≡ prints (endText trace table) room
+  pub lent-ends : (n : ℕ) (left : List ℕ) → (leb tableBytes (length table) && leb leastText (length room)) ≡ true → lays n left ≡ prints (endText trace table) room
       → ends (record { answer = Done; count = n }) left ≡ ending trace table room
   unfolding ending
-  lent-ends n left is e = rw (sym judged ∙ is) (ap (λ (l : Laid). ends (record { answer = Done; count = l .count }) (l .room)) e)
+  lent-ends n left is e = rw is (ap (λ (l : Laid). ends (record { answer = Done; count = l .count }) (l .room)) e)
 
-  pub not-lent-ends : (leb 4128 (length table) && leb 1024 (length room)) ≡ false → ends (record { answer = NotLent; count = 0 }) room ≡ ending trace table room
+  pub not-lent-ends : (leb tableBytes (length table) && leb leastText (length room)) ≡ false → ends (record { answer = NotLent; count = 0 }) room ≡ ending trace table room
   unfolding ending
-  not-lent-ends is = rw (sym judged ∙ is)
+  not-lent-ends is = rw is
 
-module _ (table room : ℕ) (is : (leb 4128 table && leb 1024 room) ≡ true) where
-  pub table-long : 4128 ≤ table
-  table-long = leb-true 4128 table (and-left (leb 4128 table) (leb 1024 room) is)
+module _ (table room : ℕ) (is : (leb tableBytes table && leb leastText room) ≡ true) where
+  pub table-long : tableBytes ≤ table
+  table-long = leb-true tableBytes table (and-left (leb tableBytes table) (leb leastText room) is)
 
-  pub room-long : 1024 ≤ room
-  room-long = leb-true 1024 room (and-right (leb 4128 table) (leb 1024 room) is)
+  pub room-long : leastText ≤ room
+  room-long = leb-true leastText room (and-right (leb tableBytes table) (leb leastText room) is)
 
 pub new-made : (none : Start) (item : List ℕ) (table : List ℕ)
     → none ≡ started (record { h1 = 0; h2 = 0; flags = 0; pages = 0; width = 0; height = 0 }) table → item ≡ noItem

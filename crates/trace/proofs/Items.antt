@@ -12,9 +12,11 @@ use lib.Seq.{set-out, take-all, take-length, drop-drop}
 use Rattle.wire.specs.ByteOrder.{byteAt, wordAt}
 use Rattle.wire.specs.Room.{laidAt}
 use Rattle.wire.proofs.Parts.{part-whole, part-end}
+use Rattle.touch.specs.Table.{recordBytes}
+use Rattle.telling.specs.Events.{itemBytes}
 use Rattle.trace.specs.declared.Stage.{Stage}
 use Rattle.trace.specs.declared.Stage.the-variants.{Bare, Ready, Started, Over}
-use Rattle.trace.specs.State.{keptRecords, tableOf}
+use Rattle.trace.specs.State.{keptRecords, tableOf, tableBytes}
 use Rattle.trace.specs.Items.{bodyLength, mayCome, setupIn, recordPut, recordCounted}
 
 module _ (stage : Stage) (kind : ℕ) where
@@ -47,7 +49,7 @@ module _ (kind : ℕ) where
   unfolding bodyLength
   contact-body is = rw is
 
-  pub record-body : kind ≡ 5 → 32 ≡ bodyLength kind
+  pub record-body : kind ≡ 5 → recordBytes ≡ bodyLength kind
   unfolding bodyLength
   record-body is = rw is
 
@@ -61,43 +63,41 @@ unfolding setupIn
 setup-read item a b c p w h ia ib ic ip iw ih = rw (ia, ib, ic, ip, iw, ih)
 
 module _ (records : ℕ) where
-  pub kept-all : records < 129 → records ≡ min records keptRecords
-  unfolding keptRecords
+  pub kept-all : records < keptRecords → records ≡ min records keptRecords
   kept-all few = sym (min-eq-left (le-of-lt few))
 
-  pub kept-most : 129 ≤ records → 129 ≡ min records keptRecords
-  unfolding keptRecords
+  pub kept-most : keptRecords ≤ records → keptRecords ≡ min records keptRecords
   kept-most many = sym (min-eq-right many)
 
   -- the table of the records met, as the code cuts it out
-  pub table-part : (table : List ℕ) (k : ℕ) → k ≡ min records keptRecords → take (k * 32 - 0) table ≡ tableOf records table
+  pub table-part : (table : List ℕ) (k : ℕ) → k ≡ min records keptRecords → take (k * recordBytes - 0) table ≡ tableOf records table
   unfolding tableOf
-  table-part table k is = rw (sub-zero (k * 32), is)
+  table-part table k is = rw (sub-zero (k * recordBytes), is)
 
-  pub one-more : records < 129 → records + 1 ≡ recordCounted records
-  unfolding recordCounted keptRecords
-  one-more few = rw (lt-ltb records 129 few)
+  pub one-more : records < keptRecords → records + 1 ≡ recordCounted records
+  unfolding recordCounted
+  one-more few = rw (lt-ltb records keptRecords few)
 
-  pub no-more : 129 ≤ records → records ≡ recordCounted records
-  unfolding recordCounted keptRecords
-  no-more many = rw (le-ltb records 129 many)
+  pub no-more : keptRecords ≤ records → records ≡ recordCounted records
+  unfolding recordCounted
+  no-more many = rw (le-ltb records keptRecords many)
 
-  pub not-put : (item table : List ℕ) → 129 ≤ records → table ≡ recordPut records item table
-  unfolding recordPut keptRecords
-  not-put item table many = rw (le-ltb records 129 many)
+  pub not-put : (item table : List ℕ) → keptRecords ≤ records → table ≡ recordPut records item table
+  unfolding recordPut
+  not-put item table many = rw (le-ltb records keptRecords many)
 
-pub not-set : (item : List ℕ) (at b : ℕ) → length item ≡ 33 → 33 ≤ at → item ≡ set item at b
+pub not-set : (item : List ℕ) (at b : ℕ) → length item ≡ itemBytes → itemBytes ≤ at → item ≡ set item at b
 not-set item at b long past = sym (set-out item at b (omega arith))
 
 -- a record laid behind those met
-pub record-laid : (records : ℕ) (item table r : List ℕ) → records < 129 → length item ≡ 33 → 4128 ≤ length table
-    → r ≡ take (length (take 32 (drop 1 item))) (take 32 (drop 1 item))
-    ++ drop (length (take 32 (drop 1 item))) (take (length table - records * 32) (drop (records * 32) table))
-    → take (records * 32) table ++ (r ++ drop (length table - records * 32) (drop (records * 32) table)) ≡ recordPut records item table
-unfolding recordPut keptRecords laidAt
+pub record-laid : (records : ℕ) (item table r : List ℕ) → records < keptRecords → length item ≡ itemBytes → tableBytes ≤ length table
+    → r ≡ take (length (take recordBytes (drop 1 item))) (take recordBytes (drop 1 item))
+    ++ drop (length (take recordBytes (drop 1 item))) (take (length table - records * recordBytes) (drop (records * recordBytes) table))
+    → take (records * recordBytes) table ++ (r ++ drop (length table - records * recordBytes) (drop (records * recordBytes) table)) ≡ recordPut records item table
+unfolding recordPut laidAt
 record-laid records item table r few long room is =
-    let at = records * 32 in
-    let body : take 32 (drop 1 item) ≡ drop 1 item = take-all 32 (drop 1 item) (rw length-drop (omega arith)) in
+    let at = records * recordBytes in
+    let body : take recordBytes (drop 1 item) ≡ drop 1 item = take-all recordBytes (drop 1 item) (rw length-drop (omega arith)) in
     let r-is : r ≡ drop 1 item ++ drop (length (drop 1 item)) (drop at table) = is ∙ rw (body, part-whole table at, take-length (drop 1 item)) in
-    rw (part-end table at, append-nil r, r-is, lt-ltb records 129 few)
+    rw (part-end table at, append-nil r, r-is, lt-ltb records keptRecords few)
     (ap (λ (l : List ℕ). take at table ++ (drop 1 item ++ l)) (drop-drop (length (drop 1 item)) at table))

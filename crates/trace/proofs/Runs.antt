@@ -9,23 +9,25 @@ use borrow.Author.Tests.{ne-eqb, ltb-true, ltb-false, leb-true}
 use lib.Dec.{eqb, ltb, leb}
 use lib.ListN.{length, take, drop, getD, set, length-drop}
 use lib.Seq.{drop-cons, take-suc-set, length-take-le}
+use Rattle.wire.specs.Addresses.{wordCount}
 use Rattle.wire.proofs.Over.{over-nil}
 use Rattle.line.specs.declared.Reader.{Reader}
 use Rattle.line.specs.Methods.{busy, givenByte, gave, plus, givenBytes}
 use Rattle.line.proofs.Truths.{and-left, and-right}
-use Rattle.wire.specs.Addresses.{wordCount}
 use Rattle.panel.specs.declared.Panel.{Panel}
 use Rattle.panel.specs.declared.FedBytes.{FedBytes}
 use Rattle.panel.specs.Inputs.{fedBytes}
+use Rattle.telling.specs.Memory.{Memory}
+use Rattle.telling.specs.Told.{leastText}
+use Rattle.telling.specs.Events.{askedOnce}
 use Rattle.trace.specs.declared.Trace.{Trace}
-use Rattle.trace.specs.declared.Printed.{Printed}
+use Rattle.trace.specs.declared.TracePrinted.{TracePrinted}
 use Rattle.trace.specs.declared.Took.{Took}
 use Rattle.trace.specs.declared.Answer.the-variants.{Done, NotLent}
-use Rattle.telling.specs.Told.{leastText}
-use Rattle.trace.specs.State.{withPanel, waits, isStarted, keptRecords, tableBytes, lentTo, EventLeft, leavesTrace, tracePrinting, TraceLeft, leaves, printing}
+use Rattle.trace.specs.Inner.{stepPrinting, leavesStep, StepLeft, bytePrinting, leavesByte, ByteLeft, eventPrinting, leavesEvent, EventLeft}
+use Rattle.trace.specs.State.{withPanel, waits, isStarted, tableBytes, lentTo, isLent, holds}
 use Rattle.trace.specs.Events.{tookByte}
-use Rattle.telling.specs.Events.{askedOnce}
-use Rattle.trace.specs.Steps.{lineRun, longestRun, ranBytes, tookOne, tookLines, tookInput, step, StepLeft, leavesStep, stepPrinting, steps, stepping}
+use Rattle.trace.specs.Steps.{lineRun, longestRun, ranBytes, tookOne, tookLines, tookInput, step, steps, stepping}
 
 -- two bytes at the front: a kind and a line byte
 pair-front : (input : List ℕ) (n : ℕ) → 2 * n + 1 < length input
@@ -58,54 +60,52 @@ run-zero : (input : List ℕ) → lineRun 0 input ≡ []
 unfolding lineRun
 run-zero input = refl
 
-module _ (input : List ℕ) (n : ℕ) (more : (ltb n 256 && ltb n (length input / 2)) ≡ true) where
-  pub run-room : n < 256
-  run-room = ltb-true n 256 (and-left (ltb n 256) (ltb n (length input / 2)) more)
+module _ (input : List ℕ) (n : ℕ) (more : (ltb n longestRun && ltb n (length input / 2)) ≡ true) where
+  pub run-room : n < longestRun
+  run-room = ltb-true n longestRun (and-left (ltb n longestRun) (ltb n (length input / 2)) more)
 
-  pub run-fits : n + 1 ≤ 256
+  pub run-fits : n + 1 ≤ longestRun
   run-fits = omega (arith, run-room)
 
-  pub run-less : 256 - (n + 1) < 256 - n
+  pub run-less : longestRun - (n + 1) < longestRun - n
   run-less = omega (arith, run-room)
 
   pub kind-inside : 2 * n < length input
-  kind-inside = omega (arith, ltb-true n (length input / 2) (and-right (ltb n 256) (ltb n (length input / 2)) more))
+  kind-inside = omega (arith, ltb-true n (length input / 2) (and-right (ltb n longestRun) (ltb n (length input / 2)) more))
 
   pub run-inside : 2 * n + 1 < length input
-  run-inside = omega (arith, ltb-true n (length input / 2) (and-right (ltb n 256) (ltb n (length input / 2)) more))
+  run-inside = omega (arith, ltb-true n (length input / 2) (and-right (ltb n longestRun) (ltb n (length input / 2)) more))
 
-module _ (input run : List ℕ) (n : ℕ) (so-far : lineRun 256 input ≡ take n run ++ lineRun (256 - n) (drop (2 * n) input)) where
-  module _ (more : (ltb n 256 && ltb n (length input / 2)) ≡ true) where
-    left-is : lineRun (256 - n) (drop (2 * n) input) ≡ lineRun (suc (256 - (n + 1))) (getD input (2 * n) 0 ∷ getD input (2 * n + 1) 0 ∷ drop (2 * (n + 1)) input)
+module _ (input run : List ℕ) (n : ℕ) (so-far : lineRun longestRun input ≡ take n run ++ lineRun (longestRun - n) (drop (2 * n) input)) where
+  module _ (more : (ltb n longestRun && ltb n (length input / 2)) ≡ true) where
+    left-is : lineRun (longestRun - n) (drop (2 * n) input) ≡ lineRun (suc (longestRun - (n + 1))) (getD input (2 * n) 0 ∷ getD input (2 * n + 1) 0 ∷ drop (2 * (n + 1)) input)
     left-is =
-        let a : 256 - n ≡ suc (256 - (n + 1)) = omega (arith, run-room input n more) in
-        ap (λ (m : ℕ). lineRun m (drop (2 * n) input)) a ∙ ap (λ (l : List ℕ). lineRun (suc (256 - (n + 1))) l) (pair-front input n (run-inside input n more))
+        let a : longestRun - n ≡ suc (longestRun - (n + 1)) = omega (arith, run-room input n more) in
+        ap (λ (m : ℕ). lineRun m (drop (2 * n) input)) a ∙ ap (λ (l : List ℕ). lineRun (suc (longestRun - (n + 1))) l) (pair-front input n (run-inside input n more))
 
-    pub run-more : getD input (2 * n) 0 ≡ 1 → length run ≡ 256
-        → lineRun 256 input ≡ take (n + 1) (set run n (getD input (2 * n + 1) 0)) ++ lineRun (256 - (n + 1)) (drop (2 * (n + 1)) input)
+    pub run-more : getD input (2 * n) 0 ≡ 1 → length run ≡ longestRun
+        → lineRun longestRun input ≡ take (n + 1) (set run n (getD input (2 * n + 1) 0)) ++ lineRun (longestRun - (n + 1)) (drop (2 * (n + 1)) input)
     run-more is long =
         let b = getD input (2 * n + 1) 0 in
-        let rest = lineRun (256 - (n + 1)) (drop (2 * (n + 1)) input) in
+        let rest = lineRun (longestRun - (n + 1)) (drop (2 * (n + 1)) input) in
         let a : suc n ≡ n + 1 = omega arith in
         let put : take (n + 1) (set run n b) ≡ take n run ++ (b ∷ []) = ap (λ (k : ℕ). take k (set run n b)) (sym a) ∙ take-suc-set run n b (omega (arith, run-room input n more)) in
-        so-far ∙ ap (λ (l : List ℕ). take n run ++ l) (left-is ∙ run-front (256 - (n + 1)) (getD input (2 * n) 0) b (drop (2 * (n + 1)) input) is)
+        so-far ∙ ap (λ (l : List ℕ). take n run ++ l) (left-is ∙ run-front (longestRun - (n + 1)) (getD input (2 * n) 0) b (drop (2 * (n + 1)) input) is)
         ∙ sym (append-assoc (take n run) (b ∷ []) rest)
         ∙ ap (λ (l : List ℕ). l ++ rest) (sym put)
 
     pub run-stops : (getD input (2 * n) 0 ≡ 1 → ⊥) → take n run ≡ lineRun longestRun input
-    unfolding longestRun
     run-stops other =
-        sym (so-far ∙ ap (λ (l : List ℕ). take n run ++ l) (left-is ∙ run-none (256 - (n + 1)) (getD input (2 * n) 0) (getD input (2 * n + 1) 0) (drop (2 * (n + 1)) input) other)
+        sym (so-far ∙ ap (λ (l : List ℕ). take n run ++ l) (left-is ∙ run-none (longestRun - (n + 1)) (getD input (2 * n) 0) (getD input (2 * n + 1) 0) (drop (2 * (n + 1)) input) other)
         ∙ append-nil (take n run))
 
-  pub run-ends : (ltb n 256 && ltb n (length input / 2)) ≡ false → n ≤ 256 → take n run ≡ lineRun longestRun input
-  unfolding longestRun
-  run-ends ends few = sym (so-far ∙ ap (λ (l : List ℕ). take n run ++ l) (empty (ltb n 256) refl ends) ∙ append-nil (take n run))
+  pub run-ends : (ltb n longestRun && ltb n (length input / 2)) ≡ false → n ≤ longestRun → take n run ≡ lineRun longestRun input
+  run-ends ends few = sym (so-far ∙ ap (λ (l : List ℕ). take n run ++ l) (empty (ltb n longestRun) refl ends) ∙ append-nil (take n run))
     where
-      empty : (b : Bool) → ltb n 256 ≡ b → (b && ltb n (length input / 2)) ≡ false → lineRun (256 - n) (drop (2 * n) input) ≡ []
-      empty true is ends = run-short (256 - n) (drop (2 * n) input) (rw length-drop (omega (arith, ltb-false n (length input / 2) ends)))
+      empty : (b : Bool) → ltb n longestRun ≡ b → (b && ltb n (length input / 2)) ≡ false → lineRun (longestRun - n) (drop (2 * n) input) ≡ []
+      empty true is ends = run-short (longestRun - n) (drop (2 * n) input) (rw length-drop (omega (arith, ltb-false n (length input / 2) ends)))
       empty false is ends =
-          let full : 256 - n ≡ 0 = omega (arith, ltb-false n 256 is) in
+          let full : longestRun - n ≡ 0 = omega (arith, ltb-false n longestRun is) in
           ap (λ (m : ℕ). lineRun m (drop (2 * n) input)) full ∙ run-zero (drop (2 * n) input)
 
 -- ---- A run that is given to the panel
@@ -120,7 +120,7 @@ given-within reader (b ∷ bytes) = go (busy reader) (given-within (givenByte re
     go true within = omega arith
     go false within = omega arith
 
-pub run-used : (panel : Panel) (bytes : List ℕ) (fed : FedBytes) → fed ≡ fedBytes panel bytes → length bytes ≤ 256 → fed .used ≤ 256
+pub run-used : (panel : Panel) (bytes : List ℕ) (fed : FedBytes) → fed ≡ fedBytes panel bytes → length bytes ≤ longestRun → fed .used ≤ longestRun
 unfolding fedBytes
 run-used panel bytes fed is short =
     let same : fed .used ≡ givenBytes (panel .reader) bytes .used = ap (λ (f : FedBytes). f .used) is in
@@ -133,95 +133,95 @@ run-given trace bytes fed is = ap (λ (f : FedBytes). record { trace = withPanel
 
 -- ---- One byte of the input
 
-module _ (trace : Trace) (table words room : List ℕ) where
+module _ (trace : Trace) (table : List ℕ) (memory : Memory) (room : List ℕ) where
   pub no-input : (input : List ℕ) → length input ≡ 0
-      → leavesStep (record { trace = trace; used = 0; count = 0 }) table words room ≡ stepPrinting (tookOne trace table words input) room
+      → leavesStep (record { trace = trace; used = 0; count = 0 }) table memory room ≡ stepPrinting (tookOne (holds trace table memory) input) room
   unfolding tookOne
-  no-input [] is = ap (λ (l : List ℕ). leavesStep (record { trace = trace; used = 0; count = 0 }) table words l) (sym (over-nil room))
+  no-input [] is = ap (λ (l : List ℕ). leavesStep (record { trace = trace; used = 0; count = 0 }) table memory l) (sym (over-nil room))
   no-input (b ∷ input) is = absurd (omega arith)
 
-  pub one-byte : (input : List ℕ) (done : Printed) (table′ words′ left : List ℕ) → (length input ≡ 0 → ⊥)
-      → leaves done table′ words′ left ≡ printing (tookByte trace table words (getD input 0 0)) room
-      → leavesStep (record { trace = done .trace; used = 1; count = done .count }) table′ words′ left ≡ stepPrinting (tookOne trace table words input) room
+  pub one-byte : (input : List ℕ) (done : TracePrinted) (table′ : List ℕ) (memory′ : Memory) (left : List ℕ) → (length input ≡ 0 → ⊥)
+      → leavesByte done table′ memory′ left ≡ bytePrinting (tookByte (holds trace table memory) (getD input 0 0)) room
+      → leavesStep (record { trace = done .trace; used = 1; count = done .count }) table′ memory′ left ≡ stepPrinting (tookOne (holds trace table memory) input) room
   unfolding tookOne
-  one-byte [] done table′ words′ left some e = absurd (some refl)
-  one-byte (b ∷ input) done table′ words′ left some e =
-      ap (λ (l : TraceLeft). leavesStep (record { trace = l .printed .trace; used = 1; count = l .printed .count }) (l .table) (l .words) (l .room)) e
+  one-byte [] done table′ memory′ left some e = absurd (some refl)
+  one-byte (b ∷ input) done table′ memory′ left some e =
+      ap (λ (l : ByteLeft). leavesStep (record { trace = l .printed .trace; used = 1; count = l .printed .count }) (l .table) (l .memory) (l .room)) e
 
 -- ---- A step
 
-module _ (trace : Trace) (table words room input run : List ℕ) (n : ℕ) (is-run : take n run ≡ lineRun longestRun input) where
-  pub no-lines : (took : Took) (table′ words′ left : List ℕ) → n ≡ 0
-      → leavesStep took table′ words′ left ≡ stepPrinting (tookOne trace table words input) room
-      → leavesStep took table′ words′ left ≡ stepPrinting (tookLines trace table words input) room
+module _ (trace : Trace) (table : List ℕ) (memory : Memory) (room input run : List ℕ) (n : ℕ) (is-run : take n run ≡ lineRun longestRun input) where
+  pub no-lines : (took : Took) (table′ : List ℕ) (memory′ : Memory) (left : List ℕ) → n ≡ 0
+      → leavesStep took table′ memory′ left ≡ stepPrinting (tookOne (holds trace table memory) input) room
+      → leavesStep took table′ memory′ left ≡ stepPrinting (tookLines (holds trace table memory) input) room
   unfolding tookLines
-  no-lines took table′ words′ left is e =
+  no-lines took table′ memory′ left is e =
       let none : eqb (length (lineRun longestRun input)) 0 ≡ true = ap (λ (l : List ℕ). eqb (length l) 0) (sym is-run ∙ ap (λ (k : ℕ). take k run) is) in
       rw none e
 
-  pub some-lines : (took : Took) → (n ≡ 0 → ⊥) → n ≤ 256 → length run ≡ 256 → took ≡ ranBytes trace (take (n - 0) run)
-      → leavesStep took table words room ≡ stepPrinting (tookLines trace table words input) room
+  pub some-lines : (took : Took) → (n ≡ 0 → ⊥) → n ≤ longestRun → length run ≡ longestRun → took ≡ ranBytes trace (take (n - 0) run)
+      → leavesStep took table memory room ≡ stepPrinting (tookLines (holds trace table memory) input) room
   unfolding tookLines ranBytes
   some-lines took some few long is-took =
       let long-run : length (lineRun longestRun input) ≡ n = ap length (sym is-run) ∙ length-take-le n run (omega arith) in
       let some-run : eqb (length (lineRun longestRun input)) 0 ≡ false = ne-eqb (length (lineRun longestRun input)) 0 (λ z. some (sym long-run ∙ z)) in
       let same : took ≡ ranBytes trace (lineRun longestRun input) = is-took ∙ ap (λ (k : ℕ). ranBytes trace (take k run)) (sub-zero n) ∙ ap (ranBytes trace) is-run in
       rw some-run
-      (ap (λ (t : Took). leavesStep t table words room) same
-      ∙ ap (λ (l : List ℕ). leavesStep (ranBytes trace (lineRun longestRun input)) table words l) (sym (over-nil room)))
+      (ap (λ (t : Took). leavesStep t table memory room) same
+      ∙ ap (λ (l : List ℕ). leavesStep (ranBytes trace (lineRun longestRun input)) table memory l) (sym (over-nil room)))
 
-module _ (trace : Trace) (table words room input : List ℕ) (took : Took) (table′ words′ left : List ℕ) (b : Bool) (is-b : b ≡ isStarted (trace .stage)) where
-  pub takes-lines : (b && eqb (trace .have) 0) ≡ true → leavesStep took table′ words′ left ≡ stepPrinting (tookLines trace table words input) room
-      → leavesStep took table′ words′ left ≡ stepPrinting (tookInput trace table words input) room
+module _ (trace : Trace) (table : List ℕ) (memory : Memory) (room input : List ℕ) (took : Took) (table′ : List ℕ) (memory′ : Memory) (left : List ℕ) (b : Bool) (is-b : b ≡ isStarted (trace .stage)) where
+  pub takes-lines : (b && eqb (trace .have) 0) ≡ true → leavesStep took table′ memory′ left ≡ stepPrinting (tookLines (holds trace table memory) input) room
+      → leavesStep took table′ memory′ left ≡ stepPrinting (tookInput (holds trace table memory) input) room
   unfolding tookInput
   takes-lines is e = rw (rw is-b at is) e
 
-  pub takes-one : (b && eqb (trace .have) 0) ≡ false → leavesStep took table′ words′ left ≡ stepPrinting (tookOne trace table words input) room
-      → leavesStep took table′ words′ left ≡ stepPrinting (tookInput trace table words input) room
+  pub takes-one : (b && eqb (trace .have) 0) ≡ false → leavesStep took table′ memory′ left ≡ stepPrinting (tookOne (holds trace table memory) input) room
+      → leavesStep took table′ memory′ left ≡ stepPrinting (tookInput (holds trace table memory) input) room
   unfolding tookInput
   takes-one is e = rw (rw is-b at is) e
 
-module _ (trace : Trace) (table words room input : List ℕ) (w : Bool) (is-w : w ≡ waits trace) where
-  pub hands-one : (done : Printed) (words′ left : List ℕ) → w ≡ true
-      → leavesTrace done words′ left ≡ tracePrinting trace (askedOnce (trace .panel) words) room
-      → leavesStep (record { trace = done .trace; used = 0; count = done .count }) table words′ left ≡ stepPrinting (step trace table words input) room
+module _ (trace : Trace) (table : List ℕ) (memory : Memory) (room input : List ℕ) (w : Bool) (is-w : w ≡ waits trace) where
+  pub hands-one : (done : TracePrinted) (memory′ : Memory) (left : List ℕ) → w ≡ true
+      → leavesEvent done memory′ left ≡ eventPrinting trace (askedOnce (trace .panel) memory) room
+      → leavesStep (record { trace = done .trace; used = 0; count = done .count }) table memory′ left ≡ stepPrinting (step (holds trace table memory) input) room
   unfolding step
-  hands-one done words′ left is e =
+  hands-one done memory′ left is e =
       rw (sym is-w ∙ is)
-      (ap (λ (l : EventLeft). leavesStep (record { trace = l .printed .trace; used = 0; count = l .printed .count }) table (l .words) (l .room)) e)
+      (ap (λ (l : EventLeft). leavesStep (record { trace = l .printed .trace; used = 0; count = l .printed .count }) table (l .memory) (l .room)) e)
 
-  pub takes-input : (took : Took) (table′ words′ left : List ℕ) → w ≡ false
-      → leavesStep took table′ words′ left ≡ stepPrinting (tookInput trace table words input) room
-      → leavesStep took table′ words′ left ≡ stepPrinting (step trace table words input) room
+  pub takes-input : (took : Took) (table′ : List ℕ) (memory′ : Memory) (left : List ℕ) → w ≡ false
+      → leavesStep took table′ memory′ left ≡ stepPrinting (tookInput (holds trace table memory) input) room
+      → leavesStep took table′ memory′ left ≡ stepPrinting (step (holds trace table memory) input) room
   unfolding step
-  takes-input took table′ words′ left is e = rw (sym is-w ∙ is) e
+  takes-input took table′ memory′ left is e = rw (sym is-w ∙ is) e
 
-pub lent-judged : (table words room : ℕ) → (leb 4128 table && eqb words 28672 && leb 1024 room) ≡ lentTo table words room
-unfolding lentTo tableBytes keptRecords leastText
+pub lent-judged : (table words room : ℕ) → (leb tableBytes table && eqb words wordCount && leb leastText room) ≡ lentTo table words room
+unfolding lentTo
 lent-judged table words room = refl
 
-module _ (trace : Trace) (table words room input : List ℕ) (l : Bool) (is-l : l ≡ lentTo (length table) (length words) (length room)) where
-  pub lent-steps : (took : Took) (table′ words′ left : List ℕ) → l ≡ true
-      → leavesStep took table′ words′ left ≡ stepPrinting (step trace table words input) room
-      → steps (record { answer = Done; used = took .used; count = took .count; trace = took .trace }) table′ words′ left
-      ≡ stepping trace input table words room
+module _ (trace : Trace) (table : List ℕ) (memory : Memory) (room input : List ℕ) (l : Bool) (is-l : l ≡ isLent (holds trace table memory) room) where
+  pub lent-steps : (took : Took) (table′ : List ℕ) (memory′ : Memory) (left : List ℕ) → l ≡ true
+      → leavesStep took table′ memory′ left ≡ stepPrinting (step (holds trace table memory) input) room
+      → steps (record { answer = Done; used = took .used; count = took .count; trace = took .trace }) table′ memory′ left
+      ≡ stepping (holds trace table memory) input room
   unfolding stepping
-  lent-steps took table′ words′ left is e =
+  lent-steps took table′ memory′ left is e =
       rw (sym is-l ∙ is)
-      (ap (λ (s : StepLeft). steps (record { answer = Done; used = s .took .used; count = s .took .count; trace = s .took .trace }) (s .table) (s .words) (s .room)) e)
+      (ap (λ (s : StepLeft). steps (record { answer = Done; used = s .took .used; count = s .took .count; trace = s .took .trace }) (s .table) (s .memory) (s .room)) e)
 
   pub not-lent-steps : l ≡ false
-      → steps (record { answer = NotLent; used = 0; count = 0; trace = trace }) table words room ≡ stepping trace input table words room
+      → steps (record { answer = NotLent; used = 0; count = 0; trace = trace }) table memory room ≡ stepping (holds trace table memory) input room
   unfolding stepping
   not-lent-steps is = rw (sym is-l ∙ is)
 
 -- what lent says, in numbers
 module _ (table words room : ℕ) (l : Bool) (is-l : l ≡ lentTo table words room) (is : l ≡ true) where
-  whole : (leb 4128 table && eqb words 28672 && leb 1024 room) ≡ true
+  whole : (leb tableBytes table && eqb words wordCount && leb leastText room) ≡ true
   whole = lent-judged table words room ∙ sym is-l ∙ is
 
-  pub table-lent : 4128 ≤ table
-  table-lent = leb-true 4128 table (and-left (leb 4128 table) (eqb words 28672) (and-left (leb 4128 table && eqb words 28672) (leb 1024 room) whole))
+  pub table-lent : tableBytes ≤ table
+  table-lent = leb-true tableBytes table (and-left (leb tableBytes table) (eqb words wordCount) (and-left (leb tableBytes table && eqb words wordCount) (leb leastText room) whole))
 
-  pub room-lent : 1024 ≤ room
-  room-lent = leb-true 1024 room (and-right (leb 4128 table && eqb words 28672) (leb 1024 room) whole)
+  pub room-lent : leastText ≤ room
+  room-lent = leb-true leastText room (and-right (leb tableBytes table && eqb words wordCount) (leb leastText room) whole)

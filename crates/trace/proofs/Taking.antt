@@ -10,13 +10,12 @@ use lib.Dec.{eqb, leb}
 use lib.ListN.{length, take, getD, set, length-take}
 use Rattle.wire.specs.Room.{over, Laid, lays}
 use Rattle.wire.proofs.Over.{over-nil}
-use Rattle.text.specs.declared.Line.the-variants as line
-use Rattle.text.specs.Text.{lineText}
 use Rattle.touch.specs.declared.Setup.{Setup}
 use Rattle.touch.specs.declared.Verdict.{Verdict}
 use Rattle.touch.specs.declared.Verdict.the-variants.{Good, NotRecords, Wrong}
 use Rattle.touch.specs.Setup.{goodSetup}
 use Rattle.touch.specs.Judge.{judged}
+use Rattle.touch.specs.Table.{recordBytes}
 use Rattle.touch.proofs.Tables.{thirteen-names-first}
 use Rattle.panel.specs.declared.Panel.{Panel}
 use Rattle.panel.specs.declared.Start.{Start}
@@ -24,17 +23,22 @@ use Rattle.panel.specs.declared.StartAnswer.{StartAnswer}
 use Rattle.panel.specs.declared.StartAnswer.the-variants as start
 use Rattle.panel.specs.Numbers.{startNumber}
 use Rattle.panel.specs.Start.{startJudged, started}
-use Rattle.trace.specs.declared.Trace.{Trace}
-use Rattle.trace.specs.declared.Printed.{Printed}
+use Rattle.text.specs.declared.Line.the-variants as line
+use Rattle.text.specs.Text.{lineText}
+use Rattle.telling.specs.Memory.{Memory}
 use Rattle.telling.specs.declared.PanelPrinted.{PanelPrinted}
+use Rattle.telling.specs.Inner.{prints}
+use Rattle.telling.specs.Told.{Told, PanelLeft, leavesPanel, printedIn, leastText}
+use Rattle.telling.specs.Events.{event}
 use Rattle.telling.proofs.Telling.{printed-in}
-use Rattle.telling.specs.Told.{Told, prints, PanelLeft, leavesPanel, printedIn}
-use Rattle.trace.proofs.Items.{table-part}
-use Rattle.trace.specs.State.{shows, noItem, keptRecords, tableOf, isStarted, isOver, gathering, idle, withSetup, withRecords, withPanel, stopped, EventLeft, leavesTrace, tracePrinting, leaves, printing}
+use Rattle.trace.specs.declared.Trace.{Trace}
+use Rattle.trace.specs.declared.TracePrinted.{TracePrinted}
+use Rattle.trace.specs.Inner.{bytePrinting, leavesByte, eventPrinting, leavesEvent, EventLeft}
+use Rattle.trace.specs.State.{shows, noItem, keptRecords, tableOf, isStarted, isOver, gathering, idle, withSetup, withRecords, withPanel, stopped, tableBytes, holds, fails}
 use Rattle.trace.specs.Items.{bodyLength, mayCome, setupIn, recordPut, recordCounted}
 use Rattle.trace.specs.Lines.{refusalText, wrongText}
-use Rattle.telling.specs.Events.{event}
 use Rattle.trace.specs.Events.{startedBy, eventAnswered, eventDone, itemDone, grown, tookByte}
+use Rattle.trace.proofs.Items.{table-part}
 
 -- ---- The start
 
@@ -54,7 +58,7 @@ named start.WrongSetup = 0
 named start.NotRecords = 0
 named (start.WrongRecord i) = i
 
-judged-below : (setup : Setup) (part : List ℕ) → length part ≤ 4128 → (v : Verdict) → judged setup part ≡ v → named (startJudged v setup .answer) < 256
+judged-below : (setup : Setup) (part : List ℕ) → length part ≤ tableBytes → (v : Verdict) → judged setup part ≡ v → named (startJudged v setup .answer) < 256
 unfolding named startJudged
 judged-below setup part short Good e = omega arith
 judged-below setup part short NotRecords e = omega arith
@@ -64,138 +68,138 @@ either-below : (b : Bool) (p q : Start) → named (p .answer) < 256 → named (q
 either-below true p q hp hq = hp
 either-below false p q hp hq = hq
 
-started-below : (setup : Setup) (part : List ℕ) → length part ≤ 4128 → named (started setup part .answer) < 256
+started-below : (setup : Setup) (part : List ℕ) → length part ≤ tableBytes → named (started setup part .answer) < 256
 unfolding started named
 started-below setup part short = either-below (not (goodSetup setup)) _ _ (omega arith) (judged-below setup part short (judged setup part) refl)
 
-begun-below : (trace : Trace) (part : List ℕ) → length part ≤ 4128 → named (startedBy trace part .answer) < 256
+begun-below : (trace : Trace) (part : List ℕ) → length part ≤ tableBytes → named (startedBy trace part .answer) < 256
 unfolding startedBy named
 begun-below trace part short = either-below (isStarted (trace .stage)) _ _ (omega arith) (started-below (trace .setup) part short)
 
 -- ---- An event
 
-pub started-left : (trace : Trace) (told : Told) (panel : Panel) (done : PanelPrinted) (words words′ room left : List ℕ) → 1024 ≤ length room
-    → leavesPanel done words′ left ≡ printedIn told panel words room
-    → leavesTrace (record { trace = withPanel trace (done .panel); count = done .count }) words′ left ≡ tracePrinting trace told room
-started-left trace told panel done words words′ room left wide e =
-    ap (λ (l : PanelLeft). leavesTrace (record { trace = withPanel trace (l .printed .panel); count = l .printed .count }) (l .words) (l .room))
-    (printed-in told panel words room done words′ left wide e)
+pub started-left : (trace : Trace) (told : Told) (panel : Panel) (done : PanelPrinted) (memory memory′ : Memory) (room left : List ℕ) → leastText ≤ length room
+    → leavesPanel done memory′ left ≡ printedIn told panel memory room
+    → leavesEvent (record { trace = withPanel trace (done .panel); count = done .count }) memory′ left ≡ eventPrinting trace told room
+started-left trace told panel done memory memory′ room left wide e =
+    ap (λ (l : PanelLeft). leavesEvent (record { trace = withPanel trace (l .printed .panel); count = l .printed .count }) (l .memory) (l .room))
+    (printed-in told panel memory room done memory′ left wide e)
 
 module _ (trace : Trace) (table : List ℕ) (k : ℕ) (is-k : k ≡ min (trace .records) keptRecords) (begun : Start)
-    (is-begun : begun ≡ startedBy trace (take (k * 32 - 0) table)) where
-  the-part : take (k * 32 - 0) table ≡ tableOf (trace .records) table
+    (is-begun : begun ≡ startedBy trace (take (k * recordBytes - 0) table)) where
+  the-part : take (k * recordBytes - 0) table ≡ tableOf (trace .records) table
   the-part = table-part (trace .records) table k is-k
 
-  pub wrong-below : (i : ℕ) → k ≤ 129 → begun .answer ≡ start.WrongRecord i → i < 256
+  pub wrong-below : (i : ℕ) → k ≤ keptRecords → begun .answer ≡ start.WrongRecord i → i < 256
   unfolding named
   wrong-below i few is =
-      let short : length (take (k * 32 - 0) table) ≤ 4128 = omega (arith, length-take (k * 32 - 0) table, min-le-left (k * 32 - 0) (length table)) in
-      let same : i ≡ named (startedBy trace (take (k * 32 - 0) table) .answer) = ap named (sym is) ∙ ap (λ (s : Start). named (s .answer)) is-begun in
-      omega (arith, begun-below trace (take (k * 32 - 0) table) short)
+      let short : length (take (k * recordBytes - 0) table) ≤ tableBytes = omega (arith, length-take (k * recordBytes - 0) table, min-le-left (k * recordBytes - 0) (length table)) in
+      let same : i ≡ named (startedBy trace (take (k * recordBytes - 0) table) .answer) = ap named (sym is) ∙ ap (λ (s : Start). named (s .answer)) is-begun in
+      omega (arith, begun-below trace (take (k * recordBytes - 0) table) short)
 
-  module _ (words item room : List ℕ) where
+  module _ (memory : Memory) (item room : List ℕ) where
     answered-so : (answer : StartAnswer) → begun .answer ≡ answer
-        → printing (eventAnswered answer (begun .panel) trace table words item) room ≡ printing (eventDone trace table words item) room
+        → bytePrinting (eventAnswered answer (begun .panel) (holds trace table memory) item) room ≡ bytePrinting (eventDone (holds trace table memory) item) room
     unfolding eventDone
     answered-so answer is =
-        ap (λ (a : StartAnswer). printing (eventAnswered a (begun .panel) trace table words item) room) (sym is)
-        ∙ ap (λ (s : Start). printing (eventAnswered (s .answer) (s .panel) trace table words item) room) (is-begun ∙ ap (λ (l : List ℕ). startedBy trace l) the-part)
+        ap (λ (a : StartAnswer). bytePrinting (eventAnswered a (begun .panel) (holds trace table memory) item) room) (sym is)
+        ∙ ap (λ (s : Start). bytePrinting (eventAnswered (s .answer) (s .panel) (holds trace table memory) item) room) (is-begun ∙ ap (λ (l : List ℕ). startedBy trace l) the-part)
 
-    pub event-told : (done : Printed) (words′ left : List ℕ) → begun .answer ≡ start.Started
-        → leavesTrace done words′ left ≡ tracePrinting trace (event (begun .panel) (take (k * 32 - 0) table) words item) room
-        → leaves done table words′ left ≡ printing (eventDone trace table words item) room
+    pub event-told : (done : TracePrinted) (memory′ : Memory) (left : List ℕ) → begun .answer ≡ start.Started
+        → leavesEvent done memory′ left ≡ eventPrinting trace (event (begun .panel) (take (k * recordBytes - 0) table) memory item) room
+        → leavesByte done table memory′ left ≡ bytePrinting (eventDone (holds trace table memory) item) room
     unfolding eventAnswered
-    event-told done words′ left is e =
-        ap (λ (l : EventLeft). leaves (l .printed) table (l .words) (l .room)) (rw the-part at e) ∙ answered-so start.Started is
+    event-told done memory′ left is e =
+        ap (λ (l : EventLeft). leavesByte (l .printed) table (l .memory) (l .room)) (rw the-part at e) ∙ answered-so start.Started is
 
-    module _ (done : Printed) (left : List ℕ) (is-trace : done .trace ≡ stopped trace) where
+    module _ (done : TracePrinted) (left : List ℕ) (is-trace : done .trace ≡ stopped trace) where
       stopped-left : (text : List ℕ) → lays (done .count) left ≡ prints text room
-          → leaves done table words left ≡ printing (shows (stopped trace) table words text) room
+          → leavesByte done table memory left ≡ bytePrinting (fails (holds trace table memory) text) room
       stopped-left text e =
-          ap (λ (l : Laid). leaves (record { trace = done .trace; count = l .count }) table words (l .room)) e
-          ∙ ap (λ (t : Trace). leaves (record { trace = t; count = length text }) table words (over text room)) is-trace
+          ap (λ (l : Laid). leavesByte (record { trace = done .trace; count = l .count }) table memory (l .room)) e
+          ∙ ap (λ (t : Trace). leavesByte (record { trace = t; count = length text }) table memory (over text room)) is-trace
 
       pub setup-refused : begun .answer ≡ start.WrongSetup → lays (done .count) left ≡ prints (lineText (line.Failed 11)) room
-          → leaves done table words left ≡ printing (eventDone trace table words item) room
+          → leavesByte done table memory left ≡ bytePrinting (eventDone (holds trace table memory) item) room
       unfolding eventAnswered refusalText startNumber
       setup-refused is e = stopped-left (lineText (line.Failed 11)) e ∙ answered-so start.WrongSetup is
 
       pub table-refused : begun .answer ≡ start.NotRecords → lays (done .count) left ≡ prints (lineText (line.Failed 12)) room
-          → leaves done table words left ≡ printing (eventDone trace table words item) room
+          → leavesByte done table memory left ≡ bytePrinting (eventDone (holds trace table memory) item) room
       unfolding eventAnswered refusalText startNumber
       table-refused is e = stopped-left (lineText (line.Failed 12)) e ∙ answered-so start.NotRecords is
 
       pub record-refused : (i : ℕ) → begun .answer ≡ start.WrongRecord i → lays (done .count) left ≡ prints (lineText (line.WrongRecord i)) room
-          → leaves done table words left ≡ printing (eventDone trace table words item) room
+          → leavesByte done table memory left ≡ bytePrinting (eventDone (holds trace table memory) item) room
       unfolding eventAnswered refusalText
       record-refused i is e = stopped-left (lineText (line.WrongRecord i)) e ∙ answered-so (start.WrongRecord i) is
 
 -- ---- An item that has come whole
 
-module _ (trace : Trace) (table words item room : List ℕ) where
+module _ (trace : Trace) (table : List ℕ) (memory : Memory) (item room : List ℕ) where
   quiet-left : (next : Trace) (table′ : List ℕ)
-      → leaves (record { trace = next; count = 0 }) table′ words room ≡ printing (shows next table′ words []) room
-  quiet-left next table′ = ap (λ (l : List ℕ). leaves (record { trace = next; count = 0 }) table′ words l) (sym (over-nil room))
+      → leavesByte (record { trace = next; count = 0 }) table′ memory room ≡ bytePrinting (shows (holds next table′ memory) []) room
+  quiet-left next table′ = ap (λ (l : List ℕ). leavesByte (record { trace = next; count = 0 }) table′ memory l) (sym (over-nil room))
 
   pub setup-met : (setup : Setup) → getD item 0 0 ≡ 0 → setup ≡ setupIn item
-      → leaves (record { trace = withSetup trace setup; count = 0 }) table words room ≡ printing (itemDone trace table words item) room
+      → leavesByte (record { trace = withSetup trace setup; count = 0 }) table memory room ≡ bytePrinting (itemDone (holds trace table memory) item) room
   unfolding itemDone
   setup-met setup is-kind is-setup = rw is-kind (rw (← is-setup) (quiet-left (withSetup trace setup) table))
 
   module _ (not-0 : getD item 0 0 ≡ 0 → ⊥) where
     pub record-met : (records : ℕ) (table′ : List ℕ) → getD item 0 0 ≡ 5 → records ≡ recordCounted (trace .records)
         → table′ ≡ recordPut (trace .records) item table
-        → leaves (record { trace = withRecords trace records; count = 0 }) table′ words room ≡ printing (itemDone trace table words item) room
+        → leavesByte (record { trace = withRecords trace records; count = 0 }) table′ memory room ≡ bytePrinting (itemDone (holds trace table memory) item) room
     unfolding itemDone
     record-met records table′ is-kind is-records is-table =
         rw is-kind (rw (← is-records, ← is-table) (quiet-left (withRecords trace records) table′))
 
-    pub event-met : (done : Printed) (words′ left : List ℕ) → (getD item 0 0 ≡ 5 → ⊥)
-        → leaves done table words′ left ≡ printing (eventDone trace table words item) room
-        → leaves done table words′ left ≡ printing (itemDone trace table words item) room
+    pub event-met : (done : TracePrinted) (memory′ : Memory) (left : List ℕ) → (getD item 0 0 ≡ 5 → ⊥)
+        → leavesByte done table memory′ left ≡ bytePrinting (eventDone (holds trace table memory) item) room
+        → leavesByte done table memory′ left ≡ bytePrinting (itemDone (holds trace table memory) item) room
     unfolding itemDone
-    event-met done words′ left not-5 e = rw (ne-eqb (getD item 0 0) 0 not-0, ne-eqb (getD item 0 0) 5 not-5) e
+    event-met done memory′ left not-5 e = rw (ne-eqb (getD item 0 0) 0 not-0, ne-eqb (getD item 0 0) 5 not-5) e
 
 -- ---- One byte
 
-module _ (trace : Trace) (table words room item : List ℕ) (b n : ℕ) (is-item : item ≡ set (trace .item) (trace .have) b)
+module _ (trace : Trace) (table : List ℕ) (memory : Memory) (room item : List ℕ) (b n : ℕ) (is-item : item ≡ set (trace .item) (trace .have) b)
     (is-n : n ≡ bodyLength (getD item 0 0)) where
-  pub item-whole : (done : Printed) (next : Trace) (nothing table′ words′ left : List ℕ) → n ≤ trace .have → nothing ≡ noItem → next ≡ gathering trace nothing 0
-      → leaves done table′ words′ left ≡ printing (itemDone next table words item) room
-      → leaves done table′ words′ left ≡ printing (grown trace table words b) room
+  pub item-whole : (done : TracePrinted) (next : Trace) (nothing table′ : List ℕ) (memory′ : Memory) (left : List ℕ) → n ≤ trace .have → nothing ≡ noItem → next ≡ gathering trace nothing 0
+      → leavesByte done table′ memory′ left ≡ bytePrinting (itemDone (holds next table memory) item) room
+      → leavesByte done table′ memory′ left ≡ bytePrinting (grown (holds trace table memory) b) room
   unfolding grown
-  item-whole done next nothing table′ words′ left whole is-nothing is-next e =
+  item-whole done next nothing table′ memory′ left whole is-nothing is-next e =
       let so : leb (bodyLength (getD item 0 0)) (trace .have) ≡ true = le-leb (bodyLength (getD item 0 0)) (trace .have) (omega arith) in
       let idle-is : next ≡ idle trace = is-next ∙ ap (λ (l : List ℕ). gathering trace l 0) is-nothing in
       rw (← is-item, so) (rw idle-is at e)
 
   pub item-grows : (next : Trace) → trace .have < n → next ≡ gathering trace item (trace .have + 1)
-      → leaves (record { trace = next; count = 0 }) table words room ≡ printing (grown trace table words b) room
+      → leavesByte (record { trace = next; count = 0 }) table memory room ≡ bytePrinting (grown (holds trace table memory) b) room
   unfolding grown
   item-grows next more is-next =
       let so : leb (bodyLength (getD item 0 0)) (trace .have) ≡ false = lt-leb (bodyLength (getD item 0 0)) (trace .have) (omega arith) in
-      rw (← is-item, so, is-next) (quiet-left trace table words item room (gathering trace item (trace .have + 1)) table)
+      rw (← is-item, so, is-next) (quiet-left trace table memory item room (gathering trace item (trace .have + 1)) table)
 
-module _ (trace : Trace) (table words room : List ℕ) (b : ℕ) (o : Bool) (is-o : o ≡ isOver (trace .stage)) where
-  pub over-takes : o ≡ true → leaves (record { trace = trace; count = 0 }) table words room ≡ printing (tookByte trace table words b) room
+module _ (trace : Trace) (table : List ℕ) (memory : Memory) (room : List ℕ) (b : ℕ) (o : Bool) (is-o : o ≡ isOver (trace .stage)) where
+  pub over-takes : o ≡ true → leavesByte (record { trace = trace; count = 0 }) table memory room ≡ bytePrinting (tookByte (holds trace table memory) b) room
   unfolding tookByte
-  over-takes is = rw (sym is-o ∙ is) (quiet-left trace table words [] room trace table)
+  over-takes is = rw (sym is-o ∙ is) (quiet-left trace table memory [] room trace table)
 
   module _ (going : o ≡ false) (m : Bool) (is-m : m ≡ mayCome (trace .stage) b) where
-    pub wrong-kind : (done : Printed) (left : List ℕ) → (eqb (trace .have) 0 && not m) ≡ true → done .trace ≡ stopped trace
+    pub wrong-kind : (done : TracePrinted) (left : List ℕ) → (eqb (trace .have) 0 && not m) ≡ true → done .trace ≡ stopped trace
         → lays (done .count) left ≡ prints (lineText (line.Failed 15)) room
-        → leaves done table words left ≡ printing (tookByte trace table words b) room
+        → leavesByte done table memory left ≡ bytePrinting (tookByte (holds trace table memory) b) room
     unfolding tookByte wrongText
     wrong-kind done left is is-trace e =
         let so : (eqb (trace .have) 0 && not (mayCome (trace .stage) b)) ≡ true = rw is-m at is in
         rw (sym is-o ∙ going, so)
-        (ap (λ (l : Laid). leaves (record { trace = done .trace; count = l .count }) table words (l .room)) e
-        ∙ ap (λ (t : Trace). leaves (record { trace = t; count = length (lineText (line.Failed 15)) }) table words (over (lineText (line.Failed 15)) room)) is-trace)
+        (ap (λ (l : Laid). leavesByte (record { trace = done .trace; count = l .count }) table memory (l .room)) e
+        ∙ ap (λ (t : Trace). leavesByte (record { trace = t; count = length (lineText (line.Failed 15)) }) table memory (over (lineText (line.Failed 15)) room)) is-trace)
 
-    pub right-kind : (done : Printed) (table′ words′ left : List ℕ) → (eqb (trace .have) 0 && not m) ≡ false
-        → leaves done table′ words′ left ≡ printing (grown trace table words b) room
-        → leaves done table′ words′ left ≡ printing (tookByte trace table words b) room
+    pub right-kind : (done : TracePrinted) (table′ : List ℕ) (memory′ : Memory) (left : List ℕ) → (eqb (trace .have) 0 && not m) ≡ false
+        → leavesByte done table′ memory′ left ≡ bytePrinting (grown (holds trace table memory) b) room
+        → leavesByte done table′ memory′ left ≡ bytePrinting (tookByte (holds trace table memory) b) room
     unfolding tookByte
-    right-kind done table′ words′ left is e =
+    right-kind done table′ memory′ left is e =
         let so : (eqb (trace .have) 0 && not (mayCome (trace .stage) b)) ≡ false = rw is-m at is in
         rw (sym is-o ∙ going, so) e

@@ -10,9 +10,9 @@ use Rattle.panel.specs.declared.Start.{Start}
 use Rattle.panel.specs.declared.StartAnswer.{StartAnswer}
 use Rattle.panel.specs.declared.StartAnswer.the-variants as start
 use Rattle.panel.specs.Start.{started}
+use Rattle.telling.specs.Events.{event, askedOnce}
 use Rattle.trace.specs.declared.Trace.{Trace}
-use Rattle.telling.specs.Events.{event}
-use Rattle.trace.specs.State.{Shown, shows, showsTold, tableOf, gathering, idle, withSetup, withRecords, stopped, isStarted, isOver}
+use Rattle.trace.specs.State.{Held, holds, Shown, shows, metTable, gathering, idle, withSetup, withRecords, withTrace, showsTold, fails, isStarted, isOver}
 use Rattle.trace.specs.Items.{bodyLength, mayCome, setupIn, recordPut, recordCounted}
 use Rattle.trace.specs.Lines.{refusalText, wrongText}
 
@@ -21,34 +21,47 @@ unfoldable pub startedBy : Trace → List ℕ → Start
 startedBy trace part = cond (isStarted (trace .stage)) (record { answer = start.Started; panel = trace .panel }) (started (trace .setup) part)
 
 -- "`X n` instead, where start .. fails .. and the program stops"
-unfoldable pub eventAnswered : StartAnswer → Panel → Trace → List ℕ → List ℕ → List ℕ → Shown
-eventAnswered start.Started panel trace table words item =
-    showsTold trace table (event panel (tableOf (trace .records) table) words item)
-eventAnswered start.WrongSetup panel trace table words item = shows (stopped trace) table words (refusalText start.WrongSetup)
-eventAnswered start.NotRecords panel trace table words item = shows (stopped trace) table words (refusalText start.NotRecords)
-eventAnswered (start.WrongRecord i) panel trace table words item = shows (stopped trace) table words (refusalText (start.WrongRecord i))
+unfoldable pub eventAnswered : StartAnswer → Panel → Held → List ℕ → Shown
+eventAnswered start.Started panel held item = showsTold held (event panel (metTable held) (held .memory) item)
+eventAnswered start.WrongSetup panel held item = fails held (refusalText start.WrongSetup)
+eventAnswered start.NotRecords panel held item = fails held (refusalText start.NotRecords)
+eventAnswered (start.WrongRecord i) panel held item = fails held (refusalText (start.WrongRecord i))
 
-unfoldable pub eventDone : Trace → List ℕ → List ℕ → List ℕ → Shown
-eventDone trace table words item =
-    let begun = startedBy trace (tableOf (trace .records) table) in
-    eventAnswered (begun .answer) (begun .panel) trace table words item
+unfoldable pub eventDone : Held → List ℕ → Shown
+eventDone held item =
+    let begun = startedBy (held .trace) (metTable held) in
+    eventAnswered (begun .answer) (begun .panel) held item
+
+-- a setup that has come whole, and a record
+abbrev pub metSetup : Held → List ℕ → Held
+metSetup held item = withTrace held (withSetup (held .trace) (setupIn item))
+
+abbrev pub metRecord : Held → List ℕ → Held
+metRecord held item =
+    let records = held .trace .records in
+    holds (withRecords (held .trace) (recordCounted records)) (recordPut records item (held .table)) (held .memory)
 
 -- a whole item: setup, record or event
-unfoldable pub itemDone : Trace → List ℕ → List ℕ → List ℕ → Shown
-itemDone trace table words item =
-    cond (eqb (byteAt item 0) 0) (shows (withSetup trace (setupIn item)) table words [])
-    (cond (eqb (byteAt item 0) 5) (shows (withRecords trace (recordCounted (trace .records))) (recordPut (trace .records) item table) words [])
-    (eventDone trace table words item))
+unfoldable pub itemDone : Held → List ℕ → Shown
+itemDone held item =
+    cond (eqb (byteAt item 0) 0) (shows (metSetup held item) [])
+    (cond (eqb (byteAt item 0) 5) (shows (metRecord held item) []) (eventDone held item))
 
 -- one byte more of an item: one that is whole with it is done
-unfoldable pub grown : Trace → List ℕ → List ℕ → ℕ → Shown
-grown trace table words b =
+unfoldable pub grown : Held → ℕ → Shown
+grown held b =
+    let trace = held .trace in
     let item = set (trace .item) (trace .have) b in
-    cond (leb (bodyLength (byteAt item 0)) (trace .have)) (itemDone (idle trace) table words item)
-    (shows (gathering trace item (trace .have + 1)) table words [])
+    cond (leb (bodyLength (byteAt item 0)) (trace .have)) (itemDone (withTrace held (idle trace)) item)
+    (shows (withTrace held (gathering trace item (trace .have + 1))) [])
 
 -- one byte of the input: after an X it is nothing; a kind that may not come is 15 at once
-unfoldable pub tookByte : Trace → List ℕ → List ℕ → ℕ → Shown
-tookByte trace table words b =
-    cond (isOver (trace .stage)) (shows trace table words [])
-    (cond (eqb (trace .have) 0 && not (mayCome (trace .stage) b)) (shows (stopped trace) table words wrongText) (grown trace table words b))
+unfoldable pub tookByte : Held → ℕ → Shown
+tookByte held b =
+    let trace = held .trace in
+    cond (isOver (trace .stage)) (shows held [])
+    (cond (eqb (trace .have) 0 && not (mayCome (trace .stage) b)) (fails held wrongText) (grown held b))
+
+-- one report of the panel that is asked for
+abbrev pub reportShown : Held → Shown
+reportShown held = showsTold held (askedOnce (held .trace .panel) (held .memory))

@@ -14,7 +14,7 @@ use Rattle.trace.specs.State.{keptRecords}
 
 -- "00 setup, 9 bytes ..; 01 a line byte; 02 quiet, none; 03 contact X Y, 4; 04 lift, none; 05 touch record, 32."
 unfoldable pub bodyLength : ℕ → ℕ
-bodyLength kind = cond (eqb kind 0) 9 (cond (eqb kind 1) 1 (cond (eqb kind 3) 4 (cond (eqb kind 5) 32 0)))
+bodyLength kind = cond (eqb kind 0) 9 (cond (eqb kind 1) 1 (cond (eqb kind 3) 4 (cond (eqb kind 5) recordBytes 0)))
 
 -- "Setup comes first and once, records before any event; else 15, as for .. an unknown kind or no setup."
 unfoldable pub mayCome : Stage → ℕ → Bool

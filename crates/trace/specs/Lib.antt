@@ -3,4 +3,5 @@ pub mod Items
 pub mod Lines
 pub mod Events
 pub mod Steps
+pub mod Inner
 pub mod Output

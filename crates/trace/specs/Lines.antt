@@ -1,11 +1,11 @@
 -- 01, "The trace program": the line for a start that is refused, and for a wrong trace.
 use Prim.Native.Nat.{ℕ}
 use mathlib.Core.List.{List, []}
-use Rattle.text.specs.declared.Line.the-variants as line
-use Rattle.text.specs.Text.{lineText}
 use Rattle.panel.specs.declared.StartAnswer.{StartAnswer}
 use Rattle.panel.specs.declared.StartAnswer.the-variants as start
 use Rattle.panel.specs.Numbers.{startNumber}
+use Rattle.text.specs.declared.Line.the-variants as line
+use Rattle.text.specs.Text.{lineText}
 
 -- "`X n` instead, where start or trace fails, with the record's number from 0 after 13"
 unfoldable pub refusalText : StartAnswer → List ℕ

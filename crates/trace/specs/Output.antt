@@ -5,30 +5,30 @@ use mathlib.Core.List.{List, [], _∷_, _++_}
 use lib.Dec.{eqb, leb}
 use lib.ListN.{length, replicate}
 use Rattle.wire.specs.Room.{over}
+use Rattle.frame.specs.Frame.{longestFrame}
 use Rattle.registers.specs.Touched.{pageOf}
-use Rattle.wire.specs.Addresses.{wordCount}
-use Rattle.text.specs.declared.Line.the-variants as line
-use Rattle.text.specs.Text.{lineText}
 use Rattle.panel.specs.declared.Panel.{Panel}
 use Rattle.panel.specs.declared.StartAnswer.{StartAnswer}
 use Rattle.panel.specs.declared.StartAnswer.the-variants as start
+use Rattle.text.specs.declared.Line.the-variants as line
+use Rattle.text.specs.Text.{lineText}
+use Rattle.telling.specs.Memory.{newMemory}
+use Rattle.telling.specs.Told.{leastText}
 use Rattle.trace.specs.declared.Stage.{Stage}
 use Rattle.trace.specs.declared.Stage.the-variants.{Bare, Ready, Started, Over}
 use Rattle.trace.specs.declared.Trace.{Trace}
 use Rattle.trace.specs.declared.Ended.{Ended}
 use Rattle.trace.specs.declared.Answer.the-variants.{Done, NotLent}
-use Rattle.telling.specs.Told.{leastText}
-use Rattle.trace.specs.State.{Held, holds, Shown, showsTold, following, newTrace, tableBytes, tableOf, waits}
+use Rattle.trace.specs.State.{Held, holds, Shown, shows, following, newTrace, tableBytes, tableOf, waits}
 use Rattle.trace.specs.Lines.{refusalText, wrongText}
-use Rattle.trace.specs.Events.{startedBy, tookByte}
-use Rattle.telling.specs.Events.{askedOnce}
+use Rattle.trace.specs.Events.{startedBy, tookByte, reportShown}
 
 -- "Reports are asked for after each event until 'nothing'." Each leaves fewer of the at most 258 bytes kept, so 258 are enough.
 unfoldable pub allReports : ℕ → Held → Shown
-allReports zero held = record { held = held; text = [] }
+allReports zero held = shows held []
 allReports (suc n) held =
-    let one = showsTold (held .trace) (held .table) (askedOnce (held .trace .panel) (held .words)) in
-    cond (waits (held .trace)) (following (one .text) (allReports n (one .held))) (record { held = held; text = [] })
+    let one = reportShown held in
+    cond (waits (held .trace)) (following (one .text) (allReports n (one .held))) (shows held [])
 
 -- "at the end `E pppp` the page"; "`X n` instead, where start .. fails"
 unfoldable pub endAnswered : StartAnswer → Panel → List ℕ
@@ -67,16 +67,16 @@ ending trace table room =
     (ends (record { answer = NotLent; count = 0 }) room)
 
 -- after each byte the reports; at the end the last line; nothing after an X
-unfoldable pub printed : Held → List ℕ → List ℕ
-printed held [] = endText (held .trace) (held .table)
-printed held (b ∷ input) =
-    let one = tookByte (held .trace) (held .table) (held .words) b in
-    let all = allReports 258 (one .held) in
-    one .text ++ (all .text ++ printed (all .held) input)
+unfoldable pub inputText : Held → List ℕ → List ℕ
+inputText held [] = endText (held .trace) (held .table)
+inputText held (b ∷ input) =
+    let one = tookByte held b in
+    let all = allReports longestFrame (one .held) in
+    one .text ++ (all .text ++ inputText (all .held) input)
 
--- "The words begin as 0."
+-- nothing met yet, and the memory of a new panel
 unfoldable pub newHeld : Held
-newHeld = holds newTrace (replicate tableBytes 0) (replicate wordCount 0)
+newHeld = holds newTrace (replicate tableBytes 0) newMemory
 
 unfoldable pub traceOutput : List ℕ → List ℕ
-traceOutput input = printed newHeld input
+traceOutput input = inputText newHeld input

@@ -4,52 +4,52 @@ use mathlib.Core.Bool.{Bool, true, false, _&&_}
 use mathlib.Core.List.{List, _++_}
 use lib.Dec.{eqb, leb}
 use lib.ListN.{length, take, replicate}
-use Rattle.wire.specs.Room.{over}
-use Rattle.line.specs.Methods.{busy}
 use Rattle.wire.specs.Addresses.{wordCount}
+use Rattle.line.specs.Methods.{busy}
 use Rattle.touch.specs.declared.Setup.{Setup}
 use Rattle.touch.specs.Table.{mostRecords, recordBytes}
 use Rattle.panel.specs.declared.Panel.{Panel}
 use Rattle.panel.specs.Start.{noPanel}
+use Rattle.telling.specs.Events.{itemBytes}
+use Rattle.telling.specs.Memory.{Memory}
+use Rattle.telling.specs.Told.{Told, leastText}
 use Rattle.trace.specs.declared.Stage.{Stage}
 use Rattle.trace.specs.declared.Stage.the-variants.{Bare, Ready, Started, Over}
 use Rattle.trace.specs.declared.Trace.{Trace}
-use Rattle.telling.specs.Told.{Told, leastText}
-use Rattle.trace.specs.declared.Printed.{Printed}
 
--- what a trace is and what it is lent: the table so far, and the words
+-- what a trace is and what it is lent: the table so far, and the panel's memory
 pub record Held : Type 0 where
   pub trace : Trace
   pub table : List ℕ
-  pub words : List ℕ
+  pub memory : Memory
 
-abbrev pub holds : Trace → List ℕ → List ℕ → Held
-holds trace table words = record { trace = trace; table = table; words = words }
+abbrev pub holds : Trace → List ℕ → Memory → Held
+holds trace table memory = record { trace = trace; table = table; memory = memory }
 
 -- what is held after a part of the input, and the text printed for it
 pub record Shown : Type 0 where
   pub held : Held
   pub text : List ℕ
 
-abbrev pub shows : Trace → List ℕ → List ℕ → List ℕ → Shown
-shows trace table words text = record { held = holds trace table words; text = text }
+abbrev pub shows : Held → List ℕ → Shown
+shows held text = record { held = held; text = text }
 
 -- more text before
 abbrev pub following : List ℕ → Shown → Shown
-following text shown = record { held = shown .held; text = text ++ shown .text }
+following text shown = shows (shown .held) (text ++ shown .text)
 
 -- no item is being gathered
 unfoldable pub noItem : List ℕ
-noItem = replicate 33 0
+noItem = replicate itemBytes 0
 
 -- "table longer than 128 records": one record more is kept, and that shows it; further ones need not be
-unfoldable pub keptRecords : ℕ
+abbrev pub keptRecords : ℕ
 keptRecords = mostRecords + 1
 
-unfoldable pub tableBytes : ℕ
+abbrev pub tableBytes : ℕ
 tableBytes = keptRecords * recordBytes
 
--- the table of the records met so far
+-- the table of so many records
 unfoldable pub tableOf : ℕ → List ℕ → List ℕ
 tableOf records table = take (min records keptRecords * recordBytes) table
 
@@ -85,14 +85,24 @@ abbrev pub withPanel : Trace → Panel → Trace
 withPanel trace panel =
     record { stage = Started; item = trace .item; have = trace .have; setup = trace .setup; records = trace .records; panel = panel }
 
--- what is told of the panel, of the trace it belongs to
-abbrev pub showsTold : Trace → List ℕ → Told → Shown
-showsTold trace table told = shows (withPanel trace (told .panel)) table (told .words) (told .text)
-
 -- "and the program stops"
 abbrev pub stopped : Trace → Trace
 stopped trace =
     record { stage = Over; item = trace .item; have = trace .have; setup = trace .setup; records = trace .records; panel = trace .panel }
+
+-- ---- What is held with the trace changed
+
+-- and nothing else
+abbrev pub withTrace : Held → Trace → Held
+withTrace held trace = holds trace (held .table) (held .memory)
+
+-- as what is told of the panel leaves it, and its text
+abbrev pub showsTold : Held → Told → Shown
+showsTold held told = shows (holds (withPanel (held .trace) (told .panel)) (held .table) (told .memory)) (told .text)
+
+-- "`X n` instead .. and the program stops"
+abbrev pub fails : Held → List ℕ → Shown
+fails held text = shows (withTrace held (stopped (held .trace))) text
 
 -- ---- What is asked of a trace
 
@@ -112,35 +122,13 @@ isOver Ready = false
 isOver Started = false
 isOver Over = true
 
--- what is lent: room for the table, all the words, and room for the lines of a report
+-- the table of the records met so far
+abbrev pub metTable : Held → List ℕ
+metTable held = tableOf (held .trace .records) (held .table)
+
+-- what is lent, by its lengths: room for the table, all the words, and room for the lines of a report
 unfoldable pub lentTo : (table words text : ℕ) → Bool
 lentTo table words text = leb tableBytes table && eqb words wordCount && leb leastText text
 
--- ---- Text laid over the room that is lent for it
-
--- what an event or a report leaves, and its text over the room
-pub record EventLeft : Type 0 where
-  pub printed : Printed
-  pub words : List ℕ
-  pub room : List ℕ
-
-abbrev pub leavesTrace : Printed → List ℕ → List ℕ → EventLeft
-leavesTrace printed words room = record { printed = printed; words = words; room = room }
-
-abbrev pub tracePrinting : Trace → Told → List ℕ → EventLeft
-tracePrinting trace told room =
-    leavesTrace (record { trace = withPanel trace (told .panel); count = length (told .text) }) (told .words) (over (told .text) room)
-
--- what a byte of the input leaves, the table included
-pub record TraceLeft : Type 0 where
-  pub printed : Printed
-  pub table : List ℕ
-  pub words : List ℕ
-  pub room : List ℕ
-
-abbrev pub leaves : Printed → List ℕ → List ℕ → List ℕ → TraceLeft
-leaves printed table words room = record { printed = printed; table = table; words = words; room = room }
-
-abbrev pub printing : Shown → List ℕ → TraceLeft
-printing shown room =
-    leaves (record { trace = shown .held .trace; count = length (shown .text) }) (shown .held .table) (shown .held .words) (over (shown .text) room)
+abbrev pub isLent : Held → List ℕ → Bool
+isLent held room = lentTo (length (held .table)) (length (held .memory .words)) (length room)

@@ -6,19 +6,19 @@ use lib.Dec.{eqb}
 use lib.ListN.{length}
 use Rattle.wire.specs.Room.{over}
 use Rattle.panel.specs.Inputs.{fedBytes}
+use Rattle.telling.specs.Memory.{Memory}
 use Rattle.trace.specs.declared.Trace.{Trace}
 use Rattle.trace.specs.declared.Answer.{Answer}
 use Rattle.trace.specs.declared.Answer.the-variants.{Done, NotLent}
 use Rattle.trace.specs.declared.Stepped.{Stepped}
 use Rattle.trace.specs.declared.Took.{Took}
-use Rattle.trace.specs.State.{Shown, shows, showsTold, withPanel, waits, isStarted, lentTo}
-use Rattle.telling.specs.Events.{askedOnce}
-use Rattle.trace.specs.Events.{tookByte}
+use Rattle.trace.specs.State.{Held, Shown, shows, withPanel, withTrace, waits, isStarted, isLent}
+use Rattle.trace.specs.Events.{tookByte, reportShown}
 
 -- 01's number of each answer
-unfoldable pub numberOf : Answer → ℕ
-numberOf Done = 0
-numberOf NotLent = 14
+unfoldable pub numberOfStep : Answer → ℕ
+numberOfStep Done = 0
+numberOfStep NotLent = 14
 
 -- the line bytes of the whole items of kind 01 at the front, at most so many
 unfoldable pub lineRun : ℕ → List ℕ → List ℕ
@@ -41,64 +41,47 @@ ranBytes trace bytes =
     let fed = fedBytes (trace .panel) bytes in
     record { trace = withPanel trace (fed .panel); used = fed .used * 2; count = 0 }
 
-unfoldable pub tookOne : Trace → List ℕ → List ℕ → List ℕ → Step
-tookOne trace table words [] = takes 0 (shows trace table words [])
-tookOne trace table words (b ∷ input) = takes 1 (tookByte trace table words b)
+unfoldable pub tookOne : Held → List ℕ → Step
+tookOne held [] = takes 0 (shows held [])
+tookOne held (b ∷ input) = takes 1 (tookByte held b)
 
 -- the longest run of line bytes that is given to the panel at once
-unfoldable pub longestRun : ℕ
+abbrev pub longestRun : ℕ
 longestRun = 256
 
-unfoldable pub tookLines : Trace → List ℕ → List ℕ → List ℕ → Step
-tookLines trace table words input =
+unfoldable pub tookLines : Held → List ℕ → Step
+tookLines held input =
     let bytes = lineRun longestRun input in
-    let ran = ranBytes trace bytes in
-    cond (eqb (length bytes) 0) (tookOne trace table words input) (takes (ran .used) (shows (ran .trace) table words []))
+    let ran = ranBytes (held .trace) bytes in
+    cond (eqb (length bytes) 0) (tookOne held input) (takes (ran .used) (shows (withTrace held (ran .trace)) []))
 
 -- between two items of a panel that is started, line bytes go in a run; all else byte by byte
-unfoldable pub tookInput : Trace → List ℕ → List ℕ → List ℕ → Step
-tookInput trace table words input =
-    cond (isStarted (trace .stage) && eqb (trace .have) 0) (tookLines trace table words input) (tookOne trace table words input)
+unfoldable pub tookInput : Held → List ℕ → Step
+tookInput held input = cond (isStarted (held .trace .stage) && eqb (held .trace .have) 0) (tookLines held input) (tookOne held input)
 
 -- "Reports are asked for after each event until 'nothing'."
-unfoldable pub step : Trace → List ℕ → List ℕ → List ℕ → Step
-step trace table words input = cond (waits trace) (takes 0 (showsTold trace table (askedOnce (trace .panel) words))) (tookInput trace table words input)
-
-pub record StepLeft : Type 0 where
-  pub took : Took
-  pub table : List ℕ
-  pub words : List ℕ
-  pub room : List ℕ
-
-abbrev pub leavesStep : Took → List ℕ → List ℕ → List ℕ → StepLeft
-leavesStep took table words room = record { took = took; table = table; words = words; room = room }
-
-abbrev pub stepPrinting : Step → List ℕ → StepLeft
-stepPrinting s room =
-    let shown = s .shown in
-    leavesStep
-    (record { trace = shown .held .trace; used = s .used; count = length (shown .text) })
-    (shown .held .table) (shown .held .words) (over (shown .text) room)
+unfoldable pub step : Held → List ℕ → Step
+step held input = cond (waits (held .trace)) (takes 0 (reportShown held)) (tookInput held input)
 
 -- what a call answers, and what is lent as it leaves it
 pub record Stepping : Type 0 where
   pub stepped : Stepped
   pub table : List ℕ
-  pub words : List ℕ
+  pub memory : Memory
   pub room : List ℕ
 
-abbrev pub steps : Stepped → List ℕ → List ℕ → List ℕ → Stepping
-steps stepped table words room = record { stepped = stepped; table = table; words = words; room = room }
+abbrev pub steps : Stepped → List ℕ → Memory → List ℕ → Stepping
+steps stepped table memory room = record { stepped = stepped; table = table; memory = memory; room = room }
 
 abbrev pub stepDone : Step → List ℕ → Stepping
 stepDone s room =
     let shown = s .shown in
     steps
     (record { answer = Done; used = s .used; count = length (shown .text); trace = shown .held .trace })
-    (shown .held .table) (shown .held .words) (over (shown .text) room)
+    (shown .held .table) (shown .held .memory) (over (shown .text) room)
 
 -- "otherwise a refusal changes nothing"
-unfoldable pub stepping : Trace → List ℕ → List ℕ → List ℕ → List ℕ → Stepping
-stepping trace input table words room =
-    cond (lentTo (length table) (length words) (length room)) (stepDone (step trace table words input) room)
-    (steps (record { answer = NotLent; used = 0; count = 0; trace = trace }) table words room)
+unfoldable pub stepping : Held → List ℕ → List ℕ → Stepping
+stepping held input room =
+    cond (isLent held room) (stepDone (step held input) room)
+    (steps (record { answer = NotLent; used = 0; count = 0; trace = held .trace }) (held .table) (held .memory) room)

@@ -1,0 +1,61 @@
+// What stands in the panel and in the words.
+use crate::Bench;
+use crate::say;
+use crate::script;
+use crate::sums;
+use panel::Panel;
+use registers::RegisterAddress;
+use wire::REGISTER_COUNT;
+
+fn show_register(bench: Bench) -> Bench {
+    let address = script::next_byte();
+    let panel = bench.panel;
+    say::text(b"R");
+    say::byte(address);
+    say::byte(panel.register(RegisterAddress(address)));
+    say::text(b"\n");
+    bench
+}
+
+fn show_word(bench: Bench, words: &[u16]) -> Bench {
+    let at = script::next_word();
+    say::text(b"V");
+    say::word(at);
+    if (at as usize) < words.len() {
+        say::word(words[at as usize]);
+    }
+    say::text(b"\n");
+    bench
+}
+
+fn say_registers(panel: Panel) {
+    let mut i: usize = 0;
+    while i < REGISTER_COUNT {
+        say::byte(panel.register(RegisterAddress((i % 256) as u8)));
+        i += 1;
+    }
+}
+
+fn show_all(bench: Bench, words: &[u16]) -> Bench {
+    let panel = bench.panel;
+    say::text(b"D");
+    say_registers(panel);
+    say::text(b" page");
+    say::word(panel.page());
+    say::text(b" backlight");
+    say::byte(panel.backlight());
+    say::text(b" buzzer");
+    say::byte(panel.buzzer());
+    say::text(b" words");
+    say::sum(sums::of_words(words));
+    say::text(b"\n");
+    bench
+}
+
+pub fn show(bench: Bench, letter: u8, words: &[u16]) -> Bench {
+    match letter {
+        b'R' => show_register(bench),
+        b'V' => show_word(bench, words),
+        _ => show_all(bench, words),
+    }
+}

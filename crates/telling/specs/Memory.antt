@@ -1,0 +1,21 @@
+-- What the program keeps for the panel from one call to the next, and lends it again at each. A further lent slice is a further field.
+use Prim.Native.Nat.{ℕ}
+use mathlib.Core.Path.{_≡_}
+use mathlib.Core.List.{List}
+use lib.ListN.{length, replicate}
+use Rattle.wire.specs.Addresses.{wordCount}
+
+pub record Memory : Type 0 where
+  -- "28,672 variable words .., lent by the caller as 16-bit numbers"
+  pub words : List ℕ
+
+abbrev pub remembering : List ℕ → Memory
+remembering words = record { words = words }
+
+-- "The words begin as 0."
+unfoldable pub newMemory : Memory
+newMemory = remembering (replicate wordCount 0)
+
+-- all of it is lent
+pub record Whole (memory : Memory) : Type 0 where
+  pub words : length (memory .words) ≡ wordCount

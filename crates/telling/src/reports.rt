@@ -1,0 +1,34 @@
+// A report that is asked for, and its lines.
+ghost use mathlib.Core.Path.{_≡_};
+ghost use Prim.Native.Nat.{_≤_};
+ghost use lib.ListN.{length};
+ghost use Rattle.telling.specs.Told.{leavesPanel, panelPrinting, leastText};
+ghost use Rattle.telling.specs.Events.{replyRoom, askedOnce};
+ghost use Rattle.telling.specs.Memory.{remembering};
+use crate::PanelPrinted;
+use crate::lines;
+use frame::LEAST_ROOM;
+use panel::Panel;
+
+// The room of a reply as it is lent.
+fn no_reply() -> [u8; LEAST_ROOM]
+    ensures { λ r. ⌜ r ≡ replyRoom ⌝ }
+{
+    [0u8; LEAST_ROOM]
+}
+
+// Asks for one report and prints it.
+pub fn ask_once(panel: Panel, words: &mut [u16], room: &mut [u8]) -> PanelPrinted
+    requires { ⌜ leastText ≤ length (now room) ⌝ }
+    ensures { λ r. ⌜ leavesPanel r (remembering (now (words .exit))) (now (room .exit)) ≡ panelPrinting (askedOnce panel (remembering (now (words .entry)))) (now (room .entry)) ⌝ }
+{
+    let mut reply = no_reply();
+    let done = panel.report(words, &mut reply);
+    let handed = done.handed;
+    let next = done.panel;
+    let count = lines::print_report(handed, &reply, room);
+    PanelPrinted {
+        panel: next,
+        count: count,
+    }
+}

@@ -1,0 +1,35 @@
+-- `trace::last::print_last` meets its contract.
+use borrow.Author.Needs.{needs}
+use Rattle.trace.proofs.Taking.{wrong-below}
+use Rattle.trace.proofs.Ending.{page-last, setup-last, table-last, record-last}
+use Rattle.trace.proofs.last.print_last.Statement.{statement}
+use Rattle.trace.proofs.last.print_last.Tie as tie
+
+pub print-last-spec : {M : Type 1} → statement M
+print-last-spec =
+    tie.close
+    (tie.spec
+    (λ c κs. search needs)
+    (λ c. search needs)
+    (λ c. search needs)
+    (λ c. search needs)
+    (λ c. search needs)
+    (λ c κs. search needs)
+    (λ c. search needs)
+    (λ c κs. search needs)
+    (λ c κs. search needs)
+    (λ c. search needs)
+    (λ c κs. search needs)
+    (λ c. search needs)
+    (λ c κs. search needs)
+    (λ c. search needs)
+    (λ c. search (needs, wrong-below))
+    (λ c κs. search needs)
+    (λ c. search needs)
+    (λ c. search page-last)
+    (λ c. search needs)
+    (λ c. search setup-last)
+    (λ c. search needs)
+    (λ c. search table-last)
+    (λ c. search needs)
+    (λ c. search record-last))

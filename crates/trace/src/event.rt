@@ -1,0 +1,85 @@
+// An event: the panel is started where it was not, and then told of it.
+ghost use mathlib.Core.Path.{_≡_};
+ghost use Prim.Native.Nat.{_≤_};
+ghost use lib.ListN.{length};
+ghost use Rattle.telling.specs.Told.{leastText};
+ghost use Rattle.telling.specs.Memory.{remembering};
+ghost use Rattle.telling.specs.Events.{event};
+ghost use Rattle.trace.specs.Inner.{bytePrinting, leavesByte, eventPrinting, leavesEvent};
+ghost use Rattle.trace.specs.State.{tableBytes, holds};
+ghost use Rattle.trace.specs.Events.{startedBy, eventDone};
+use crate::Stage;
+use crate::Trace;
+use crate::TracePrinted;
+use crate::lines;
+use crate::records;
+use crate::stages;
+use panel::Panel;
+use panel::Start;
+use panel::StartAnswer;
+use telling::ITEM_BYTES;
+use text::Line;
+use touch::RECORD_BYTES;
+
+// The panel with which an event or the end is answered: started now, unless it was.
+pub fn begin(trace: Trace, part: &[u8]) -> Start
+    ensures { λ r. ⌜ r ≡ startedBy trace (now (part .entry)) ⌝ }
+{
+    let stage = trace.stage;
+    if stages::is_started(stage) {
+        let panel = trace.panel;
+        return Start {
+            answer: StartAnswer::Started,
+            panel: panel,
+        };
+    }
+    Panel::start(trace.setup, part)
+}
+
+// An event of a panel that is started.
+fn started_event(
+    trace: Trace,
+    panel: Panel,
+    item: [u8; ITEM_BYTES],
+    part: &[u8],
+    words: &mut [u16],
+    room: &mut [u8],
+) -> TracePrinted
+    requires { ⌜ leastText ≤ length (now room) ⌝ }
+    ensures { λ r. ⌜ leavesEvent r (remembering (now (words .exit))) (now (room .exit)) ≡ eventPrinting trace (event panel (now (part .entry)) (remembering (now (words .entry))) item) (now (room .entry)) ⌝ }
+{
+    let done = telling::tell_event(panel, item, part, words, room);
+    let next = done.panel;
+    let stage = Stage::Started;
+    TracePrinted {
+        trace: Trace {
+            stage: stage,
+            panel: next,
+            ..trace
+        },
+        count: done.count,
+    }
+}
+
+// An event, the first of which starts the panel; where the start is refused, the trace fails.
+pub fn any_event(
+    trace: Trace,
+    item: [u8; ITEM_BYTES],
+    table: &[u8],
+    words: &mut [u16],
+    room: &mut [u8],
+) -> TracePrinted
+    requires { ⌜ (tableBytes ≤ length (now table)) × (leastText ≤ length (now room)) ⌝ }
+    ensures { λ r. ⌜ leavesByte r (now (table .entry)) (remembering (now (words .exit))) (now (room .exit)) ≡ bytePrinting (eventDone (holds trace (now (table .entry)) (remembering (now (words .entry)))) item) (now (room .entry)) ⌝ }
+{
+    let n = records::kept(trace.records) * RECORD_BYTES;
+    let begun = begin(trace, &table[0..n]);
+    let answer = begun.answer;
+    let panel = begun.panel;
+    match answer {
+        StartAnswer::Started => started_event(trace, panel, item, &table[0..n], words, room),
+        StartAnswer::WrongSetup => lines::stop(trace, Line::Failed(11), room),
+        StartAnswer::NotRecords => lines::stop(trace, Line::Failed(12), room),
+        StartAnswer::WrongRecord(i) => lines::stop(trace, Line::WrongRecord(i as u8), room),
+    }
+}

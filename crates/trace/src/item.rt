@@ -1,0 +1,71 @@
+// One item of the input: its kind, and the body whose length the kind fixes.
+ghost use mathlib.Core.Path.{_≡_};
+ghost use lib.ListN.{set};
+ghost use Rattle.trace.specs.State.{noItem, gathering};
+ghost use Rattle.trace.specs.Items.{bodyLength, setupIn};
+use crate::Trace;
+use telling::ITEM_BYTES;
+use touch::RECORD_BYTES;
+use touch::Setup;
+
+// What is gathered between two items.
+pub fn no_item() -> [u8; ITEM_BYTES]
+    ensures { λ r. ⌜ r ≡ noItem ⌝ }
+{
+    [0u8; ITEM_BYTES]
+}
+
+// How long the body of an item of this kind is.
+pub fn body_length(kind: u8) -> usize
+    ensures { λ r. ⌜ r ≡ bodyLength kind ⌝ }
+{
+    if kind == 0 {
+        return 9;
+    }
+    if kind == 1 {
+        return 1;
+    }
+    if kind == 3 {
+        return 4;
+    }
+    if kind == 5 {
+        return RECORD_BYTES;
+    }
+    0
+}
+
+// An array with one byte set, where it has that place.
+pub fn with_byte(item: [u8; ITEM_BYTES], at: usize, b: u8) -> [u8; ITEM_BYTES]
+    ensures { λ r. ⌜ r ≡ set item at b ⌝ }
+{
+    let mut next = item;
+    if at < ITEM_BYTES {
+        next[at] = b;
+    }
+    next
+}
+
+// The trace with another item, and how many of its bytes have come.
+pub fn gather(trace: Trace, item: [u8; ITEM_BYTES], have: usize) -> Trace
+    ensures { λ r. ⌜ r ≡ gathering trace item have ⌝ }
+{
+    Trace {
+        item: item,
+        have: have,
+        ..trace
+    }
+}
+
+// The setup that an item of kind 00 carries.
+pub fn setup_in(item: &[u8]) -> Setup
+    ensures { λ r. ⌜ r ≡ setupIn (now (item .entry)) ⌝ }
+{
+    Setup {
+        h1: wire::byte_at(item, 1),
+        h2: wire::byte_at(item, 2),
+        flags: wire::byte_at(item, 3),
+        pages: wire::word_at(item, 4),
+        width: wire::word_at(item, 6),
+        height: wire::word_at(item, 8),
+    }
+}

@@ -1,0 +1,30 @@
+// A report that waits.
+ghost use mathlib.Core.Path.{_≡_};
+ghost use Prim.Native.Nat.{_≤_};
+ghost use lib.ListN.{length};
+ghost use Rattle.telling.specs.Told.{leastText};
+ghost use Rattle.telling.specs.Memory.{remembering};
+ghost use Rattle.telling.specs.Events.{askedOnce};
+ghost use Rattle.trace.specs.Inner.{eventPrinting, leavesEvent};
+use crate::Stage;
+use crate::Trace;
+use crate::TracePrinted;
+
+// Asks for one report of the trace's panel.
+pub fn hand_over(trace: Trace, words: &mut [u16], room: &mut [u8]) -> TracePrinted
+    requires { ⌜ leastText ≤ length (now room) ⌝ }
+    ensures { λ r. ⌜ leavesEvent r (remembering (now (words .exit))) (now (room .exit)) ≡ eventPrinting trace (askedOnce (trace .panel) (remembering (now (words .entry)))) (now (room .entry)) ⌝ }
+{
+    let panel = trace.panel;
+    let done = telling::tell_report(panel, words, room);
+    let next = done.panel;
+    let stage = Stage::Started;
+    TracePrinted {
+        trace: Trace {
+            stage: stage,
+            panel: next,
+            ..trace
+        },
+        count: done.count,
+    }
+}
