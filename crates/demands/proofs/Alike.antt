@@ -19,7 +19,7 @@ use Rattle.demands.specs.Calls.{Moment, Call, lend, byte, bytes, mark, a
 use Rattle.demands.specs.Given.{unlessRefused, given, givenAll}
 use Rattle.demands.specs.Demand3.{ReadAlike}
 use Rattle.demands.proofs.Answers.{reportedBy}
-use Rattle.demands.proofs.Lent.{reported-words-long, reported-room-long, contacted-words-long, contacted-room-stands}
+use Rattle.panel.proofs.Lengths.{reported-words-long, reported-room-long, contacted-words-long, contacted-room-stands}
 use Rattle.commands.specs.Lent.{Lent}
 use Rattle.demands.proofs.Reading.{contact-keeps-reader, lift-keeps-reader}
 

@@ -24,7 +24,7 @@ use Rattle.demands.specs.Reports.{rulesOf, reportWaits, waitingReport}
 use Rattle.demands.specs.AsRead.{AlwaysUntilNothing}
 use Rattle.demands.proofs.Calls.{calls-reached, arises-reachable}
 use Rattle.demands.proofs.Waits.{busy-waits, sound-ask-hands}
-use Rattle.demands.proofs.Lent.{reported-words-long, reported-room-long}
+use Rattle.panel.proofs.Lengths.{reported-words-long, reported-room-long}
 use Rattle.demands.proofs.WellLent.{well-tested}
 use Rattle.demands.proofs.Reading.{ask-moves}
 

@@ -8,3 +8,4 @@ pub mod Named
 pub mod Soundness
 pub mod Invariant
 pub mod ExampleF
+pub mod Lengths

@@ -1,7 +1,7 @@
 -- Laws of `allReports`: each report leaves fewer of the bytes kept, at most as many as the longest frame has, so asking more often changes nothing.
 use mathlib.Core.Path.{_≡_, refl, sym, ap, _∙_}
 use mathlib.Core.Bool.{Bool, true, false, not, _&&_}
-use mathlib.Core.List.{List, []}
+use mathlib.Core.List.{[]}
 use Prim.Native.Nat.{ℕ, zero, suc, _-_, _≤_, _<_}
 use native.Mathlib.Omega.{arith}
 use borrow.Author.Tests.{eq-eqb, ltb-true, not-false}
@@ -9,23 +9,19 @@ use lib.Dec.{ltb}
 use lib.ListN.{length}
 use Rattle.wire.specs.Addresses.{wordCount}
 use Rattle.frame.specs.Frame.{longestFrame}
-use Rattle.reading.specs.Place.{Rules, Seen, pass, wait, bad, accepted, look, reportOf}
-use Rattle.reading.specs.Moves.{Kept, isReport, waiting, handed, afterReport}
+use Rattle.reading.specs.Moves.{Kept, waiting, afterReport}
 use Rattle.reading.proofs.Moves.{report-shorter}
 use Rattle.line.specs.declared.Line.{Line}
 use Rattle.line.specs.declared.Reader.{Reader}
-use Rattle.line.specs.declared.Report.{Report}
-use Rattle.line.specs.declared.Report.the-variants as line
 use Rattle.line.specs.declared.Asked.{Asked}
 use Rattle.line.specs.State.{rulesFor, readerOf}
 use Rattle.line.specs.Methods.{busy, isAnswer, asked}
-use Rattle.line.specs.Reached.{reportAs}
 use Rattle.line.proofs.Carried.{waiting-is, ask-carried}
-use Rattle.line.proofs.Truths.{never, and-left}
+use Rattle.line.proofs.Truths.{and-left}
 use Rattle.panel.specs.declared.Panel.{Panel}
-use Rattle.panel.specs.Reporting.{lent, handing, reporting}
+use Rattle.panel.specs.Reporting.{enough as lengths-lent, wellLent, handing, reporting}
 use Rattle.panel.specs.Sound.{lineOf, Sound}
-use Rattle.telling.specs.Memory.{Memory, Whole}
+use Rattle.telling.specs.Memory.{Memory, lentFrom, Whole}
 use Rattle.telling.specs.Events.{replyRoom, askedOnce}
 use Rattle.trace.specs.State.{Held, Shown, shows, following, waits, isStarted}
 use Rattle.trace.specs.Events.{reportShown}
@@ -34,24 +30,10 @@ use Rattle.printing.proofs.HeldSound.{HeldSound, waits-started, report-
 
 -- ---- A report that waits is handed over, and leaves fewer bytes
 
-some-report : (rules : Rules) (seen : Seen) → isReport seen ≡ true → reportAs (reportOf rules seen) ≡ line.Nothing → ⊥
-unfolding isReport reportOf reportAs
-some-report rules pass is none = never (cc)
-some-report rules wait is none = never (cc)
-some-report rules (bad body) is none = never (cc)
-some-report rules (accepted body) is none = never (cc)
-
--- with all the words lent, the reader is left as asking it leaves it
-handed-reader : (a : Asked) (report : Report) (panel : Panel) (words room : List ℕ) → (report ≡ line.Nothing → ⊥)
-    → handing a report panel words room .reported .panel .reader ≡ a .reader
-unfolding handing
-handed-reader a line.Nothing panel words room some = absurd (some refl)
-handed-reader a (line.BadCheck command) panel words room some = refl
-handed-reader a (line.Accepted command count) panel words room some = refl
-
-all-lent : (words : List ℕ) → length words ≡ wordCount → lent (length words) (length replyRoom) ≡ true
-unfolding lent replyRoom
-all-lent words long = rw (eq-eqb (length words) wordCount long)
+-- with all of the memory lent, the reader is left as asking it leaves it
+all-lent : (memory : Memory) → Whole memory → wellLent (lentFrom memory replyRoom) ≡ true
+unfolding lengths-lent replyRoom
+all-lent memory whole = rw (eq-eqb (length (memory .words)) wordCount (whole .words))
 
 module _ (panel : Panel) (memory : Memory) (sound : Sound panel) (is-busy : busy (panel .reader) ≡ true) where
   abbrev line-is : Line
@@ -66,16 +48,9 @@ module _ (panel : Panel) (memory : Memory) (sound : Sound panel) (is-busy : busy
   asked-is : asked (panel .reader) ≡ asked (readerOf line-is kept-is)
   asked-is = ap (λ (r : Reader). asked r) (sound .reads .is)
 
-  not-nothing : asked (panel .reader) .report ≡ line.Nothing → ⊥
-  unfolding waiting handed
-  not-nothing is =
-      some-report (rulesFor line-is) (look (rulesFor line-is) (kept-is .closed) (kept-is .bytes)) is-waiting
-      (sym (ap (λ (a : Asked). a .report) (asked-is ∙ ask-carried line-is kept-is (sound .reads .reached .few))) ∙ is)
-
   reader-left : Whole memory → askedOnce panel memory .panel .reader ≡ asked (panel .reader) .reader
-  unfolding askedOnce reporting
-  reader-left whole =
-      rw (all-lent (memory .words) (whole .words)) (handed-reader (asked (panel .reader)) (asked (panel .reader) .report) panel (memory .words) replyRoom not-nothing)
+  unfolding askedOnce reporting handing
+  reader-left whole = rw (all-lent memory whole)
 
   pub report-less : Whole memory → askedOnce panel memory .panel .reader .len < panel .reader .len
   report-less whole =

@@ -24,7 +24,7 @@ use Rattle.panel.specs.Inputs.{fedBytes}
 use Rattle.panel.specs.Sound.{Sound}
 use Rattle.panel.proofs.Soundness.{byte-sound, mark-sound, bytes-sound, report-sound, contact-sound, lift-sound}
 use Rattle.panel.proofs.Invariant.{started-sound}
-use Rattle.telling.specs.Memory.{Memory, newMemory, Whole}
+use Rattle.telling.specs.Memory.{Memory, newMemory, Whole, lentFrom}
 use Rattle.telling.specs.Told.{Told, tells}
 use Rattle.telling.specs.Events.{contactTold, liftTold, event, itemBytes, replyRoom, askedOnce}
 use Rattle.trace.specs.declared.Trace.{Trace}
@@ -33,7 +33,8 @@ use Rattle.trace.specs.Items.{bodyLength, mayCome, recordPut}
 use Rattle.trace.specs.Events.{startedBy, eventAnswered, eventDone, itemDone, grown, tookByte, reportShown}
 use Rattle.trace.specs.Output.{newHeld}
 use Rattle.printing.proofs.ByTest.{by-test}
-use Rattle.printing.proofs.WordLengths.{reported-words, contacted-words}
+use Rattle.panel.specs.Contacts.{Contact, contactAt}
+use Rattle.panel.proofs.Lengths.{reported-words-long, contacted-words-long}
 
 -- an item is gathered in the bytes of the longest, all 0 between two items
 pub record ItemSound (trace : Trace) : Type 0 where
@@ -95,12 +96,12 @@ record ToldSound (told : Told) : Type 0 where
   panel : Sound (told .panel)
   memory : Whole (told .memory)
 
-contact-told-sound : (panel : Panel) (table : List ℕ) (memory : Memory) (x y : ℕ) → Sound panel → Whole memory → ToldSound (contactTold panel table memory x y)
+contact-told-sound : (panel : Panel) (c : Contact) (memory : Memory) → Sound panel → Whole memory → ToldSound (contactTold panel c memory)
 unfolding contactTold
-contact-told-sound panel table memory x y sound whole =
+contact-told-sound panel c memory sound whole =
     record {
-      panel = contact-sound panel sound table (memory .words) x y;
-      memory = record { words = contacted-words panel table (memory .words) x y ∙ whole .words };
+      panel = contact-sound panel sound c (lentFrom memory []);
+      memory = record { words = contacted-words-long panel c (lentFrom memory []) ∙ whole .words };
     }
 
 event-sound : (panel : Panel) (table : List ℕ) (memory : Memory) (item : List ℕ) → Sound panel → Whole memory → Bytes item
@@ -109,15 +110,15 @@ unfolding event liftTold
 event-sound panel table memory item sound whole are =
     by-test ToldSound (eqb (byteAt item 0) 1) _ _ (λ is. record { panel = byte-sound panel sound (byteAt item 1) (are 1); memory = whole })
     (λ not-1. by-test ToldSound (eqb (byteAt item 0) 2) _ _ (λ is. record { panel = mark-sound panel sound; memory = whole })
-    (λ not-2. by-test ToldSound (eqb (byteAt item 0) 3) _ _ (λ is. contact-told-sound panel table memory (wordAt item 1) (wordAt item 3) sound whole)
+    (λ not-2. by-test ToldSound (eqb (byteAt item 0) 3) _ _ (λ is. contact-told-sound panel (contactAt table (wordAt item 1) (wordAt item 3)) memory sound whole)
     (λ not-3. record { panel = lift-sound panel sound; memory = whole })))
 
 asked-sound : (panel : Panel) (memory : Memory) → Sound panel → Whole memory → ToldSound (askedOnce panel memory)
 unfolding askedOnce
 asked-sound panel memory sound whole =
     record {
-      panel = report-sound panel sound (memory .words) replyRoom;
-      memory = record { words = reported-words panel (memory .words) replyRoom ∙ whole .words };
+      panel = report-sound panel sound (lentFrom memory replyRoom);
+      memory = record { words = reported-words-long panel (lentFrom memory replyRoom) ∙ whole .words };
     }
 
 -- a panel that a start gave is sound

@@ -1,5 +1,4 @@
 pub mod ByTest
-pub mod WordLengths
 pub mod HeldSound
 pub mod AllReports
 pub mod Outputs

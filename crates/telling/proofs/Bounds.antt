@@ -20,13 +20,16 @@ use Rattle.line.specs.declared.Asked.{Asked}
 use Rattle.line.specs.Methods.{asked}
 use Rattle.touch.specs.declared.Setup.{Setup}
 use Rattle.registers.specs.declared.Registers.{Registers}
+use Rattle.commands.specs.declared.Fixed.{Fixed}
 use Rattle.commands.specs.declared.Outcome.{Outcome}
-use Rattle.commands.specs.Effect.{isDone, replying, registersReplying, wordsReplying}
+use Rattle.commands.specs.Lent.{Lent, lending}
+use Rattle.commands.specs.Outcome.{isDone}
+use Rattle.commands.specs.Effect.{replying, registersWriting, registersReplying, wordsWriting, wordsReplying}
 use Rattle.commands.specs.Perform.{Performance, performance}
 use Rattle.panel.specs.declared.Panel.{Panel}
 use Rattle.panel.specs.declared.Reported.{Reported}
-use Rattle.panel.specs.State.{headerFor, headerOf, answering}
-use Rattle.panel.specs.Reporting.{lent, acknowledged, accepting, reports, Reporting, handing, reporting}
+use Rattle.panel.specs.State.{headerFor, headerOf, fixedFor, answering}
+use Rattle.panel.specs.Reporting.{wellLent, acknowledged, accepting, reports, Reporting, handingOver, handing, reporting}
 use Rattle.telling.specs.Inner.{acknowledgementBytes, repliedBy, acknowledgedBy}
 
 laid-at-most : (may : Bool) (bytes room : List ℕ) (n : ℕ) → length bytes ≤ n → laid may bytes room .count ≤ n
@@ -62,61 +65,61 @@ frame-at-most checking header command payload room = go (leb (length payload) (m
         (omega (arith, length-frameOf checking (headerBytes header) command payload, header-short header, leb-true (length payload) (mostData checking) is, length-most checking))
     go false is = omega arith
 
-reply-at-most : (o : Outcome) (checking : Bool) (header : Header) (command : ℕ) (payload room : List ℕ)
-    → replying o checking (headerBytes header) command payload room .replied .count ≤ longestFrame
+reply-at-most : (fixed : Fixed) (o : Outcome) (command : ℕ) (payload room : List ℕ) → replying fixed o command payload room .performed .replied ≤ longestFrame
 unfolding replying
-reply-at-most o checking header command payload room = go (isDone o)
+reply-at-most fixed o command payload room = go (isDone o)
   where
-    go : (b : Bool) → cond b (frameLaid checking (headerBytes header) command payload room) (lays 0 room) .count ≤ longestFrame
-    go true = frame-at-most checking header command payload room
+    go : (b : Bool) → cond b (frameLaid (fixed .checking) (headerBytes (fixed .header)) command payload room) (lays 0 room) .count ≤ longestFrame
+    go true = frame-at-most (fixed .checking) (fixed .header) command payload room
     go false = omega arith
 
-performance-at-most : (registers : Registers) (pages : ℕ) (checking : Bool) (header : Header) (command : ℕ) (content words room : List ℕ)
-    → performance registers pages checking (headerBytes header) command content words room .performed .count ≤ longestFrame
-unfolding performance registersReplying wordsReplying
-performance-at-most registers pages checking header command content words room =
+performance-at-most : (fixed : Fixed) (registers : Registers) (command : ℕ) (content : List ℕ) (lent : Lent)
+    → performance fixed registers command content lent .performed .replied ≤ longestFrame
+unfolding performance registersWriting registersReplying wordsWriting wordsReplying
+performance-at-most fixed registers command content lent =
     chosen (eqb command 0x80) _ _ (omega arith)
-    (chosen (eqb command 0x81) _ _ (reply-at-most _ checking header 0x81 _ room)
-    (chosen (eqb command 0x82) _ _ (omega arith) (chosen (eqb command 0x83) _ _ (reply-at-most _ checking header 0x83 _ room) (omega arith))))
+    (chosen (eqb command 0x81) _ _ (reply-at-most fixed _ 0x81 _ (lent .room))
+    (chosen (eqb command 0x82) _ _ (omega arith) (chosen (eqb command 0x83) _ _ (reply-at-most fixed _ 0x83 _ (lent .room)) (omega arith))))
   where
-    chosen : (b : Bool) (p q : Performance) → p .performed .count ≤ longestFrame → q .performed .count ≤ longestFrame → cond b p q .performed .count ≤ longestFrame
+    chosen : (b : Bool) (p q : Performance) → p .performed .replied ≤ longestFrame → q .performed .replied ≤ longestFrame → cond b p q .performed .replied ≤ longestFrame
     chosen true p q hp hq = hp
     chosen false p q hp hq = hq
 
-module _ (panel : Panel) (words room : List ℕ) where
-  handed-acknowledgement : (a : Asked) (report : Report) → acknowledgedBy (handing a report panel words room .reported .handed) ≤ acknowledgementBytes
-  unfolding handing accepting acknowledgedBy
+module _ (panel : Panel) (lent : Lent) where
+  handed-acknowledgement : (a : Asked) (report : Report) → acknowledgedBy (handing a report panel lent .reported .handed) ≤ acknowledgementBytes
+  unfolding handing handingOver accepting acknowledgedBy
   handed-acknowledgement a line.Nothing = omega arith
-  handed-acknowledgement a (line.BadCheck command) = acknowledged-short (panel .setup) command false room
-  handed-acknowledgement a (line.Accepted command count) = acknowledged-short (panel .setup) command true room
+  handed-acknowledgement a (line.BadCheck command) = acknowledged-short (panel .setup) command false (lent .room)
+  handed-acknowledgement a (line.Accepted command count) = acknowledged-short (panel .setup) command true (lent .room)
 
-  handed-reply : (a : Asked) (report : Report) → repliedBy (handing a report panel words room .reported .handed) ≤ longestFrame
-  unfolding handing accepting repliedBy
+  handed-reply : (a : Asked) (report : Report) → repliedBy (handing a report panel lent .reported .handed) ≤ longestFrame
+  unfolding handing handingOver accepting repliedBy
   handed-reply a line.Nothing = omega arith
   handed-reply a (line.BadCheck command) = omega arith
-  handed-reply a (line.Accepted command count) = performance-at-most _ _ _ (headerFor (panel .setup)) command _ words _
+  handed-reply a (line.Accepted command count) = performance-at-most (fixedFor (panel .setup)) (panel .registers) command _ _
 
-  reported-acknowledgement : acknowledgedBy (reporting panel words room .reported .handed) ≤ acknowledgementBytes
+  reported-acknowledgement : acknowledgedBy (reporting panel lent .reported .handed) ≤ acknowledgementBytes
   unfolding reporting acknowledgedBy
-  reported-acknowledgement = chosen (lent (length words) (length room)) _ _ (handed-acknowledgement (asked (panel .reader)) (asked (panel .reader) .report)) (omega arith)
+  reported-acknowledgement = chosen (wellLent lent) _ _ (handed-acknowledgement (asked (panel .reader)) (asked (panel .reader) .report)) (omega arith)
     where
       chosen : (b : Bool) (p q : Reporting) → acknowledgedBy (p .reported .handed) ≤ acknowledgementBytes → acknowledgedBy (q .reported .handed) ≤ acknowledgementBytes
           → acknowledgedBy (cond b p q .reported .handed) ≤ acknowledgementBytes
       chosen true p q hp hq = hp
       chosen false p q hp hq = hq
 
-  reported-reply : repliedBy (reporting panel words room .reported .handed) ≤ longestFrame
+  reported-reply : repliedBy (reporting panel lent .reported .handed) ≤ longestFrame
   unfolding reporting repliedBy
-  reported-reply = chosen (lent (length words) (length room)) _ _ (handed-reply (asked (panel .reader)) (asked (panel .reader) .report)) (omega arith)
+  reported-reply = chosen (wellLent lent) _ _ (handed-reply (asked (panel .reader)) (asked (panel .reader) .report)) (omega arith)
     where
       chosen : (b : Bool) (p q : Reporting) → repliedBy (p .reported .handed) ≤ longestFrame → repliedBy (q .reported .handed) ≤ longestFrame
           → repliedBy (cond b p q .reported .handed) ≤ longestFrame
       chosen true p q hp hq = hp
       chosen false p q hp hq = hq
 
-  module _ (r : Reported) (words′ room′ : List ℕ) (is : reports r words′ room′ ≡ reporting panel words room) where
+module _ (panel : Panel) (words room : List ℕ) where
+  module _ (r : Reported) (words′ room′ : List ℕ) (is : reports r (lending words′ room′) ≡ reporting panel (lending words room)) where
     pub acknowledgement-brief : acknowledgedBy (r .handed) ≤ acknowledgementBytes
-    acknowledgement-brief = rw (← ap (λ (x : Reporting). x .reported .handed) is) at reported-acknowledgement
+    acknowledgement-brief = rw (← ap (λ (x : Reporting). x .reported .handed) is) at (reported-acknowledgement panel (lending words room))
 
     pub reply-brief : repliedBy (r .handed) ≤ longestFrame
-    reply-brief = rw (← ap (λ (x : Reporting). x .reported .handed) is) at reported-reply
+    reply-brief = rw (← ap (λ (x : Reporting). x .reported .handed) is) at (reported-reply panel (lending words room))

@@ -14,7 +14,7 @@ use Rattle.panel.specs.declared.Contacted.{Contacted}
 use Rattle.panel.specs.declared.Reported.{Reported}
 use Rattle.panel.specs.Numbers.{contactNumber, liftNumber}
 use Rattle.panel.specs.Inputs.{fedByte, fedMark}
-use Rattle.panel.specs.Contacts.{Contacting, contacts, contacting, lifting}
+use Rattle.panel.specs.Contacts.{contactAt, Contacting, contacts, contacting, lifting}
 use Rattle.panel.specs.Reporting.{Reporting, reports, reporting}
 use Rattle.text.specs.declared.Line.the-variants as line
 use Rattle.text.specs.Text.{lineText}
@@ -23,7 +23,8 @@ use Rattle.telling.specs.Inner.{prints}
 use Rattle.telling.specs.Told.{Told, tells, leavesPanel, panelPrinting, leastText, printedIn}
 use Rattle.telling.specs.Lines.{reportText}
 use Rattle.telling.specs.Events.{touchText, contactTold, liftTold, event, replyRoom, askedOnce}
-use Rattle.telling.specs.Memory.{Memory, remembering}
+use Rattle.commands.specs.Lent.{lending}
+use Rattle.telling.specs.Memory.{Memory, remembering, memoryOf}
 
 pub byte-fed : (panel : Panel) (b : ℕ) (fed : Fed) → fed ≡ fedByte panel b → fed .panel ≡ fedByte panel b .panel
 byte-fed panel b fed is = ap (λ (f : Fed). f .panel) is
@@ -45,24 +46,26 @@ module _ (panel : Panel) (room left : List ℕ) (n k : ℕ) (is-text : lays k le
         ∙ ap (λ (d : Lifted). prints (lineText (line.Touch (liftNumber (d .answer)))) room) is-done
 
   module _ (table words words′ : List ℕ) (x y : ℕ) (done : Contacted)
-      (is-done : contacts (done .answer) (done .panel) words′ ≡ contacting panel table words x y) (is-n : n ≡ contactNumber (done .answer)) where
-    pub contact-printed : leavesPanel (record { panel = done .panel; count = k }) (remembering words′) left ≡ panelPrinting (contactTold panel table (remembering words) x y) room
+      (is-done : (lent : List ℕ) → contacts (done .answer) (done .panel) (lending words′ lent) ≡ contacting panel (contactAt table x y) (lending words lent))
+      (is-n : n ≡ contactNumber (done .answer)) where
+    pub contact-printed : leavesPanel (record { panel = done .panel; count = k }) (remembering words′) left
+        ≡ panelPrinting (contactTold panel (contactAt table x y) (remembering words)) room
     unfolding contactTold touchText
     contact-printed =
         told-left (done .panel) (remembering words′) (lineText (line.Touch n)) room left k is-text
         ∙ ap (λ (i : ℕ). panelPrinting (tells (done .panel) (remembering words′) (lineText (line.Touch i))) room) is-n
-        ∙ ap (λ (d : Contacting). panelPrinting (tells (d .contacted .panel) (remembering (d .words)) (lineText (line.Touch (contactNumber (d .contacted .answer))))) room) is-done
+        ∙ ap (λ (d : Contacting). panelPrinting (tells (d .contacted .panel) (memoryOf (d .lent)) (lineText (line.Touch (contactNumber (d .contacted .answer))))) room) (is-done [])
 
 pub lift-left : (panel : Panel) (done : Lifted) → done ≡ lifting panel → done .panel ≡ lifting panel .panel
 lift-left panel done is = ap (λ (d : Lifted). d .panel) is
 
 pub report-printed : (panel : Panel) (words words′ reply reply′ room left : List ℕ) (k : ℕ) (done : Reported) → reply ≡ replyRoom
-    → reports done words′ reply′ ≡ reporting panel words reply → lays k left ≡ prints (reportText (done .handed) reply′) room
+    → reports done (lending words′ reply′) ≡ reporting panel (lending words reply) → lays k left ≡ prints (reportText (done .handed) reply′) room
     → leavesPanel (record { panel = done .panel; count = k }) (remembering words′) left ≡ panelPrinting (askedOnce panel (remembering words)) room
 unfolding askedOnce
 report-printed panel words words′ reply reply′ room left k done is-reply is-done is-text =
     told-left (done .panel) (remembering words′) (reportText (done .handed) reply′) room left k is-text
-    ∙ ap (λ (r : Reporting). panelPrinting (tells (r .reported .panel) (remembering (r .words)) (reportText (r .reported .handed) (r .room))) room) (rw is-reply at is-done)
+    ∙ ap (λ (r : Reporting). panelPrinting (tells (r .reported .panel) (memoryOf (r .lent)) (reportText (r .reported .handed) (r .lent .room))) room) (rw is-reply at is-done)
 
 -- ---- An event, by its kind
 
@@ -83,7 +86,7 @@ module _ (panel : Panel) (item table room : List ℕ) (memory : Memory) where
 
     module _ (not-2 : getD item 0 0 ≡ 2 → ⊥) where
       pub event-contact : (r : PanelPrinted) (memory′ : Memory) (left : List ℕ) (x y : ℕ) → getD item 0 0 ≡ 3 → x ≡ wordAt item 1 → y ≡ wordAt item 3
-          → leavesPanel r memory′ left ≡ panelPrinting (contactTold panel table memory x y) room
+          → leavesPanel r memory′ left ≡ panelPrinting (contactTold panel (contactAt table x y) memory) room
           → leavesPanel r memory′ left ≡ panelPrinting (event panel table memory item) room
       unfolding event
       event-contact r memory′ left x y is-kind is-x is-y e = rw is-kind (rw (is-x, is-y) at e)

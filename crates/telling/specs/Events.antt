@@ -10,22 +10,23 @@ use Rattle.touch.specs.Table.{recordBytes}
 use Rattle.panel.specs.declared.Panel.{Panel}
 use Rattle.panel.specs.Numbers.{contactNumber, liftNumber}
 use Rattle.panel.specs.Inputs.{fedByte, fedMark}
-use Rattle.panel.specs.Contacts.{contacting, lifting}
+use Rattle.panel.specs.Contacts.{Contact, contactAt, contacting, lifting}
 use Rattle.panel.specs.Reporting.{reporting}
 use Rattle.text.specs.declared.Line.the-variants as line
 use Rattle.text.specs.Text.{lineText}
 use Rattle.telling.specs.Told.{Told, tells}
 use Rattle.telling.specs.Lines.{reportText}
-use Rattle.telling.specs.Memory.{Memory, remembering}
+use Rattle.telling.specs.Memory.{Memory, lentFrom, memoryOf}
 
 -- "`T r` contact or lift"
 unfoldable pub touchText : ℕ → List ℕ
 touchText number = lineText (line.Touch number)
 
-unfoldable pub contactTold : Panel → List ℕ → Memory → (x y : ℕ) → Told
-contactTold panel table memory x y =
-    let done = contacting panel table (memory .words) x y in
-    tells (done .contacted .panel) (remembering (done .words)) (touchText (contactNumber (done .contacted .answer)))
+-- a contact is lent no room
+unfoldable pub contactTold : Panel → Contact → Memory → Told
+contactTold panel c memory =
+    let done = contacting panel c (lentFrom memory []) in
+    tells (done .contacted .panel) (memoryOf (done .lent)) (touchText (contactNumber (done .contacted .answer)))
 
 unfoldable pub liftTold : Panel → Memory → Told
 liftTold panel memory = tells (lifting panel .panel) memory (touchText (liftNumber (lifting panel .answer)))
@@ -40,7 +41,7 @@ event panel table memory item =
     let kind = byteAt item 0 in
     cond (eqb kind 1) (tells (fedByte panel (byteAt item 1) .panel) memory [])
     (cond (eqb kind 2) (tells (fedMark panel .panel) memory [])
-    (cond (eqb kind 3) (contactTold panel table memory (wordAt item 1) (wordAt item 3))
+    (cond (eqb kind 3) (contactTold panel (contactAt table (wordAt item 1) (wordAt item 3)) memory)
     (liftTold panel memory)))
 
 -- the reply room of a report
@@ -50,5 +51,5 @@ replyRoom = replicate leastRoom 0
 -- one report asked for
 unfoldable pub askedOnce : Panel → Memory → Told
 askedOnce panel memory =
-    let r = reporting panel (memory .words) replyRoom in
-    tells (r .reported .panel) (remembering (r .words)) (reportText (r .reported .handed) (r .room))
+    let r = reporting panel (lentFrom memory replyRoom) in
+    tells (r .reported .panel) (memoryOf (r .lent)) (reportText (r .reported .handed) (r .lent .room))

@@ -4,6 +4,7 @@ use mathlib.Core.Path.{_≡_}
 use mathlib.Core.List.{List}
 use lib.ListN.{length, replicate}
 use Rattle.wire.specs.Addresses.{wordCount}
+use Rattle.commands.specs.Lent.{Lent, lending}
 
 pub record Memory : Type 0 where
   -- "28,672 variable words .., lent by the caller as 16-bit numbers"
@@ -11,6 +12,13 @@ pub record Memory : Type 0 where
 
 abbrev pub remembering : List ℕ → Memory
 remembering words = record { words = words }
+
+-- what a call of the panel is lent out of it, with a room for its reply, and the memory as that call leaves it
+abbrev pub lentFrom : Memory → (room : List ℕ) → Lent
+lentFrom memory room = lending (memory .words) room
+
+abbrev pub memoryOf : Lent → Memory
+memoryOf lent = remembering (lent .words)
 
 -- "The words begin as 0."
 unfoldable pub newMemory : Memory

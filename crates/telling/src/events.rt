@@ -6,6 +6,7 @@ ghost use Rattle.wire.specs.Room.{lays};
 ghost use Rattle.panel.specs.Numbers.{liftNumber};
 ghost use Rattle.panel.specs.Inputs.{fedByte, fedMark};
 ghost use Rattle.panel.specs.Contacts.{lifting};
+ghost use Rattle.panel.specs.Contacts.{contactAt};
 ghost use Rattle.telling.specs.Inner.{prints};
 ghost use Rattle.telling.specs.Told.{leavesPanel, panelPrinting, leastText};
 ghost use Rattle.telling.specs.Events.{touchText, contactTold, event};
@@ -40,7 +41,7 @@ fn do_contact(
     room: &mut [u8],
 ) -> PanelPrinted
     requires { ⌜ leastText ≤ length (now room) ⌝ }
-    ensures { λ r. ⌜ leavesPanel r (remembering (now (words .exit))) (now (room .exit)) ≡ panelPrinting (contactTold panel (now (table .entry)) (remembering (now (words .entry))) x y) (now (room .entry)) ⌝ }
+    ensures { λ r. ⌜ leavesPanel r (remembering (now (words .exit))) (now (room .exit)) ≡ panelPrinting (contactTold panel (contactAt (now (table .entry)) x y) (remembering (now (words .entry)))) (now (room .entry)) ⌝ }
 {
     let done = panel.contact(table, words, x, y);
     let answer = done.answer;
