@@ -11,10 +11,10 @@ ghost use Rattle.registers.specs.Table.{holding};
 ghost use Rattle.commands.specs.Outcome.{writeRegistersOutcome, readRegistersOutcome};
 ghost use Rattle.commands.specs.Reply.{registersReply};
 ghost use Rattle.commands.specs.Effect.{registersLeft, registersWriting, replies, registersReplying};
-use crate::outcomes;
 use crate::Fixed;
 use crate::Outcome;
 use crate::Performed;
+use crate::outcomes;
 use registers::RegisterAddress;
 use registers::Registers;
 
@@ -94,13 +94,7 @@ fn put(registers: &[u8], address: RegisterAddress, n: u8, body: &mut [u8])
 }
 
 // Lays the reply to a read that is within the end and not too long; a room that does not hold it stays.
-fn reply(
-    fixed: Fixed,
-    registers: &[u8],
-    address: RegisterAddress,
-    n: u8,
-    room: &mut [u8],
-) -> usize
+fn reply(fixed: Fixed, registers: &[u8], address: RegisterAddress, n: u8, room: &mut [u8]) -> usize
     requires { ⌜ (address .0 + n ≤ registerCount) × (2 + n ≤ mostData (fixed .checking)) ⌝ }
     ensures { λ r. ⌜ lays r (now (room .exit)) ≡ frameLaid (fixed .checking) (headerBytes (fixed .header)) 0x81 (registersReply (holding (now (registers .entry))) (address .0) n) (now (room .entry)) ⌝ }
 {

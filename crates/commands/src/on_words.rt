@@ -9,10 +9,10 @@ ghost use Rattle.frame.specs.Writer.{frameLaid};
 ghost use Rattle.commands.specs.Outcome.{writeWordsOutcome, readWordsOutcome};
 ghost use Rattle.commands.specs.Reply.{wordsReply};
 ghost use Rattle.commands.specs.Effect.{leavesWords, wordsWriting, replies, wordsReplying};
-use crate::outcomes;
 use crate::Fixed;
 use crate::Outcome;
 use crate::Performed;
+use crate::outcomes;
 use words::WordAddress;
 
 fn judge_write(end: usize, content: &[u8]) -> Outcome

@@ -3,12 +3,12 @@ ghost use mathlib.Core.Path.{_≡_};
 ghost use Rattle.registers.specs.Table.{holding};
 ghost use Rattle.commands.specs.Lent.{lending};
 ghost use Rattle.commands.specs.Perform.{performs, performance};
-use crate::on_registers;
-use crate::on_words;
-use crate::outcomes;
 use crate::Fixed;
 use crate::Outcome;
 use crate::Performed;
+use crate::on_registers;
+use crate::on_words;
+use crate::outcomes;
 
 // A command with its data takes effect on what is lent, or is refused with nothing changed; a reply is laid over the front of the room. The
 // registers are only read: what is to be written into them is answered.

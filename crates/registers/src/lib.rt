@@ -9,7 +9,6 @@ ghost use Rattle.wire.specs.Addresses.{registerCount};
 ghost use Rattle.registers.specs.Table.{holding, startRegisters, registerAt, registerRun, writable};
 ghost use Rattle.registers.specs.Touched.{pageOf, withPage, isDown, withStatus, isTouchOff, withPlace};
 ghost use Rattle.registers.specs.Run.{covers, allWritable, unwritableRun, byteFor, wrongValue, registersAfter, dropsCatch};
-
 use wire::REGISTER_COUNT;
 
 // An address of a register. It cannot stand where a word's address is meant, nor the other way round.
