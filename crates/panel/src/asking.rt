@@ -10,12 +10,12 @@ ghost use Rattle.registers.specs.Table.{holding};
 ghost use Rattle.commands.specs.Lent.{lending};
 ghost use Rattle.panel.specs.State.{fixedFor};
 ghost use Rattle.panel.specs.Reporting.{enough, acknowledged, effects, accepting, lengthOf, catchAfter, onlyHanded, acceptedOver, overs, handingOver, refused, reports, reporting};
-use crate::starting;
 use crate::Effected;
 use crate::Handed;
 use crate::HandedOver;
 use crate::Panel;
 use crate::Reported;
+use crate::starting;
 use commands::Fixed;
 use contact::Catch;
 use frame::LEAST_ROOM;
@@ -36,38 +36,23 @@ impl Panel {
         let a = reader.ask();
         let report = a.report;
         let payload = a.payload;
-        let next = a.reader;
         let setup = self.setup;
-        let done = hand_over(
-            setup,
-            &self.registers.bytes,
-            report,
-            &payload,
-            words,
-            room,
-        );
+        // a local of their own: to lend a part of self copies all of self
+        let mut registers = self.registers;
+        let next = a.reader;
+        let done = hand_over(setup, &registers.bytes, report, &payload, words, room);
         let handed = done.handed;
         let before = self.catch;
         let catch = catch_after(done.drops, before);
         if done.writes {
-            let registers = self.registers;
             let n = within(length_of(report));
-            let left = commands::registers_left(registers, &payload[..n]);
-            return Reported {
-                handed: handed,
-                payload: payload,
-                panel: Panel {
-                    setup: setup,
-                    registers: left,
-                    catch: catch,
-                    reader: next,
-                },
-            };
+            registers = commands::registers_left(registers, &payload[..n]);
         }
         Reported {
             handed: handed,
             payload: payload,
             panel: Panel {
+                registers: registers,
                 catch: catch,
                 reader: next,
                 ..self
@@ -116,12 +101,7 @@ fn acknowledge(setup: Setup, command: u8, good: bool, room: &mut [u8]) -> usize
     ensures { λ r. ⌜ lays r (now (room .exit)) ≡ acknowledged setup command good (now (room .entry)) ⌝ }
 {
     if touch::checking(setup) & touch::acknowledging(setup) {
-        frame::put_acknowledgement(
-            starting::header_for(setup),
-            command,
-            good,
-            room,
-        )
+        frame::put_acknowledgement(starting::header_for(setup), command, good, room)
     } else {
         0
     }
@@ -157,7 +137,11 @@ fn accept(
 fn within(count: usize) -> usize
     ensures { λ r. ⌜ r ≡ min count mostPayload ⌝ }
 {
-    if count < MOST_PAYLOAD { count } else { MOST_PAYLOAD }
+    if count < MOST_PAYLOAD {
+        count
+    } else {
+        MOST_PAYLOAD
+    }
 }
 
 fn catch_after(drops: bool, catch: Catch) -> Catch
@@ -227,14 +211,7 @@ fn hand_over(
         }
         Report::Accepted { command, len } => {
             let n = within(len);
-            let e = accept(
-                setup,
-                registers,
-                command,
-                &payload[..n],
-                words,
-                room,
-            );
+            let e = accept(setup, registers, command, &payload[..n], words, room);
             accepted(command, len, e)
         }
     }
