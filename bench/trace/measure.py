@@ -55,7 +55,8 @@ class Program:
 
     def seconds(self, trace):
         """What the processor spent."""
-        _, status, used = os.wait4(self.started(trace).pid, 0)
+        child = self.started(trace)  # kept: a Popen that is let go collects a child that has ended
+        _, status, used = os.wait4(child.pid, 0)
         if status:
             sys.exit(f"{self.words[-1]} ended with status {status}")
         return used.ru_utime + used.ru_stime

@@ -146,6 +146,18 @@ module _ (setup : Setup) (registers : Registers) (report : Report) (payload word
       (ap (λ (d : Effects). overs (acceptedOver command len (d .effected)) (d .lent))
       (done ∙ ap (λ (content : List ℕ). accepting setup registers command content (lending words room)) (taken-same len n payload is-n long)))
 
+-- the registers behind a report
+module _ (registers : Registers) (report : Report) (payload : List ℕ) (writes : Bool) (after : Registers) where
+  pub behind-written : (len n : ℕ) → writes ≡ true → len ≡ lengthOf report → n ≡ min len mostPayload → length payload ≡ mostPayload
+      → after ≡ registersLeft registers (take n payload)
+      → after ≡ cond writes (registersLeft registers (take (lengthOf report) payload)) registers
+  behind-written len n is is-len is-n long is-after =
+      let same : take n payload ≡ take (lengthOf report) payload = taken-same len n payload is-n long ∙ ap (λ (k : ℕ). take k payload) is-len in
+      rw (is, is-after, same)
+
+  pub behind-unwritten : writes ≡ false → after ≡ registers → after ≡ cond writes (registersLeft registers (take (lengthOf report) payload)) registers
+  behind-unwritten is is-after = rw (is, is-after)
+
 -- words or room are not what they must be
 pub refused-is : (panel : Panel) (payload : List ℕ) → payload ≡ padded mostPayload []
     → _≡_ {A = Reported} (record { handed = handed.NotLent; payload = payload; panel = panel }) (refused panel)
@@ -179,24 +191,12 @@ module _ (panel : Panel) (words room : List ℕ) (l : Bool) (is-l : l ≡ enough
     unfolding reporting handing
     behind = rw (sym is-l ∙ is) (ap (leftBehind panel a) is-o ∙ ap (λ (x : Asked). handing x (x .report) panel (lending words room)) is-a)
 
-    pub reported-stays : o .writes ≡ false
-        → reports
-        (record {
-          handed = o .handed;
-          payload = a .payload;
-          panel = record { setup = panel .setup; registers = panel .registers; catch = catch; reader = a .reader };
-        }) (lending words′ left) ≡ reporting panel (lending words room)
-    reported-stays stays = rw is-catch (rw stays at behind)
-
-    pub reported-writes : (len n : ℕ) (after : Registers) → o .writes ≡ true → len ≡ lengthOf (a .report) → n ≡ min len mostPayload
-        → length (a .payload) ≡ mostPayload → after ≡ registersLeft (panel .registers) (take n (a .payload))
+    pub reported-behind : (after : Registers)
+        → after ≡ cond (o .writes) (registersLeft (panel .registers) (take (lengthOf (a .report)) (a .payload))) (panel .registers)
         → reports
         (record {
           handed = o .handed;
           payload = a .payload;
           panel = record { setup = panel .setup; registers = after; catch = catch; reader = a .reader };
         }) (lending words′ left) ≡ reporting panel (lending words room)
-    reported-writes len n after writes is-len is-n long is-after =
-        let same : take n (a .payload) ≡ take (lengthOf (a .report)) (a .payload) =
-        taken-same len n (a .payload) is-n long ∙ ap (λ (k : ℕ). take k (a .payload)) is-len in
-        rw (is-catch, is-after, same) (rw writes at behind)
+    reported-behind after is-after = rw (is-after, is-catch) behind

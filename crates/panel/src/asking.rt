@@ -36,31 +36,23 @@ impl Panel {
         let a = reader.ask();
         let report = a.report;
         let payload = a.payload;
-        let next = a.reader;
         let setup = self.setup;
-        let done = hand_over(setup, &self.registers.bytes, report, &payload, words, room);
+        // a local of their own: to lend a part of self copies all of self
+        let mut registers = self.registers;
+        let next = a.reader;
+        let done = hand_over(setup, &registers.bytes, report, &payload, words, room);
         let handed = done.handed;
         let before = self.catch;
         let catch = catch_after(done.drops, before);
         if done.writes {
-            let registers = self.registers;
             let n = within(length_of(report));
-            let left = commands::registers_left(registers, &payload[..n]);
-            return Reported {
-                handed: handed,
-                payload: payload,
-                panel: Panel {
-                    setup: setup,
-                    registers: left,
-                    catch: catch,
-                    reader: next,
-                },
-            };
+            registers = commands::registers_left(registers, &payload[..n]);
         }
         Reported {
             handed: handed,
             payload: payload,
             panel: Panel {
+                registers: registers,
                 catch: catch,
                 reader: next,
                 ..self
