@@ -30,17 +30,21 @@ fn least(a: usize, b: usize) -> usize
     if a < b { a } else { b }
 }
 
-#[no_mangle]
-pub extern "C" fn panel_bench_stream(input: &[u8], words: &mut [u16], room: &mut [u8]) -> u64 {
-    let setup = Setup {
+// Header 5A A5 and checking on; the rest is as small as it may be.
+fn checking_setup() -> Setup {
+    Setup {
         h1: 0x5A,
         h2: 0xA5,
         flags: 1,
         pages: 1,
         width: 1,
         height: 1,
-    };
-    let started = Panel::start(setup, &input[0..0]);
+    }
+}
+
+#[no_mangle]
+pub extern "C" fn panel_bench_stream(input: &[u8], words: &mut [u16], room: &mut [u8]) -> u64 {
+    let started = Panel::start(checking_setup(), &input[0..0]);
     let mut panel = started.panel;
     let mut sum = 0u64;
     let mut i = 0usize;

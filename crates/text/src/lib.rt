@@ -116,10 +116,7 @@ pub fn put_line(line: Line, room: &mut [u8]) -> usize
             let text = [b'B', b' ', high_digit(command), low_digit(command), 10];
             put_text(&text, room)
         }
-        Line::Touch(number) => {
-            let head = [b'T', b' '];
-            put_numbered(&head, number, room)
-        }
+        Line::Touch(number) => put_numbered(b"T ", number, room),
         Line::End(page) => {
             let high = wire::high_byte(page);
             let low = wire::low_byte(page);
@@ -134,14 +131,8 @@ pub fn put_line(line: Line, room: &mut [u8]) -> usize
             ];
             put_text(&text, room)
         }
-        Line::Failed(number) => {
-            let head = [b'X', b' '];
-            put_numbered(&head, number, room)
-        }
-        Line::WrongRecord(number) => {
-            let head = [b'X', b' ', b'1', b'3', b' '];
-            put_numbered(&head, number, room)
-        }
+        Line::Failed(number) => put_numbered(b"X ", number, room),
+        Line::WrongRecord(number) => put_numbered(b"X 13 ", number, room),
     }
 }
 

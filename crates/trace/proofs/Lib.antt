@@ -1,5 +1,7 @@
 pub mod Items
+pub mod Events
 pub mod Taking
 pub mod Runs
+pub mod Steps
 pub mod Ending
 pub mod Determined

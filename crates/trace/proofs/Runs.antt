@@ -1,33 +1,22 @@
--- Laws of runs of line bytes, and of the steps that take input.
+-- Laws of runs of line bytes: how they are gathered, and given to the panel.
 use mathlib.Core.Path.{_≡_, refl, sym, ap, _∙_}
 use mathlib.Core.Bool.{Bool, true, false, cond, _&&_}
 use mathlib.Core.List.{List, [], _∷_, _++_, append-nil, append-assoc}
 use Prim.Native.Nat.{ℕ, zero, suc, _+_, _*_, _-_, _/_, _≤_, _<_}
-use native.Mathlib.Nat.{sub-zero}
 use native.Mathlib.Omega.{arith}
-use borrow.Author.Tests.{ne-eqb, ltb-true, ltb-false, leb-true}
-use lib.Dec.{eqb, ltb, leb}
+use borrow.Author.Tests.{ne-eqb, ltb-true, ltb-false}
+use lib.Dec.{ltb}
 use lib.ListN.{length, take, drop, getD, set, length-drop}
-use lib.Seq.{drop-cons, take-suc-set, length-take-le}
-use Rattle.wire.specs.Addresses.{wordCount}
-use Rattle.wire.proofs.Over.{over-nil}
+use lib.Seq.{drop-cons, take-suc-set}
 use Rattle.line.specs.declared.Reader.{Reader}
 use Rattle.line.specs.Methods.{busy, givenByte, gave, plus, givenBytes}
 use Rattle.line.proofs.Truths.{and-left, and-right}
 use Rattle.panel.specs.declared.Panel.{Panel}
 use Rattle.panel.specs.declared.FedBytes.{FedBytes}
 use Rattle.panel.specs.Inputs.{fedBytes}
-use Rattle.telling.specs.Memory.{Memory}
-use Rattle.telling.specs.Told.{leastText}
-use Rattle.telling.specs.Events.{askedOnce}
 use Rattle.trace.specs.declared.Trace.{Trace}
-use Rattle.trace.specs.declared.TracePrinted.{TracePrinted}
-use Rattle.trace.specs.declared.Took.{Took}
-use Rattle.trace.specs.declared.Answer.the-variants.{Done, NotLent}
-use Rattle.trace.specs.Inner.{stepPrinting, leavesStep, StepLeft, bytePrinting, leavesByte, ByteLeft, eventPrinting, leavesEvent, EventLeft}
-use Rattle.trace.specs.State.{withPanel, waits, isStarted, tableBytes, lentTo, isLent, holds}
-use Rattle.trace.specs.Events.{tookByte}
-use Rattle.trace.specs.Steps.{lineRun, longestRun, ranBytes, tookOne, tookLines, tookInput, step, steps, stepping}
+use Rattle.trace.specs.State.{withPanel}
+use Rattle.trace.specs.Steps.{lineRun, longestRun, ranBytes}
 
 -- two bytes at the front: a kind and a line byte
 pair-front : (input : List ℕ) (n : ℕ) → 2 * n + 1 < length input
@@ -130,98 +119,3 @@ pub run-given : (trace : Trace) (bytes : List ℕ) (fed : FedBytes) → fed ≡ 
     → record { trace = withPanel trace (fed .panel); used = fed .used * 2; count = 0 } ≡ ranBytes trace bytes
 unfolding ranBytes
 run-given trace bytes fed is = ap (λ (f : FedBytes). record { trace = withPanel trace (f .panel); used = f .used * 2; count = 0 }) is
-
--- ---- One byte of the input
-
-module _ (trace : Trace) (table : List ℕ) (memory : Memory) (room : List ℕ) where
-  pub no-input : (input : List ℕ) → length input ≡ 0
-      → leavesStep (record { trace = trace; used = 0; count = 0 }) table memory room ≡ stepPrinting (tookOne (holds trace table memory) input) room
-  unfolding tookOne
-  no-input [] is = ap (λ (l : List ℕ). leavesStep (record { trace = trace; used = 0; count = 0 }) table memory l) (sym (over-nil room))
-  no-input (b ∷ input) is = absurd (omega arith)
-
-  pub one-byte : (input : List ℕ) (done : TracePrinted) (table′ : List ℕ) (memory′ : Memory) (left : List ℕ) → (length input ≡ 0 → ⊥)
-      → leavesByte done table′ memory′ left ≡ bytePrinting (tookByte (holds trace table memory) (getD input 0 0)) room
-      → leavesStep (record { trace = done .trace; used = 1; count = done .count }) table′ memory′ left ≡ stepPrinting (tookOne (holds trace table memory) input) room
-  unfolding tookOne
-  one-byte [] done table′ memory′ left some e = absurd (some refl)
-  one-byte (b ∷ input) done table′ memory′ left some e =
-      ap (λ (l : ByteLeft). leavesStep (record { trace = l .printed .trace; used = 1; count = l .printed .count }) (l .table) (l .memory) (l .room)) e
-
--- ---- A step
-
-module _ (trace : Trace) (table : List ℕ) (memory : Memory) (room input run : List ℕ) (n : ℕ) (is-run : take n run ≡ lineRun longestRun input) where
-  pub no-lines : (took : Took) (table′ : List ℕ) (memory′ : Memory) (left : List ℕ) → n ≡ 0
-      → leavesStep took table′ memory′ left ≡ stepPrinting (tookOne (holds trace table memory) input) room
-      → leavesStep took table′ memory′ left ≡ stepPrinting (tookLines (holds trace table memory) input) room
-  unfolding tookLines
-  no-lines took table′ memory′ left is e =
-      let none : eqb (length (lineRun longestRun input)) 0 ≡ true = ap (λ (l : List ℕ). eqb (length l) 0) (sym is-run ∙ ap (λ (k : ℕ). take k run) is) in
-      rw none e
-
-  pub some-lines : (took : Took) → (n ≡ 0 → ⊥) → n ≤ longestRun → length run ≡ longestRun → took ≡ ranBytes trace (take (n - 0) run)
-      → leavesStep took table memory room ≡ stepPrinting (tookLines (holds trace table memory) input) room
-  unfolding tookLines ranBytes
-  some-lines took some few long is-took =
-      let long-run : length (lineRun longestRun input) ≡ n = ap length (sym is-run) ∙ length-take-le n run (omega arith) in
-      let some-run : eqb (length (lineRun longestRun input)) 0 ≡ false = ne-eqb (length (lineRun longestRun input)) 0 (λ z. some (sym long-run ∙ z)) in
-      let same : took ≡ ranBytes trace (lineRun longestRun input) = is-took ∙ ap (λ (k : ℕ). ranBytes trace (take k run)) (sub-zero n) ∙ ap (ranBytes trace) is-run in
-      rw some-run
-      (ap (λ (t : Took). leavesStep t table memory room) same
-      ∙ ap (λ (l : List ℕ). leavesStep (ranBytes trace (lineRun longestRun input)) table memory l) (sym (over-nil room)))
-
-module _ (trace : Trace) (table : List ℕ) (memory : Memory) (room input : List ℕ) (took : Took) (table′ : List ℕ) (memory′ : Memory) (left : List ℕ) (b : Bool) (is-b : b ≡ isStarted (trace .stage)) where
-  pub takes-lines : (b && eqb (trace .have) 0) ≡ true → leavesStep took table′ memory′ left ≡ stepPrinting (tookLines (holds trace table memory) input) room
-      → leavesStep took table′ memory′ left ≡ stepPrinting (tookInput (holds trace table memory) input) room
-  unfolding tookInput
-  takes-lines is e = rw (rw is-b at is) e
-
-  pub takes-one : (b && eqb (trace .have) 0) ≡ false → leavesStep took table′ memory′ left ≡ stepPrinting (tookOne (holds trace table memory) input) room
-      → leavesStep took table′ memory′ left ≡ stepPrinting (tookInput (holds trace table memory) input) room
-  unfolding tookInput
-  takes-one is e = rw (rw is-b at is) e
-
-module _ (trace : Trace) (table : List ℕ) (memory : Memory) (room input : List ℕ) (w : Bool) (is-w : w ≡ waits trace) where
-  pub hands-one : (done : TracePrinted) (memory′ : Memory) (left : List ℕ) → w ≡ true
-      → leavesEvent done memory′ left ≡ eventPrinting trace (askedOnce (trace .panel) memory) room
-      → leavesStep (record { trace = done .trace; used = 0; count = done .count }) table memory′ left ≡ stepPrinting (step (holds trace table memory) input) room
-  unfolding step
-  hands-one done memory′ left is e =
-      rw (sym is-w ∙ is)
-      (ap (λ (l : EventLeft). leavesStep (record { trace = l .printed .trace; used = 0; count = l .printed .count }) table (l .memory) (l .room)) e)
-
-  pub takes-input : (took : Took) (table′ : List ℕ) (memory′ : Memory) (left : List ℕ) → w ≡ false
-      → leavesStep took table′ memory′ left ≡ stepPrinting (tookInput (holds trace table memory) input) room
-      → leavesStep took table′ memory′ left ≡ stepPrinting (step (holds trace table memory) input) room
-  unfolding step
-  takes-input took table′ memory′ left is e = rw (sym is-w ∙ is) e
-
-pub lent-judged : (table words room : ℕ) → (leb tableBytes table && eqb words wordCount && leb leastText room) ≡ lentTo table words room
-unfolding lentTo
-lent-judged table words room = refl
-
-module _ (trace : Trace) (table : List ℕ) (memory : Memory) (room input : List ℕ) (l : Bool) (is-l : l ≡ isLent (holds trace table memory) room) where
-  pub lent-steps : (took : Took) (table′ : List ℕ) (memory′ : Memory) (left : List ℕ) → l ≡ true
-      → leavesStep took table′ memory′ left ≡ stepPrinting (step (holds trace table memory) input) room
-      → steps (record { answer = Done; used = took .used; count = took .count; trace = took .trace }) table′ memory′ left
-      ≡ stepping (holds trace table memory) input room
-  unfolding stepping
-  lent-steps took table′ memory′ left is e =
-      rw (sym is-l ∙ is)
-      (ap (λ (s : StepLeft). steps (record { answer = Done; used = s .took .used; count = s .took .count; trace = s .took .trace }) (s .table) (s .memory) (s .room)) e)
-
-  pub not-lent-steps : l ≡ false
-      → steps (record { answer = NotLent; used = 0; count = 0; trace = trace }) table memory room ≡ stepping (holds trace table memory) input room
-  unfolding stepping
-  not-lent-steps is = rw (sym is-l ∙ is)
-
--- what lent says, in numbers
-module _ (table words room : ℕ) (l : Bool) (is-l : l ≡ lentTo table words room) (is : l ≡ true) where
-  whole : (leb tableBytes table && eqb words wordCount && leb leastText room) ≡ true
-  whole = lent-judged table words room ∙ sym is-l ∙ is
-
-  pub table-lent : tableBytes ≤ table
-  table-lent = leb-true tableBytes table (and-left (leb tableBytes table) (eqb words wordCount) (and-left (leb tableBytes table && eqb words wordCount) (leb leastText room) whole))
-
-  pub room-lent : leastText ≤ room
-  room-lent = leb-true leastText room (and-right (leb tableBytes table && eqb words wordCount) (leb leastText room) whole)

@@ -19,6 +19,7 @@ panel-bench-stream-spec =
     (tie.spec
     Inv-loop
     μ-loop
+    (λ c κs. search needs)
     (λ c. search needs)
     (λ c. search needs)
     (λ c. search needs)
@@ -44,7 +45,7 @@ panel-bench-stream-spec =
     (λ c. search needs)
     (λ c. search needs)
     (λ c. search needs)
-    (λ c. omega (arith, c .if3 .left, c .before .before .before .before .before .before .before .before .loop .inv .0, c .before .before .before .before .before .before .before .before .before .before .before .before .before .before .before .good .0 .0))
+    (λ c. omega (arith, c .if3 .left, c .before .before .before .before .before .before .before .before .loop .inv .0, c .before .before .before .before .before .before .before .before .before .before .before .before .before .before .before .before .good .0 .0))
     (λ c. search needs)
     (λ c. search needs)
     (λ c. search needs)

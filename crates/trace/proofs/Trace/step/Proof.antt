@@ -1,6 +1,6 @@
 -- `trace::Trace::step` meets its contract.
 use borrow.Author.Needs.{needs}
-use Rattle.trace.proofs.Runs.{table-lent, room-lent, lent-steps, not-lent-steps}
+use Rattle.trace.proofs.Steps.{table-lent, room-lent, lent-steps, not-lent-steps}
 use Rattle.trace.proofs.Trace.step.Statement.{statement}
 use Rattle.trace.proofs.Trace.step.Tie as tie
 

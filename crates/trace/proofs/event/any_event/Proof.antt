@@ -1,6 +1,6 @@
 -- `trace::event::any_event` meets its contract.
 use borrow.Author.Needs.{needs}
-use Rattle.trace.proofs.Taking.{wrong-below, event-told, setup-refused, table-refused, record-refused}
+use Rattle.trace.proofs.Events.{wrong-below, event-told, setup-refused, table-refused, record-refused}
 use Rattle.trace.proofs.event.any_event.Statement.{statement}
 use Rattle.trace.proofs.event.any_event.Tie as tie
 

@@ -1,6 +1,6 @@
 -- `trace::event::begin` meets its contract.
 use borrow.Author.Needs.{needs}
-use Rattle.trace.proofs.Taking.{begun-before, begun-now}
+use Rattle.trace.proofs.Events.{begun-before, begun-now}
 use Rattle.trace.proofs.event.begin.Statement.{statement}
 use Rattle.trace.proofs.event.begin.Tie as tie
 

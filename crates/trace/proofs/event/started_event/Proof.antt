@@ -1,6 +1,6 @@
 -- `trace::event::started_event` meets its contract.
 use borrow.Author.Needs.{needs}
-use Rattle.trace.proofs.Taking.{started-left}
+use Rattle.trace.proofs.Events.{started-left}
 use Rattle.trace.proofs.event.started_event.Statement.{statement}
 use Rattle.trace.proofs.event.started_event.Tie as tie
 

@@ -1,6 +1,6 @@
 -- `trace::last::print_last` meets its contract.
 use borrow.Author.Needs.{needs}
-use Rattle.trace.proofs.Taking.{wrong-below}
+use Rattle.trace.proofs.Events.{wrong-below}
 use Rattle.trace.proofs.Ending.{page-last, setup-last, table-last, record-last}
 use Rattle.trace.proofs.last.print_last.Statement.{statement}
 use Rattle.trace.proofs.last.print_last.Tie as tie

@@ -1,6 +1,6 @@
 -- `trace::report::hand_over` meets its contract.
 use borrow.Author.Needs.{needs}
-use Rattle.trace.proofs.Taking.{started-left}
+use Rattle.trace.proofs.Events.{started-left}
 use Rattle.trace.proofs.report.hand_over.Statement.{statement}
 use Rattle.trace.proofs.report.hand_over.Tie as tie
 

@@ -1,5 +1,5 @@
 -- `trace::step::is_lent` meets its contract.
-use Rattle.trace.proofs.Runs.{lent-judged}
+use Rattle.trace.proofs.Steps.{lent-judged}
 use Rattle.trace.proofs.step.is_lent.Statement.{statement}
 use Rattle.trace.proofs.step.is_lent.Tie as tie
 

@@ -1,6 +1,6 @@
 -- `trace::step::take_input` meets its contract.
 use borrow.Author.Needs.{needs}
-use Rattle.trace.proofs.Runs.{takes-lines, takes-one}
+use Rattle.trace.proofs.Steps.{takes-lines, takes-one}
 use Rattle.trace.proofs.step.take_input.Statement.{statement}
 use Rattle.trace.proofs.step.take_input.Tie as tie
 

@@ -1,6 +1,6 @@
 -- `trace::step::take_lines` meets its contract.
 use borrow.Author.Needs.{needs}
-use Rattle.trace.proofs.Runs.{no-lines, some-lines}
+use Rattle.trace.proofs.Steps.{no-lines, some-lines}
 use Rattle.trace.proofs.step.take_lines.Statement.{statement}
 use Rattle.trace.proofs.step.take_lines.Tie as tie
 

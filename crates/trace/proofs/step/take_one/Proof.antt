@@ -1,6 +1,6 @@
 -- `trace::step::take_one` meets its contract.
 use borrow.Author.Needs.{needs}
-use Rattle.trace.proofs.Runs.{no-input, one-byte}
+use Rattle.trace.proofs.Steps.{no-input, one-byte}
 use Rattle.trace.proofs.step.take_one.Statement.{statement}
 use Rattle.trace.proofs.step.take_one.Tie as tie
 

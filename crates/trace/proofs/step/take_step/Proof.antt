@@ -1,6 +1,6 @@
 -- `trace::step::take_step` meets its contract.
 use borrow.Author.Needs.{needs}
-use Rattle.trace.proofs.Runs.{hands-one, takes-input}
+use Rattle.trace.proofs.Steps.{hands-one, takes-input}
 use Rattle.trace.proofs.step.take_step.Statement.{statement}
 use Rattle.trace.proofs.step.take_step.Tie as tie
 

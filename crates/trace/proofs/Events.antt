@@ -1,0 +1,131 @@
+-- Laws of the start and of an event: one for each way the code answers.
+use mathlib.Core.Path.{_≡_, refl, sym, ap, _∙_}
+use mathlib.Core.Bool.{Bool, true, false, cond, not}
+use mathlib.Core.List.{List}
+use Prim.Native.Nat.{ℕ, _*_, _-_, _≤_, _<_, min}
+use native.Mathlib.Nat.{min-le-left}
+use native.Mathlib.Omega.{arith}
+use lib.ListN.{length, take, length-take}
+use Rattle.wire.specs.Room.{over, Laid, lays}
+use Rattle.touch.specs.declared.Setup.{Setup}
+use Rattle.touch.specs.declared.Verdict.{Verdict}
+use Rattle.touch.specs.declared.Verdict.the-variants.{Good, NotRecords, Wrong}
+use Rattle.touch.specs.Setup.{goodSetup}
+use Rattle.touch.specs.Judge.{judged}
+use Rattle.touch.specs.Table.{recordBytes}
+use Rattle.touch.proofs.Tables.{thirteen-names-first}
+use Rattle.panel.specs.declared.Panel.{Panel}
+use Rattle.panel.specs.declared.Start.{Start}
+use Rattle.panel.specs.declared.StartAnswer.{StartAnswer}
+use Rattle.panel.specs.declared.StartAnswer.the-variants as start
+use Rattle.panel.specs.Numbers.{startNumber}
+use Rattle.panel.specs.Start.{startJudged, started}
+use Rattle.text.specs.declared.Line.the-variants as line
+use Rattle.text.specs.Text.{lineText}
+use Rattle.telling.specs.Memory.{Memory}
+use Rattle.telling.specs.declared.PanelPrinted.{PanelPrinted}
+use Rattle.telling.specs.Inner.{prints}
+use Rattle.telling.specs.Told.{Told, PanelLeft, leavesPanel, printedIn, leastText}
+use Rattle.telling.specs.Events.{event}
+use Rattle.telling.proofs.Telling.{printed-in}
+use Rattle.trace.specs.declared.Trace.{Trace}
+use Rattle.trace.specs.declared.TracePrinted.{TracePrinted}
+use Rattle.trace.specs.Inner.{bytePrinting, leavesByte, eventPrinting, leavesEvent, EventLeft}
+use Rattle.trace.specs.State.{keptRecords, tableOf, isStarted, withPanel, stopped, tableBytes, holds, fails}
+use Rattle.trace.specs.Lines.{refusalText}
+use Rattle.trace.specs.Events.{startedBy, eventAnswered, eventDone}
+use Rattle.trace.proofs.Items.{table-part}
+
+-- ---- The start
+
+module _ (trace : Trace) (part : List ℕ) (b : Bool) (is-b : b ≡ isStarted (trace .stage)) where
+  pub begun-before : b ≡ true → record { answer = start.Started; panel = trace .panel } ≡ startedBy trace part
+  unfolding startedBy
+  begun-before is = rw (sym is-b ∙ is)
+
+  pub begun-now : (s : Start) → b ≡ false → s ≡ started (trace .setup) part → s ≡ startedBy trace part
+  unfolding startedBy
+  begun-now s is e = rw (sym is-b ∙ is) e
+
+-- the record that a start names, 0 where it names none
+unfoldable named : StartAnswer → ℕ
+named start.Started = 0
+named start.WrongSetup = 0
+named start.NotRecords = 0
+named (start.WrongRecord i) = i
+
+judged-below : (setup : Setup) (part : List ℕ) → length part ≤ tableBytes → (v : Verdict) → judged setup part ≡ v → named (startJudged v setup .answer) < 256
+unfolding named startJudged
+judged-below setup part short Good e = omega arith
+judged-below setup part short NotRecords e = omega arith
+judged-below setup part short (Wrong i) e = omega (arith, thirteen-names-first setup part i e .1 .0)
+
+either-below : (b : Bool) (p q : Start) → named (p .answer) < 256 → named (q .answer) < 256 → named (cond b p q .answer) < 256
+either-below true p q hp hq = hp
+either-below false p q hp hq = hq
+
+started-below : (setup : Setup) (part : List ℕ) → length part ≤ tableBytes → named (started setup part .answer) < 256
+unfolding started named
+started-below setup part short = either-below (not (goodSetup setup)) _ _ (omega arith) (judged-below setup part short (judged setup part) refl)
+
+begun-below : (trace : Trace) (part : List ℕ) → length part ≤ tableBytes → named (startedBy trace part .answer) < 256
+unfolding startedBy named
+begun-below trace part short = either-below (isStarted (trace .stage)) _ _ (omega arith) (started-below (trace .setup) part short)
+
+-- ---- An event
+
+pub started-left : (trace : Trace) (told : Told) (panel : Panel) (done : PanelPrinted) (memory memory′ : Memory) (room left : List ℕ) → leastText ≤ length room
+    → leavesPanel done memory′ left ≡ printedIn told panel memory room
+    → leavesEvent (record { trace = withPanel trace (done .panel); count = done .count }) memory′ left ≡ eventPrinting trace told room
+started-left trace told panel done memory memory′ room left wide e =
+    ap (λ (l : PanelLeft). leavesEvent (record { trace = withPanel trace (l .printed .panel); count = l .printed .count }) (l .memory) (l .room))
+    (printed-in told panel memory room done memory′ left wide e)
+
+module _ (trace : Trace) (table : List ℕ) (k : ℕ) (is-k : k ≡ min (trace .records) keptRecords) (begun : Start)
+    (is-begun : begun ≡ startedBy trace (take (k * recordBytes - 0) table)) where
+  the-part : take (k * recordBytes - 0) table ≡ tableOf (trace .records) table
+  the-part = table-part (trace .records) table k is-k
+
+  pub wrong-below : (i : ℕ) → k ≤ keptRecords → begun .answer ≡ start.WrongRecord i → i < 256
+  unfolding named
+  wrong-below i few is =
+      let short : length (take (k * recordBytes - 0) table) ≤ tableBytes = omega (arith, length-take (k * recordBytes - 0) table, min-le-left (k * recordBytes - 0) (length table)) in
+      let same : i ≡ named (startedBy trace (take (k * recordBytes - 0) table) .answer) = ap named (sym is) ∙ ap (λ (s : Start). named (s .answer)) is-begun in
+      omega (arith, begun-below trace (take (k * recordBytes - 0) table) short)
+
+  module _ (memory : Memory) (item room : List ℕ) where
+    answered-so : (answer : StartAnswer) → begun .answer ≡ answer
+        → bytePrinting (eventAnswered answer (begun .panel) (holds trace table memory) item) room ≡ bytePrinting (eventDone (holds trace table memory) item) room
+    unfolding eventDone
+    answered-so answer is =
+        ap (λ (a : StartAnswer). bytePrinting (eventAnswered a (begun .panel) (holds trace table memory) item) room) (sym is)
+        ∙ ap (λ (s : Start). bytePrinting (eventAnswered (s .answer) (s .panel) (holds trace table memory) item) room) (is-begun ∙ ap (λ (l : List ℕ). startedBy trace l) the-part)
+
+    pub event-told : (done : TracePrinted) (memory′ : Memory) (left : List ℕ) → begun .answer ≡ start.Started
+        → leavesEvent done memory′ left ≡ eventPrinting trace (event (begun .panel) (take (k * recordBytes - 0) table) memory item) room
+        → leavesByte done table memory′ left ≡ bytePrinting (eventDone (holds trace table memory) item) room
+    unfolding eventAnswered
+    event-told done memory′ left is e =
+        ap (λ (l : EventLeft). leavesByte (l .printed) table (l .memory) (l .room)) (rw the-part at e) ∙ answered-so start.Started is
+
+    module _ (done : TracePrinted) (left : List ℕ) (is-trace : done .trace ≡ stopped trace) where
+      stopped-left : (text : List ℕ) → lays (done .count) left ≡ prints text room
+          → leavesByte done table memory left ≡ bytePrinting (fails (holds trace table memory) text) room
+      stopped-left text e =
+          ap (λ (l : Laid). leavesByte (record { trace = done .trace; count = l .count }) table memory (l .room)) e
+          ∙ ap (λ (t : Trace). leavesByte (record { trace = t; count = length text }) table memory (over text room)) is-trace
+
+      pub setup-refused : begun .answer ≡ start.WrongSetup → lays (done .count) left ≡ prints (lineText (line.Failed 11)) room
+          → leavesByte done table memory left ≡ bytePrinting (eventDone (holds trace table memory) item) room
+      unfolding eventAnswered refusalText startNumber
+      setup-refused is e = stopped-left (lineText (line.Failed 11)) e ∙ answered-so start.WrongSetup is
+
+      pub table-refused : begun .answer ≡ start.NotRecords → lays (done .count) left ≡ prints (lineText (line.Failed 12)) room
+          → leavesByte done table memory left ≡ bytePrinting (eventDone (holds trace table memory) item) room
+      unfolding eventAnswered refusalText startNumber
+      table-refused is e = stopped-left (lineText (line.Failed 12)) e ∙ answered-so start.NotRecords is
+
+      pub record-refused : (i : ℕ) → begun .answer ≡ start.WrongRecord i → lays (done .count) left ≡ prints (lineText (line.WrongRecord i)) room
+          → leavesByte done table memory left ≡ bytePrinting (eventDone (holds trace table memory) item) room
+      unfolding eventAnswered refusalText
+      record-refused i is e = stopped-left (lineText (line.WrongRecord i)) e ∙ answered-so (start.WrongRecord i) is
