@@ -21,6 +21,7 @@ use Rattle.demands.proofs.Numbers as Numbers
 use Rattle.demands.proofs.TableNumbers as TableNumbers
 use Rattle.demands.proofs.FirstNumber as FirstNumber
 use Rattle.demands.proofs.Refusals.{call-refused}
+use Rattle.demands.proofs.WriterRefused.{refused-writer-room}
 
 -- "No sequence of line bytes, quiet marks, contacts, lifts, tables or lent buffers can put the panel into an undefined act or an unending one.": the
 -- checker takes no function that it has not proved to be safe and to end on every input. What every panel keeps besides, whatever the sequence:
@@ -67,3 +68,8 @@ refusal-leaves-all-else now arises call fits = call-refused now (arises-reachabl
 -- "A refused start gives no panel."
 pub refused-start-gives-no-panel : (setup : Setup) (table : List ℕ) → 0 < startNumber (started setup table .answer) → started setup table .panel ≡ noPanel
 refused-start-gives-no-panel = refused-start-gives-none
+
+-- frame writer: "it refuses with 14, then 3", and "a refusal changes nothing": the room is left as it was lent
+pub refused-writer-leaves-its-room : (checking : Bool) (header : List ℕ) (command : ℕ) (payload room : List ℕ)
+    → 0 < Writer.numberOfWritten (writing checking header command payload room .answer) → writing checking header command payload room .room ≡ room
+refused-writer-leaves-its-room = refused-writer-room
