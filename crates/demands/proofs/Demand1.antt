@@ -17,6 +17,8 @@ use Rattle.panel.proofs.Refusals.{refused-start-gives-none}
 use Rattle.demands.specs.Calls.{Moment, Call, numberGiven, Typed, Arises}
 use Rattle.demands.specs.Demand1.{firstNumber, GivenUnder, printed, printedStart, printedWriter, NamesFirstWrong, RefusalLeaves}
 use Rattle.demands.proofs.Calls.{arises-reachable}
+use Rattle.demands.specs.Done.{DoneExactly}
+use Rattle.demands.proofs.Done.{done-exactly, printed-above, start-above, writer-above}
 use Rattle.demands.proofs.Numbers as Numbers
 use Rattle.demands.proofs.TableNumbers as TableNumbers
 use Rattle.demands.proofs.FirstNumber as FirstNumber
@@ -50,6 +52,22 @@ module _ (now : Moment) (arises : Arises now) (call : Call) (fits : Typed call) 
 
   pub given-wherever-printed : GivenUnder (printed now call) n → numberGiven now call ≡ n
   given-wherever-printed under = answers-as-listed now arises call fits ∙ FirstNumber.given-is-first (printed now call) n under
+
+-- "0: done": given exactly where no condition of the list holds, of every call, of a start and of the frame writer
+pub done-exactly-where-none-holds : (now : Moment) → Arises now → (call : Call) → Typed call → DoneExactly (numberGiven now call) (printed now call)
+done-exactly-where-none-holds now arises call fits =
+    done-exactly (numberGiven now call) (printed now call) (printed-above now call) (answers-as-listed now arises call fits)
+
+pub start-done-exactly-where-none-holds : (setup : Setup) (table : List ℕ)
+    → DoneExactly (startNumber (started setup table .answer)) (printedStart setup table)
+start-done-exactly-where-none-holds setup table =
+    done-exactly (startNumber (started setup table .answer)) (printedStart setup table) (start-above setup table) (start-answers-as-listed setup table)
+
+pub writer-done-exactly-where-none-holds : (checking : Bool) (header : List ℕ) (command : ℕ) (payload room : List ℕ)
+    → DoneExactly (Writer.numberOfWritten (writing checking header command payload room .answer)) (printedWriter checking payload room)
+writer-done-exactly-where-none-holds checking header command payload room =
+    done-exactly (Writer.numberOfWritten (writing checking header command payload room .answer)) (printedWriter checking payload room)
+    (writer-above checking payload room) (writer-answers-as-listed checking header command payload room)
 
 -- 13: "the first wrong one is named"
 pub contact-names-first-wrong : (now : Moment) (c : Contact) (i : ℕ)
