@@ -43,11 +43,11 @@ unfolding Line.numberOfAnswer
 fed-number true r s = refl
 fed-number false r s = refl
 
-byte-number : (now : Moment) → Sound (now .panel) → (b : ℕ) → numberGiven now (byte b) ≡ firstNumber (printed now (byte b))
+pub byte-number : (now : Moment) → Sound (now .panel) → (b : ℕ) → numberGiven now (byte b) ≡ firstNumber (printed now (byte b))
 unfolding numberGiven printed fedByte givenByte firstNumber
 byte-number now sound b = rw (← busy-waits (now .panel) sound) (fed-number (busy (now .panel .reader)) (now .panel .reader) _)
 
-mark-number : (now : Moment) → Sound (now .panel) → numberGiven now mark ≡ firstNumber (printed now mark)
+pub mark-number : (now : Moment) → Sound (now .panel) → numberGiven now mark ≡ firstNumber (printed now mark)
 unfolding numberGiven printed fedMark givenMark firstNumber
 mark-number now sound = rw (← busy-waits (now .panel) sound) (fed-number (busy (now .panel .reader)) (now .panel .reader) _)
 
@@ -75,7 +75,7 @@ bytes-used panel reached (b ∷ bs) are =
     go true ih = ne-eqb 0 (suc (length bs)) (λ e. omega arith)
     go false ih = one-more (next .used) (length bs) ∙ ih
 
-bytes-number : (now : Moment) → Reachable (now .panel) → (bs : List ℕ) → Bytes bs → numberGiven now (bytes bs) ≡ firstNumber (printed now (bytes bs))
+pub bytes-number : (now : Moment) → Reachable (now .panel) → (bs : List ℕ) → Bytes bs → numberGiven now (bytes bs) ≡ firstNumber (printed now (bytes bs))
 unfolding numberGiven printed fedBytes firstNumber
 bytes-number now reached bs are = rw (bytes-used (now .panel) reached bs are) (go (oneComesWhileWaiting (now .panel) bs))
   where
@@ -84,7 +84,7 @@ bytes-number now reached bs are = rw (bytes-used (now .panel) reached bs are) (g
     go false = refl
 
 -- a lift: "lift 1, 10"
-lift-number : (now : Moment) → Sound (now .panel) → numberGiven now lift ≡ firstNumber (printed now lift)
+pub lift-number : (now : Moment) → Sound (now .panel) → numberGiven now lift ≡ firstNumber (printed now lift)
 unfolding numberGiven printed lifting liftNumber firstNumber
 lift-number now sound = rw (← busy-waits (now .panel) sound) (go (busy (now .panel .reader)) (not (isDown (now .panel .registers))))
   where
