@@ -2,19 +2,17 @@
 use mathlib.Core.Path.{_≡_, refl}
 use mathlib.Core.Bool.{false}
 use mathlib.Core.List.{List, [], _∷_, _++_, map}
-use Prim.Native.Nat.{ℕ, zero, suc, _≤_, _<_}
+use Prim.Native.Nat.{ℕ, zero, suc, _≤_}
 use native.Mathlib.Omega.{arith}
-use borrow.Author.Tests.{lt-ltb}
 use lib.Dec.{lit≤}
-use lib.ListN.{length, replicate}
+use lib.ListN.{replicate}
 use Rattle.check_value.specs.CheckValue.{polynomial, bitStep, bitSteps, byteStep, checkFrom, checkValue}
 use Rattle.frame.specs.Frame.{checkLength, leastLength, contentOf, rightCheck}
 use Rattle.reading.specs.Place.{Report, badCheck, acceptedFrame, cutShort, decidedByCheck, afterHeader, behind, look, reportOf, goneBy, isWait}
 use Rattle.reading.specs.Stretch.{placedAt, readFrom, reading, reportsFrom, reports, heldFrom, heldOf}
 use Rattle.reading.specs.Line.{byte, mark, lineFrom, lineReports}
-use Rattle.reading.specs.Demand3.{Good, GoodFrames, none, next, joined, Cut, oneLessThanLongest, acceptedOf, reportOfFrame, checked}
+use Rattle.reading.specs.Demand3.{Good, GoodFrames, none, next, joined, Cut, acceptedOf, reportOfFrame, checked}
 use Rattle.reading.proofs.ByteLists.{allBytes, tested-bytes}
-use Rattle.reading.proofs.Course.{reports-stays}
 use Rattle.reading.proofs.Damage.{isAccepted, noneAccepted, tested-begins-none, open-accepts}
 
 -- 004's frame
@@ -58,14 +56,6 @@ at-least = refl
 pub two-inside : reports (checked 0x5A 0xA5) false (0x5A ∷ 0xA5 ∷ 0x10 ∷ (frame ++ frame)) ≡ badCheck 0x5A ∷ read-version ∷ read-version ∷ []
 unfolding reports reportsFrom look behind afterHeader decidedByCheck cutShort isWait reportOf goneBy leastLength checkLength contentOf rightCheck checkValue checkFrom byteStep bitSteps bitStep polynomial
 two-inside = refl
-
--- the figure, 257, is the least for header FF FF: behind a single FF fewer bytes than that have come, FF FF first, and nothing is reported yet
-pub no-fewer : (come : List ℕ) → length (0xFF ∷ 0xFF ∷ come) < oneLessThanLongest (0xFF ∷ 0xFF ∷ [])
-    → reports (checked 0xFF 0xFF) false (0xFF ∷ 0xFF ∷ 0xFF ∷ come) ≡ []
-unfolding look behind afterHeader leastLength checkLength cutShort isWait
-no-fewer come few =
-    let short : length come < 0xFF = omega arith in
-    reports-stays (checked 0xFF 0xFF) false (0xFF ∷ 0xFF ∷ 0xFF ∷ come) (rw (lt-ltb (length come) 0xFF short))
 
 frame-good : Good (checked 0x5A 0xA5) frame
 unfolding leastLength checkLength rightCheck checkValue checkFrom byteStep bitSteps bitStep polynomial

@@ -17,3 +17,4 @@ pub mod Longest
 pub mod Bounded
 pub mod Demand3
 pub mod Examples
+pub mod Figure

@@ -4,3 +4,4 @@ pub mod Line
 pub mod Moves
 pub mod Demand3
 pub mod Run
+pub mod Figure
