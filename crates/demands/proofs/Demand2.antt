@@ -32,16 +32,20 @@ use Rattle.touch.specs.Setup.{checkingOf}
 use Rattle.touch.specs.Record.{up as stepsUp, round as goesRound, digitMode, along, firstEdge, lastEdge}
 use Rattle.touch.specs.Find.{found}
 use Rattle.contact.specs.declared.Catch.the-variants.{Caught}
+use Rattle.commands.specs.declared.Outcome.{Outcome}
+use Rattle.panel.specs.declared.Handed.the-variants.{BadCheck, Accepted}
 use Rattle.panel.specs.State.{headerOf, panelRegister}
 use Rattle.demands.specs.Calls.{Moment, Call, ask, contact, lift, after, afterAll, numberGiven, handedOver, AllTyped, Arises, WellLent}
 use Rattle.demands.specs.Reports.{rulesOf}
 use Rattle.demands.specs.Demand2.{NamesWord, NamesRegister, Some, ReadsBack, withReply, afterWrite, afterRead, afterStore, afterFetch, afterBadCheck, AskLeaves, afterContact, afterLift}
+use Rattle.demands.specs.Counts.{handedBy, BadCheckCounted, FrameCounted}
 use Rattle.demands.specs.Stored.{Stores}
 use Rattle.demands.proofs.Calls.{arises-reachable}
 use Rattle.demands.proofs.Named as Named
 use Rattle.demands.proofs.ReadBack as ReadBack
 use Rattle.demands.proofs.Access as Access
 use Rattle.demands.proofs.Asking as Asking
+use Rattle.demands.proofs.Counts as Counts
 use Rattle.demands.proofs.WrittenReads as WrittenReads
 use Rattle.demands.proofs.Sizes as Sizes
 use Rattle.demands.proofs.TouchEffects as TouchEffects
@@ -89,6 +93,16 @@ answers-bad-check now arises = Access.answers-bad-check now (arises-reachable no
 
 pub nothing-changes-nothing : (now : Moment) → handedOver now ask ≡ [] → after now ask ≡ now
 nothing-changes-nothing = Access.nothing-changes-nothing
+
+-- "The reply follows the acknowledgement at once in the same room. .. bytes past the reported count stay.": the counts that a report hands over are those of
+-- the bytes laid, whatever is handed over
+pub counts-of-bad-check : (now : Moment) → Arises now → (command acknowledged : ℕ) → handedBy now ≡ BadCheck command acknowledged
+    → BadCheckCounted now command acknowledged
+counts-of-bad-check now arises = Counts.bad-check-counts now (arises-reachable now arises)
+
+pub counts-of-frame : (now : Moment) → Arises now → (command count : ℕ) (outcome : Outcome) (acknowledged replied : ℕ)
+    → handedBy now ≡ Accepted command count outcome acknowledged replied → FrameCounted now command count acknowledged replied
+counts-of-frame now arises = Counts.frame-counts now (arises-reachable now arises)
 
 -- what an 0x80 wrote, an 0x81 of the same run replies, whatever calls come between that name none of its registers
 pub what-80-wrote-81-replies : (now : Moment) → Arises now → (content : List ℕ) → handedOver now ask ≡ acceptedFrame 0x80 content ∷ [] → numberGiven now ask ≡ 0
