@@ -2,7 +2,7 @@
 use mathlib.Core.Path.{_≡_, refl, sym, ap, _∙_}
 use mathlib.Core.Bool.{Bool, true, false}
 use mathlib.Core.List.{List, [], _∷_}
-use Prim.Native.Nat.{ℕ, _≤_}
+use Prim.Native.Nat.{ℕ, _≤_, _<_}
 use native.Mathlib.Omega.{arith}
 use lib.ListN.{length, drop}
 use Rattle.wire.specs.Room.{over, Laid}
@@ -27,6 +27,7 @@ use Rattle.commands.specs.Effect.{wordsWriting, replying, registersReplying, wo
 use Rattle.commands.specs.declared.Performed.{Performed}
 use Rattle.commands.specs.Perform.{performs, performance}
 use Rattle.commands.specs.Reply.{registersReply, wordsReply}
+use Rattle.commands.proofs.Refusals.{number-refuses, refusal-changes-nothing}
 use Rattle.commands.proofs.Reading.{registers-short, words-within, words-short}
 use Rattle.commands.proofs.Replies.{length-registersReply, length-wordsReply}
 use Rattle.touch.specs.Setup.{checkingOf}
@@ -67,6 +68,20 @@ abbrev pub Does : Moment → (command : ℕ) → (content : List ℕ) → Perfor
 Does now command content p lent reply =
     performance (fixedFor (now .panel .setup)) (now .panel .registers) command content (withRoom (now .lent) (partBehind now command))
     ≡ performs p (withRoom lent (over reply (partBehind now command)))
+
+-- a command that is refused leaves all that is lent, and has no reply
+pub refused-does : (now : Moment) → Sound (now .panel) → (command : ℕ) (content : List ℕ) → Asks now command content → 0 < numberGiven now ask
+    → Does now command content (answered (outcome (fixedFor (now .panel .setup)) (length (now .lent .words)) command content) 0) (now .lent) []
+refused-does now sound command content asks above =
+    let fixed = fixedFor (now .panel .setup) in
+    let o = outcome fixed wordCount command content in
+    let number = done-number now sound command content asks in
+    let above-0 : 0 < Outcome.numberOfOutcome o = omega arith in
+    let p = outcome fixed (length (now .lent .words)) command content in
+    let refused : isDone p ≡ false = rw (asks .well .words) (number-refuses o above-0) in
+    let part = partBehind now command in
+    refusal-changes-nothing fixed (now .panel .registers) content (withRoom (now .lent) part) command refused
+    ∙ ap (λ (r : List ℕ). performs (answered p 0) (withRoom (now .lent) r)) (sym (over-nil part))
 
 module _ (now : Moment) (reached : Reachable (now .panel)) (content : List ℕ) (done : numberGiven now ask ≡ 0) where
   abbrev sound : Sound (now .panel)

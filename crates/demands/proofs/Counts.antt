@@ -4,15 +4,16 @@ use mathlib.Core.Bool.{Bool, true, false, cond}
 use mathlib.Core.List.{List, [], _∷_, _++_, append-assoc, append-nil}
 use Prim.Native.Nat.{ℕ, _+_, _<_}
 use native.Mathlib.Omega.{arith}
-use borrow.Author.Tests.{eqb-true, eqb-false, ne-eqb}
+use borrow.Author.Tests.{ne-eqb}
 use lib.Dec.{eqb}
 use lib.ListN.{length, take, drop, length-append}
 use lib.Seq.{take-at, drop-at}
 use Rattle.wire.specs.Room.{over, Laid}
-use Rattle.wire.specs.ByteOrder.{wordAt}
 use Rattle.wire.specs.Addresses.{wordCount}
-use Rattle.words.specs.Words.{wordsWritten}
-use Rattle.wire.proofs.Over.{over-nil, drop-over}
+use Rattle.wire.proofs.Over.{drop-over}
+use Rattle.frame.specs.Frame.{frameOf}
+use Rattle.touch.specs.Setup.{checkingOf}
+use Rattle.demands.specs.Replied.{Replied}
 use Rattle.reading.specs.Place.{badCheck, acceptedFrame}
 use Rattle.line.specs.declared.Report.{Report}
 use Rattle.line.specs.declared.Report.the-variants as line
@@ -21,32 +22,30 @@ use Rattle.line.specs.Methods.{asked}
 use Rattle.line.specs.Reached.{reportAs}
 use Rattle.line.proofs.Truths.{never}
 use Rattle.commands.specs.declared.Outcome.{Outcome}
-use Rattle.commands.specs.declared.Outcome.the-variants.{UnknownCommand}
+use Rattle.commands.specs.declared.Outcome.the-variants.{Done, UnknownCommand, WrongData, PastEnd, Unwritable, WrongValue, ReplyTooLong}
 use Rattle.commands.specs.Outcome as Outcome
-use Rattle.commands.specs.Outcome.{outcome, isDone}
-use Rattle.commands.specs.declared.Performed.{Performed}
-use Rattle.commands.specs.Effect.{answered}
-use Rattle.commands.specs.Lent.{Lent, withWords, withRoom}
-use Rattle.commands.specs.Perform.{Performance, performs, performance}
+use Rattle.commands.specs.Outcome.{outcome}
+use Rattle.commands.specs.Lent.{withRoom}
+use Rattle.commands.specs.Perform.{Performance, performance}
 use Rattle.commands.proofs.Performance.{performs-outcome}
-use Rattle.commands.proofs.Refusals.{number-refuses, refusal-changes-nothing}
 use Rattle.panel.specs.declared.Handed.{Handed}
 use Rattle.panel.specs.declared.Handed.the-variants as handed
-use Rattle.panel.specs.State.{fixedFor}
+use Rattle.panel.specs.State.{headerOf, fixedFor}
 use Rattle.panel.specs.Reporting.{acknowledged, accepting, Reporting, handing, reporting, wellLent, handingOver}
 use Rattle.panel.specs.Sound.{Sound}
 use Rattle.panel.specs.Reachable.{Reachable}
 use Rattle.panel.proofs.Invariant.{reachable-sound}
 use Rattle.demands.specs.Calls.{Moment, ask, after, numberGiven, reportHanded, handedOver}
 use Rattle.demands.specs.Reports.{waitingReport, acknowledgementOf}
-use Rattle.demands.specs.Demand2.{readReply, fetchReply, leaving, afterBadCheck}
+use Rattle.demands.specs.Demand2.{leaving, afterBadCheck}
 use Rattle.demands.specs.Counts.{handedBy, replyTo, Counted, BadCheckCounted, FrameCounted}
 use Rattle.demands.proofs.Answers.{reportedBy}
 use Rattle.demands.proofs.Waits.{asked-report, sound-ask-hands, frame-reporting}
 use Rattle.demands.proofs.Rooms.{acknowledged-laid}
 use Rattle.demands.proofs.WellLent.{tested-well}
 use Rattle.demands.proofs.FrameAsked.{Asks, handed-asks, done-number, performance-leaves}
-use Rattle.demands.proofs.Access.{partBehind, Does, does-write, does-read, does-store, does-fetch, answers-bad-check}
+use Rattle.demands.proofs.Performs.{Performing, command-performs}
+use Rattle.demands.proofs.Access.{partBehind, answers-bad-check}
 
 -- a room over which an acknowledgement and a reply were laid
 laid-counts : (now : Moment) (acknowledged replied : ℕ) (acknowledgement reply : List ℕ) → acknowledged ≡ length acknowledgement → replied ≡ length reply
@@ -64,86 +63,6 @@ laid-counts now a r acknowledgement reply is-a is-r left =
       next = ap (λ (l : List ℕ). take r (drop a l)) parts ∙ ap (take r) (drop-at acknowledgement (reply ++ stays) a (sym is-a)) ∙ take-at reply stays r (sym is-r);
       rest = ap (drop (a + r)) left ∙ drop-over (acknowledgement ++ reply) room (a + r) long;
     }
-
--- what a command that asking hands over does, with its reply
-record Performing (now : Moment) (command : ℕ) (content reply : List ℕ) : Type 0 where
-  performed : Performed
-  lent : Lent
-  replied-is : performed .replied ≡ length reply
-  does : Does now command content performed lent reply
-
-module _ (now : Moment) (reached : Reachable (now .panel)) (command : ℕ) (content : List ℕ) (asks : Asks now command content) where
-  abbrev part : List ℕ
-  part = partBehind now command
-
-  refused-performs : 0 < numberGiven now ask → Performing now command content []
-  refused-performs above =
-      let setup = now .panel .setup in
-      let o = outcome (fixedFor setup) wordCount command content in
-      let number = done-number now (reachable-sound (now .panel) reached) command content asks in
-      let above-0 : 0 < Outcome.numberOfOutcome o = omega arith in
-      let p = outcome (fixedFor setup) (length (now .lent .words)) command content in
-      let refused : isDone p ≡ false = rw (asks .well .words) (number-refuses o above-0) in
-      record {
-        performed = answered p 0;
-        lent = now .lent;
-        replied-is = refl;
-        does = refusal-changes-nothing (fixedFor setup) (now .panel .registers) content (withRoom (now .lent) part) command refused
-            ∙ ap (λ (r : List ℕ). performs (answered p 0) (withRoom (now .lent) r)) (sym (over-nil part));
-      }
-
-  unknown-performs : eqb command 0x80 ≡ false → eqb command 0x81 ≡ false → eqb command 0x82 ≡ false → eqb command 0x83 ≡ false
-      → Performing now command content []
-  unfolding performance
-  unknown-performs a b c d =
-      record {
-        performed = answered UnknownCommand 0;
-        lent = now .lent;
-        replied-is = refl;
-        does = rw (a, b, c, d, over-nil part);
-      }
-
--- the four that are known, by their numbers
-module _ (now : Moment) (reached : Reachable (now .panel)) (content : List ℕ) (done : numberGiven now ask ≡ 0) where
-  write-performs : Asks now 0x80 content → Performing now 0x80 content []
-  write-performs asks = record { performed = _; lent = now .lent; replied-is = refl; does = does-write now reached content done asks }
-
-  read-performs : Asks now 0x81 content → Performing now 0x81 content (readReply now content)
-  read-performs asks = record { performed = _; lent = now .lent; replied-is = refl; does = does-read now reached content done asks }
-
-  store-performs : Asks now 0x82 content → Performing now 0x82 content []
-  store-performs asks =
-      record {
-        performed = _;
-        lent = withWords (now .lent) (wordsWritten (now .lent .words) (wordAt content 0) (drop 2 content));
-        replied-is = refl;
-        does = does-store now reached content done asks;
-      }
-
-  fetch-performs : Asks now 0x83 content → Performing now 0x83 content (fetchReply now content)
-  fetch-performs asks = record { performed = _; lent = now .lent; replied-is = refl; does = does-fetch now reached content done asks }
-
-command-performs : (now : Moment) → Reachable (now .panel) → (command : ℕ) (content : List ℕ) → handedOver now ask ≡ acceptedFrame command content ∷ []
-    → Performing now command content (replyTo now command content)
-unfolding replyTo
-command-performs now reached command content hands = go (eqb (numberGiven now ask) 0) refl
-  where
-    asks : (c : ℕ) → command ≡ c → Asks now c content
-    asks c is = handed-asks now c content (hands ∙ ap (λ (k : ℕ). acceptedFrame k content ∷ []) is)
-
-    known : numberGiven now ask ≡ 0 → (b : Bool) → eqb command 0x81 ≡ b → (d : Bool) → eqb command 0x83 ≡ d → (a : Bool) → eqb command 0x80 ≡ a → (c : Bool) → eqb command 0x82 ≡ c
-        → Performing now command content (cond b (readReply now content) (cond d (fetchReply now content) []))
-    known done true q d s a p c r = let is = eqb-true command 0x81 q in rw is (read-performs now reached content done (asks 0x81 is))
-    known done false q true s a p c r = let is = eqb-true command 0x83 s in rw is (fetch-performs now reached content done (asks 0x83 is))
-    known done false q false s true p c r = let is = eqb-true command 0x80 p in rw is (write-performs now reached content done (asks 0x80 is))
-    known done false q false s false p true r = let is = eqb-true command 0x82 r in rw is (store-performs now reached content done (asks 0x82 is))
-    known done false q false s false p false r = unknown-performs now reached command content (asks command refl) p q r s
-
-    go : (n : Bool) → eqb (numberGiven now ask) 0 ≡ n
-        → Performing now command content (cond n (cond (eqb command 0x81) (readReply now content) (cond (eqb command 0x83) (fetchReply now content) [])) [])
-    go false is = let above = eqb-false (numberGiven now ask) 0 is in refused-performs now reached command content (asks command refl) (omega arith)
-    go true is =
-        known (eqb-true (numberGiven now ask) 0 is) (eqb command 0x81) refl (eqb command 0x83) refl (eqb command 0x80) refl (eqb command 0x82) refl
 
 -- what asking answers where it hands over an accepted frame, and the room that it leaves
 module _ (now : Moment) (reached : Reachable (now .panel)) (command : ℕ) (content : List ℕ) (hands : handedOver now ask ≡ acceptedFrame command content ∷ []) where
@@ -226,6 +145,33 @@ frame-counts now reached command count o a r is =
       count-is = is-count;
       counted = laid-counts now a r answer reply is-a is-r (room-left now reached command content hands);
       refused-has-none = λ above. is-r ∙ none-above (numberGiven now ask) _ above;
+    }
+
+-- a command that is answered 0, where its reply is this frame
+done-is : (o : Outcome) → Outcome.numberOfOutcome o ≡ 0 → o ≡ Done
+unfolding Outcome.numberOfOutcome
+done-is Done zero = refl
+done-is UnknownCommand zero = absurd (omega arith)
+done-is WrongData zero = absurd (omega arith)
+done-is PastEnd zero = absurd (omega arith)
+done-is Unwritable zero = absurd (omega arith)
+done-is WrongValue zero = absurd (omega arith)
+done-is ReplyTooLong zero = absurd (omega arith)
+
+pub replied-by : (now : Moment) → Reachable (now .panel) → (command : ℕ) (content payload : List ℕ) → handedOver now ask ≡ acceptedFrame command content ∷ []
+    → numberGiven now ask ≡ 0 → replyTo now command content ≡ frameOf (checkingOf (now .panel .setup)) (headerOf (now .panel .setup)) command payload
+    → Replied now command content payload
+replied-by now reached command content payload hands done reply =
+    let setup = now .panel .setup in
+    let answer = acknowledgementOf setup command true in
+    let number = done-number now (reachable-sound (now .panel) reached) command content (handed-asks now command content hands) in
+    let is : outcome (fixedFor setup) wordCount command content ≡ Done = done-is (outcome (fixedFor setup) wordCount command content) (sym number ∙ done) in
+    record {
+      done = done;
+      counts = handed-as now reached command content hands
+          ∙ ap (λ (o : Outcome). handed.Accepted command (length content) o (length answer) (length (replyTo now command content))) is
+          ∙ ap (λ (l : List ℕ). handed.Accepted command (length content) Done (length answer) (length l)) reply;
+      room = room-left now reached command content hands ∙ ap (λ (l : List ℕ). over (answer ++ l) (now .lent .room)) reply;
     }
 
 -- "each bad check by the same with 0x00"

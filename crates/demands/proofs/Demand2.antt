@@ -2,12 +2,12 @@
 use mathlib.Core.Path.{_≡_}
 use mathlib.Core.Logic.{_≢_, ⊎-elim}
 use mathlib.Core.Bool.{Bool, true, false}
-use mathlib.Core.List.{List, [], _∷_}
-use Prim.Native.Nat.{ℕ, _+_, _/_, _^_, _≤_, _<_}
+use mathlib.Core.List.{List, [], _∷_, _++_}
+use Prim.Native.Nat.{ℕ, _+_, _-_, _*_, _/_, _^_, _≤_, _<_}
 use lib.ListN.{length, getD, take, drop}
 use lib.Bits.{bitAnd, bitXor}
 use Rattle.wire.specs.Bytes.{Bytes}
-use Rattle.wire.specs.ByteOrder.{byteAt, wordAt}
+use Rattle.wire.specs.ByteOrder.{highFirst, byteAt, wordAt}
 use Rattle.check_value.specs.CheckValue.{bitSteps}
 use Rattle.check_value.specs.Tables.{lowTable, highTable}
 use Rattle.check_value.proofs.PrintedTables.{by-tables}
@@ -37,8 +37,9 @@ use Rattle.panel.specs.declared.Handed.the-variants.{BadCheck, Accepted}
 use Rattle.panel.specs.State.{headerOf, panelRegister}
 use Rattle.demands.specs.Calls.{Moment, Call, ask, contact, lift, after, afterAll, numberGiven, handedOver, AllTyped, Arises, WellLent}
 use Rattle.demands.specs.Reports.{rulesOf}
-use Rattle.demands.specs.Demand2.{NamesWord, NamesRegister, Some, ReadsBack, withReply, afterWrite, afterRead, afterStore, afterFetch, afterBadCheck, AskLeaves, afterContact, afterLift}
+use Rattle.demands.specs.Demand2.{NamesWord, NamesRegister, Some, ReadsBack, afterWrite, afterRead, afterStore, afterFetch, afterBadCheck, AskLeaves, afterContact, afterLift}
 use Rattle.demands.specs.Counts.{handedBy, BadCheckCounted, FrameCounted}
+use Rattle.demands.specs.Replied.{Replied}
 use Rattle.demands.specs.Stored.{Stores}
 use Rattle.demands.proofs.Calls.{arises-reachable}
 use Rattle.demands.proofs.Named as Named
@@ -104,24 +105,24 @@ pub counts-of-frame : (now : Moment) → Arises now → (command count : ℕ) (o
     → handedBy now ≡ Accepted command count outcome acknowledged replied → FrameCounted now command count acknowledged replied
 counts-of-frame now arises = Counts.frame-counts now (arises-reachable now arises)
 
--- what an 0x80 wrote, an 0x81 of the same run replies, whatever calls come between that name none of its registers
+-- what an 0x80 wrote, an 0x81 of any part of its run replies, whatever calls come between that name none of those registers: it is answered 0
 pub what-80-wrote-81-replies : (now : Moment) → Arises now → (content : List ℕ) → handedOver now ask ≡ acceptedFrame 0x80 content ∷ [] → numberGiven now ask ≡ 0
     → (calls : List Call) → AllTyped calls
-    → ((i : ℕ) → i < length (drop 1 content) → Some (λ then call. NamesRegister then (byteAt content 0 + i) call) (after now ask) calls → ⊥)
-    → handedOver (afterAll (after now ask) calls) ask ≡ acceptedFrame 0x81 (byteAt content 0 ∷ length (drop 1 content) ∷ []) ∷ []
-    → after (afterAll (after now ask) calls) ask .lent .room
-    ≡ withReply (afterAll (after now ask) calls) 0x81 (byteAt content 0 ∷ length (drop 1 content) ∷ drop 1 content)
+    → (address count : ℕ) → byteAt content 0 ≤ address → address + count ≤ byteAt content 0 + length (drop 1 content)
+    → ((k : ℕ) → address ≤ k → k < address + count → Some (λ then call. NamesRegister then k call) (after now ask) calls → ⊥)
+    → handedOver (afterAll (after now ask) calls) ask ≡ acceptedFrame 0x81 (address ∷ count ∷ []) ∷ []
+    → Replied (afterAll (after now ask) calls) 0x81 (address ∷ count ∷ []) (address ∷ count ∷ take count (drop (address - byteAt content 0) (drop 1 content)))
 what-80-wrote-81-replies now arises = WrittenReads.what-80-wrote-81-replies now (arises-reachable now arises)
 
--- the same of an 0x82 and an 0x83, of up to 124 words ("word reads of 124 and 125 with checking (0 and 7)")
+-- the same of an 0x82 and an 0x83, where the reply fits a frame ("7: reply frame's L would pass 255")
 pub what-82-wrote-83-replies : (now : Moment) → Arises now → (content : List ℕ) → handedOver now ask ≡ acceptedFrame 0x82 content ∷ [] → numberGiven now ask ≡ 0
     → (calls : List Call) → AllTyped calls
-    → ((i : ℕ) → i < length (wordsOf (drop 2 content)) → Some (λ then call. NamesWord then (wordAt content 0 + i) call) (after now ask) calls → ⊥)
-    → handedOver (afterAll (after now ask) calls) ask
-    ≡ acceptedFrame 0x83 (byteAt content 0 ∷ byteAt content 1 ∷ length (wordsOf (drop 2 content)) ∷ []) ∷ []
-    → length (wordsOf (drop 2 content)) ≤ 124
-    → after (afterAll (after now ask) calls) ask .lent .room
-    ≡ withReply (afterAll (after now ask) calls) 0x83 (byteAt content 0 ∷ byteAt content 1 ∷ length (wordsOf (drop 2 content)) ∷ drop 2 content)
+    → (address count : ℕ) → wordAt content 0 ≤ address → address + count ≤ wordAt content 0 + length (wordsOf (drop 2 content))
+    → ((k : ℕ) → address ≤ k → k < address + count → Some (λ then call. NamesWord then k call) (after now ask) calls → ⊥)
+    → handedOver (afterAll (after now ask) calls) ask ≡ acceptedFrame 0x83 (highFirst address ++ (count ∷ [])) ∷ []
+    → 3 + 2 * count ≤ mostData (checkingOf (afterAll (after now ask) calls .panel .setup))
+    → Replied (afterAll (after now ask) calls) 0x83 (highFirst address ++ (count ∷ []))
+    (highFirst address ++ (count ∷ take (2 * count) (drop (2 * (address - wordAt content 0)) (drop 2 content))))
 what-82-wrote-83-replies now arises = WrittenReads.what-82-wrote-83-replies now (arises-reachable now arises)
 
 -- "touch effects are those of ..": all that a contact and a lift leave that are answered 0
