@@ -1,12 +1,15 @@
--- Laws of specs/Stored: what a mode places in a word leaves the other byte.
-use mathlib.Core.Path.{_≡_, refl, ap, _∙_}
+-- Laws of specs/Stored: what a mode places in a word leaves the other byte, and number and other byte leave room for one 16-bit word only.
+use mathlib.Core.Path.{_≡_, refl, sym, ap, _∙_}
 use mathlib.Core.Bool.{Bool, true, false, cond}
 use mathlib.Core.List.{[], _∷_}
-use Prim.Native.Nat.{ℕ}
+use Prim.Native.Nat.{ℕ, _-_, _<_}
+use native.Mathlib.Omega.{arith}
 use borrow.Author.Tests.{eqb-true, eqb-false}
-use lib.Dec.{eqb}
+use lib.Dec.{eqb, ltb}
+use lib.IntN.{ℤ, pos, negsuc}
 use Rattle.wire.specs.ByteOrder.{highByte, lowByte}
-use Rattle.stores.specs.Store.{inMode, placed}
+use Rattle.line.proofs.Truths.{never}
+use Rattle.stores.specs.Store.{inMode, signed, placed}
 use Rattle.stores.specs.Step.{stepStores}
 use Rattle.stores.specs.Slider.{sliderStores}
 use Rattle.stores.proofs.Placed.{high-keeps-low, low-keeps-high}
@@ -19,7 +22,7 @@ use Rattle.touch.specs.declared.Record.{Record}
 use Rattle.touch.specs.Rounding.{roundingOf}
 use Rattle.touch.specs.Record.{digitMode}
 use Rattle.touch.specs.Act.{actedBy, actedOf}
-use Rattle.demands.specs.Stored.{otherByte}
+use Rattle.demands.specs.Stored.{otherByte, Stores}
 
 -- words with the same other byte, by mode
 same-other : (mode now old : ℕ) → (mode ≡ 1 → lowByte now ≡ lowByte old) → ((mode ≡ 0 → ⊥) → (mode ≡ 1 → ⊥) → highByte now ≡ highByte old)
@@ -51,3 +54,32 @@ module _ (setup : Setup) (r : Record) (old x y : ℕ) where
   slider-keeps-other f is =
       ap (λ (k : Kind). otherByte (digitMode (r .mode)) (actedBy (roundingOf setup) k r old x y)) is
       ∙ placed-keeps-other (digitMode (r .mode)) old _
+
+-- a word is known by its signed number
+signed-one : (a b : ℕ) → a < 65536 → b < 65536 → signed a ≡ signed b → a ≡ b
+unfolding signed
+signed-one a b small-a small-b = go (ltb a 32768) (ltb b 32768)
+  where
+    go : (p q : Bool) → cond p (pos a) (negsuc (65535 - a)) ≡ cond q (pos b) (negsuc (65535 - b)) → a ≡ b
+    go true true same = cc
+    go true false same = never (cc)
+    go false true same = never (cc)
+    go false false same = let rests : 65535 - a ≡ 65535 - b = cc in omega arith
+
+-- so no second word is stored
+pub one-word-stored : (mode before a b : ℕ) (value : ℤ) → a < 65536 → b < 65536 → Stores mode before a value → Stores mode before b value → a ≡ b
+unfolding inMode
+one-word-stored mode before a b value small-a small-b one other =
+    go (eqb mode 0) (eqb mode 1) (one .stored ∙ sym (other .stored)) (one .other-stays ∙ sym (other .other-stays))
+  where
+    go : (p q : Bool) → cond p (signed a) (cond q (pos (highByte a)) (pos (lowByte a))) ≡ cond p (signed b) (cond q (pos (highByte b)) (pos (lowByte b)))
+        → cond p [] (cond q (lowByte a ∷ []) (highByte a ∷ [])) ≡ cond p [] (cond q (lowByte b ∷ []) (highByte b ∷ [])) → a ≡ b
+    go true q value rest = signed-one a b small-a small-b value
+    go false true value rest =
+        let high : highByte a ≡ highByte b = cc in
+        let low : lowByte a ≡ lowByte b = cc in
+        omega arith
+    go false false value rest =
+        let high : highByte a ≡ highByte b = cc in
+        let low : lowByte a ≡ lowByte b = cc in
+        omega arith
