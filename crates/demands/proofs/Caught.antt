@@ -39,11 +39,13 @@ use Rattle.panel.proofs.Ways.{contact-ways, lift-ways, report-ways}
 use Rattle.panel.proofs.Invariant.{reachable-sound}
 use Rattle.demands.specs.Calls.{Moment, Call, lend, byte, bytes, mark, ask, contact, lift, after, numberGiven, Typed, Arises, from-start, by-call}
 use Rattle.demands.specs.Demand2.{afterContact}
+use Rattle.demands.specs.Stored.{otherByte, Stores}
 use Rattle.demands.proofs.Calls.{arises-reachable}
 use Rattle.demands.proofs.Sizes.{started-new}
 use Rattle.touch.specs.declared.Setup.{Setup}
 use Rattle.touch.specs.Rounding.{roundingOf}
 use Rattle.panel.specs.Contacts.{Contact}
+use Rattle.demands.proofs.Stored.{slider-keeps-other}
 use Rattle.demands.proofs.TouchEffects.{slider-fields-fit, contact-done, contact-leaves, dragged-words, word-set}
 
 -- a copy of a slider's record that is kept has 16-bit begin and end
@@ -111,19 +113,24 @@ always-fits _ (by-call now call typed arises) = call-fits now call typed (always
 -- "Contact while down: .. a caught slider stores for the point moved to the nearest place in its area"
 pub dragged-slider-stores : (now : Moment) → Arises now → (c : Contact) → numberGiven now (contact c) ≡ 0
     → isDown (now .panel .registers) ≡ true → (r : Record) → now .panel .catch ≡ Caught r → (f : SliderFields) → r .kind ≡ Slider f
-    → valueIn (digitMode (r .mode)) (wordAtAddress (after now (contact c) .lent .words) (r .word))
-    ≡ slidTo (roundingOf (now .panel .setup)) (signed (f .begin)) (signed (f .end)) (firstEdge (r .mode) (r .area)) (lastEdge (r .mode) (r .area)) (along (r .mode) (c .x) (c .y))
+    → Stores (digitMode (r .mode)) (wordAtAddress (now .lent .words) (r .word)) (wordAtAddress (after now (contact c) .lent .words) (r .word))
+    (slidTo (roundingOf (now .panel .setup)) (signed (f .begin)) (signed (f .end)) (firstEdge (r .mode) (r .area)) (lastEdge (r .mode) (r .area)) (along (r .mode) (c .x) (c .y)))
 unfolding afterContact numberGiven draggedOf
 dragged-slider-stores now arises c done down r caught f kind =
+    let setup = now .panel .setup in
     let sound = reachable-sound (now .panel) (arises-reachable now arises) in
     let good = sound .pad .caught-good r caught .0 in
     let fit = always-fits now arises r f caught kind in
-    let small = good-word (now .panel .setup) r good in
+    let small = good-word setup r good in
     let whole = contact-done (now .panel) c (now .lent) done .whole in
     let inside : r .word < length (now .lent .words) = omega arith in
     let old = wordAtAddress (now .lent .words) (r .word) in
-    ap (λ (m : Moment). valueIn (digitMode (r .mode)) (wordAtAddress (m .lent .words) (r .word))) (contact-leaves now c done)
-    ∙ ap (λ (l : List ℕ). valueIn (digitMode (r .mode)) (wordAtAddress l (r .word))) (dragged-words (now .panel .setup) (padOf (now .panel)) (c .table) (now .lent .words) (c .x) (c .y) r down caught)
-    ∙ ap (valueIn (digitMode (r .mode))) (word-set (now .lent .words) (r .word) (draggedOf (now .panel .setup) r old (c .x) (c .y)) inside)
-    ∙ ap (λ (k : Kind). valueIn (digitMode (r .mode)) (cond (isSlider k) (actedOf (now .panel .setup) r old (c .x) (c .y)) old)) kind
-    ∙ slider-acts-as-printed (now .panel .setup) r old (c .x) (c .y) (good-kind (now .panel .setup) r good) f kind (fit .0) (fit .1)
+    let dragged : wordAtAddress (after now (contact c) .lent .words) (r .word) ≡ actedOf setup r old (c .x) (c .y) =
+    ap (λ (m : Moment). wordAtAddress (m .lent .words) (r .word)) (contact-leaves now c done)
+    ∙ ap (λ (l : List ℕ). wordAtAddress l (r .word)) (dragged-words setup (padOf (now .panel)) (c .table) (now .lent .words) (c .x) (c .y) r down caught)
+    ∙ word-set (now .lent .words) (r .word) (draggedOf setup r old (c .x) (c .y)) inside
+    ∙ ap (λ (k : Kind). cond (isSlider k) (actedOf setup r old (c .x) (c .y)) old) kind in
+    record {
+      stored = ap (valueIn (digitMode (r .mode))) dragged ∙ slider-acts-as-printed setup r old (c .x) (c .y) (good-kind setup r good) f kind (fit .0) (fit .1);
+      other-stays = ap (otherByte (digitMode (r .mode))) dragged ∙ slider-keeps-other setup r old (c .x) (c .y) f kind;
+    }

@@ -4,7 +4,7 @@ use Rattle.wire.specs.Room.{over, laid, laidAt}
 use Rattle.check_value.specs.CheckValue.{polynomial, bitStep, bitSteps, byteStep, checkFrom, checkValue}
 use Rattle.frame.specs.Frame.{headerBytes, checkLength, checkBytes, lengthByte, enclosed, framed, frameOf, leastLength, mostData, contentOf, rightCheck}
 use Rattle.frame.specs.Acknowledgement.{acknowledgementLength, verdict, acknowledgement}
-use Rattle.frame.specs.Writer.{frameLaid}
+use Rattle.frame.specs.Writer.{frameLaid, acknowledgementLaid}
 use Rattle.reading.specs.Place as Place
 use Rattle.reading.specs.Place.{cutShort, afterHeader, behind, look, reportOf, goneBy, isWait}
 use Rattle.reading.specs.Stretch.{reports, reportsFrom}
@@ -46,7 +46,7 @@ unfolding computingCheckValues over laid laidAt headerBytes checkLength checkByt
 computingFrames = tt
 
 unfoldable pub computingAcknowledgements : Unit {0}
-unfolding computingFrames acknowledgementLength verdict acknowledgement
+unfolding computingFrames acknowledgementLength verdict acknowledgement acknowledgementLaid
 computingAcknowledgements = tt
 
 unfoldable pub computingReading : Unit {0}

@@ -2,12 +2,12 @@
 use mathlib.Core.Path.{_≡_}
 use mathlib.Core.Logic.{_≢_, ⊎-elim}
 use mathlib.Core.Bool.{Bool, true, false}
-use mathlib.Core.List.{List, [], _∷_}
-use Prim.Native.Nat.{ℕ, _+_, _/_, _^_, _≤_, _<_}
+use mathlib.Core.List.{List, [], _∷_, _++_}
+use Prim.Native.Nat.{ℕ, _+_, _-_, _*_, _/_, _^_, _≤_, _<_}
 use lib.ListN.{length, getD, take, drop}
 use lib.Bits.{bitAnd, bitXor}
 use Rattle.wire.specs.Bytes.{Bytes}
-use Rattle.wire.specs.ByteOrder.{byteAt, wordAt}
+use Rattle.wire.specs.ByteOrder.{highFirst, byteAt, wordAt}
 use Rattle.check_value.specs.CheckValue.{bitSteps}
 use Rattle.check_value.specs.Tables.{lowTable, highTable}
 use Rattle.check_value.proofs.PrintedTables.{by-tables}
@@ -32,15 +32,21 @@ use Rattle.touch.specs.Setup.{checkingOf}
 use Rattle.touch.specs.Record.{up as stepsUp, round as goesRound, digitMode, along, firstEdge, lastEdge}
 use Rattle.touch.specs.Find.{found}
 use Rattle.contact.specs.declared.Catch.the-variants.{Caught}
+use Rattle.commands.specs.declared.Outcome.{Outcome}
+use Rattle.panel.specs.declared.Handed.the-variants.{BadCheck, Accepted}
 use Rattle.panel.specs.State.{headerOf, panelRegister}
 use Rattle.demands.specs.Calls.{Moment, Call, ask, contact, lift, after, afterAll, numberGiven, handedOver, AllTyped, Arises, WellLent}
 use Rattle.demands.specs.Reports.{rulesOf}
-use Rattle.demands.specs.Demand2.{NamesWord, NamesRegister, Some, ReadsBack, withReply, afterWrite, afterRead, afterStore, afterFetch, afterBadCheck, AskLeaves, afterContact, afterLift}
+use Rattle.demands.specs.Demand2.{NamesWord, NamesRegister, Some, ReadsBack, afterWrite, afterRead, afterStore, afterFetch, afterBadCheck, AskLeaves, afterContact, afterLift}
+use Rattle.demands.specs.Counts.{handedBy, BadCheckCounted, FrameCounted}
+use Rattle.demands.specs.Replied.{Replied}
+use Rattle.demands.specs.Stored.{Stores}
 use Rattle.demands.proofs.Calls.{arises-reachable}
 use Rattle.demands.proofs.Named as Named
 use Rattle.demands.proofs.ReadBack as ReadBack
 use Rattle.demands.proofs.Access as Access
 use Rattle.demands.proofs.Asking as Asking
+use Rattle.demands.proofs.Counts as Counts
 use Rattle.demands.proofs.WrittenReads as WrittenReads
 use Rattle.demands.proofs.Sizes as Sizes
 use Rattle.demands.proofs.TouchEffects as TouchEffects
@@ -89,24 +95,34 @@ answers-bad-check now arises = Access.answers-bad-check now (arises-reachable no
 pub nothing-changes-nothing : (now : Moment) → handedOver now ask ≡ [] → after now ask ≡ now
 nothing-changes-nothing = Access.nothing-changes-nothing
 
--- what an 0x80 wrote, an 0x81 of the same run replies, whatever calls come between that name none of its registers
+-- "The reply follows the acknowledgement at once in the same room. .. bytes past the reported count stay.": the counts that a report hands over are those of
+-- the bytes laid, whatever is handed over
+pub counts-of-bad-check : (now : Moment) → Arises now → (command acknowledged : ℕ) → handedBy now ≡ BadCheck command acknowledged
+    → BadCheckCounted now command acknowledged
+counts-of-bad-check now arises = Counts.bad-check-counts now (arises-reachable now arises)
+
+pub counts-of-frame : (now : Moment) → Arises now → (command count : ℕ) (outcome : Outcome) (acknowledged replied : ℕ)
+    → handedBy now ≡ Accepted command count outcome acknowledged replied → FrameCounted now command count acknowledged replied
+counts-of-frame now arises = Counts.frame-counts now (arises-reachable now arises)
+
+-- what an 0x80 wrote, an 0x81 of any part of its run replies, whatever calls come between that name none of those registers: it is answered 0
 pub what-80-wrote-81-replies : (now : Moment) → Arises now → (content : List ℕ) → handedOver now ask ≡ acceptedFrame 0x80 content ∷ [] → numberGiven now ask ≡ 0
     → (calls : List Call) → AllTyped calls
-    → ((i : ℕ) → i < length (drop 1 content) → Some (λ then call. NamesRegister then (byteAt content 0 + i) call) (after now ask) calls → ⊥)
-    → handedOver (afterAll (after now ask) calls) ask ≡ acceptedFrame 0x81 (byteAt content 0 ∷ length (drop 1 content) ∷ []) ∷ []
-    → after (afterAll (after now ask) calls) ask .lent .room
-    ≡ withReply (afterAll (after now ask) calls) 0x81 (byteAt content 0 ∷ length (drop 1 content) ∷ drop 1 content)
+    → (address count : ℕ) → byteAt content 0 ≤ address → address + count ≤ byteAt content 0 + length (drop 1 content)
+    → ((k : ℕ) → address ≤ k → k < address + count → Some (λ then call. NamesRegister then k call) (after now ask) calls → ⊥)
+    → handedOver (afterAll (after now ask) calls) ask ≡ acceptedFrame 0x81 (address ∷ count ∷ []) ∷ []
+    → Replied (afterAll (after now ask) calls) 0x81 (address ∷ count ∷ []) (address ∷ count ∷ take count (drop (address - byteAt content 0) (drop 1 content)))
 what-80-wrote-81-replies now arises = WrittenReads.what-80-wrote-81-replies now (arises-reachable now arises)
 
--- the same of an 0x82 and an 0x83, of up to 124 words ("word reads of 124 and 125 with checking (0 and 7)")
+-- the same of an 0x82 and an 0x83, where the reply fits a frame ("7: reply frame's L would pass 255")
 pub what-82-wrote-83-replies : (now : Moment) → Arises now → (content : List ℕ) → handedOver now ask ≡ acceptedFrame 0x82 content ∷ [] → numberGiven now ask ≡ 0
     → (calls : List Call) → AllTyped calls
-    → ((i : ℕ) → i < length (wordsOf (drop 2 content)) → Some (λ then call. NamesWord then (wordAt content 0 + i) call) (after now ask) calls → ⊥)
-    → handedOver (afterAll (after now ask) calls) ask
-    ≡ acceptedFrame 0x83 (byteAt content 0 ∷ byteAt content 1 ∷ length (wordsOf (drop 2 content)) ∷ []) ∷ []
-    → length (wordsOf (drop 2 content)) ≤ 124
-    → after (afterAll (after now ask) calls) ask .lent .room
-    ≡ withReply (afterAll (after now ask) calls) 0x83 (byteAt content 0 ∷ byteAt content 1 ∷ length (wordsOf (drop 2 content)) ∷ drop 2 content)
+    → (address count : ℕ) → wordAt content 0 ≤ address → address + count ≤ wordAt content 0 + length (wordsOf (drop 2 content))
+    → ((k : ℕ) → address ≤ k → k < address + count → Some (λ then call. NamesWord then k call) (after now ask) calls → ⊥)
+    → handedOver (afterAll (after now ask) calls) ask ≡ acceptedFrame 0x83 (highFirst address ++ (count ∷ [])) ∷ []
+    → 3 + 2 * count ≤ mostData (checkingOf (afterAll (after now ask) calls .panel .setup))
+    → Replied (afterAll (after now ask) calls) 0x83 (highFirst address ++ (count ∷ []))
+    (highFirst address ++ (count ∷ take (2 * count) (drop (2 * (address - wordAt content 0)) (drop 2 content))))
 what-82-wrote-83-replies now arises = WrittenReads.what-82-wrote-83-replies now (arises-reachable now arises)
 
 -- "touch effects are those of ..": all that a contact and a lift leave that are answered 0
@@ -124,24 +140,26 @@ module _ (now : Moment) (c : Contact) (are : Bytes (c .table)) (done : numberGiv
       → wordAtAddress (after now (contact c) .lent .words) (r .word) ≡ keyStores (r .mode) (wordAtAddress (now .lent .words) (r .word)) code
   key-stores = TouchEffects.key-stores now c are done up i r acts
 
-  -- "Step: t is the value with the step added or taken, as whole numbers. If t is within the ends, store t. Otherwise ..": read in its mode
+  -- "Step: t is the value with the step added or taken, as whole numbers. If t is within the ends, store t. Otherwise ..": read in its mode;
+  -- "in all byte modes the other byte stays"
   pub step-stores : (f : StepFields) → r .kind ≡ Step f
-      → valueIn (r .mode) (wordAtAddress (after now (contact c) .lent .words) (r .word))
-      ≡ fenced (stepsUp f) (goesRound f) (signed (f .least)) (signed (f .greatest))
-      (stepped (stepsUp f) (valueIn (r .mode) (wordAtAddress (now .lent .words) (r .word))) (f .step))
+      → Stores (r .mode) (wordAtAddress (now .lent .words) (r .word)) (wordAtAddress (after now (contact c) .lent .words) (r .word))
+      (fenced (stepsUp f) (goesRound f) (signed (f .least)) (signed (f .greatest))
+      (stepped (stepsUp f) (valueIn (r .mode) (wordAtAddress (now .lent .words) (r .word))) (f .step)))
   step-stores = TouchEffects.step-stores now c are done up i r acts
 
-  -- "Slider: .. |end − begin|·d / w rounded down is moved from begin towards end.", upward and downward alike: read in its mode
+  -- "Slider: .. |end − begin|·d / w rounded down is moved from begin towards end.", upward and downward alike: read in its mode;
+  -- "in all byte modes the other byte stays"
   pub slider-stores : (f : SliderFields) → r .kind ≡ Slider f
-      → valueIn (digitMode (r .mode)) (wordAtAddress (after now (contact c) .lent .words) (r .word))
-      ≡ slidTo (roundingOf (now .panel .setup)) (signed (f .begin)) (signed (f .end)) (firstEdge (r .mode) (r .area)) (lastEdge (r .mode) (r .area)) (along (r .mode) (c .x) (c .y))
+      → Stores (digitMode (r .mode)) (wordAtAddress (now .lent .words) (r .word)) (wordAtAddress (after now (contact c) .lent .words) (r .word))
+      (slidTo (roundingOf (now .panel .setup)) (signed (f .begin)) (signed (f .end)) (firstEdge (r .mode) (r .area)) (lastEdge (r .mode) (r .area)) (along (r .mode) (c .x) (c .y)))
   slider-stores = TouchEffects.slider-stores now c are done up i r acts
 
 -- "Contact while down: .. a caught slider stores for the point moved to the nearest place in its area"
 pub dragged-slider-stores : (now : Moment) → Arises now → (c : Contact) → numberGiven now (contact c) ≡ 0
     → isDown (now .panel .registers) ≡ true → (r : Record) → now .panel .catch ≡ Caught r → (f : SliderFields) → r .kind ≡ Slider f
-    → valueIn (digitMode (r .mode)) (wordAtAddress (after now (contact c) .lent .words) (r .word))
-    ≡ slidTo (roundingOf (now .panel .setup)) (signed (f .begin)) (signed (f .end)) (firstEdge (r .mode) (r .area)) (lastEdge (r .mode) (r .area)) (along (r .mode) (c .x) (c .y))
+    → Stores (digitMode (r .mode)) (wordAtAddress (now .lent .words) (r .word)) (wordAtAddress (after now (contact c) .lent .words) (r .word))
+    (slidTo (roundingOf (now .panel .setup)) (signed (f .begin)) (signed (f .end)) (firstEdge (r .mode) (r .area)) (lastEdge (r .mode) (r .area)) (along (r .mode) (c .x) (c .y)))
 dragged-slider-stores = Caught.dragged-slider-stores
 
 -- "What our frame writer writes, our reader reads back as the same command and data.": what it wrote into any room, under the header and the choice that

@@ -1,14 +1,15 @@
--- A read of a run that was written is not refused: of registers never, of words up to 124 of them.
+-- A read of a part of a run that was written is not refused: of registers never, of words where the reply fits a frame.
 use mathlib.Core.Path.{_≡_, refl, sym, ap, _∙_}
 use mathlib.Core.Bool.{Bool, true, false, not}
-use mathlib.Core.List.{List, [], _∷_}
-use Prim.Native.Nat.{ℕ, zero, suc, _+_, _≤_}
+use mathlib.Core.List.{List, [], _∷_, _++_}
+use Prim.Native.Nat.{ℕ, zero, suc, _+_, _*_, _≤_}
 use native.Mathlib.Omega.{arith}
 use borrow.Author.Tests.{le-ltb, leb-true, leb-false, eqb-true, eqb-false, not-false}
 use lib.Dec.{eqb, leb}
 use lib.ListN.{length, drop}
-use Rattle.wire.specs.ByteOrder.{byteAt, wordAt}
-use Rattle.frame.specs.Frame.{checkLength}
+use Rattle.wire.specs.ByteOrder.{highFirst, byteAt, wordAt}
+use Rattle.frame.specs.Frame.{checkLength, mostData}
+use Rattle.frame.proofs.Writers.{length-most}
 use Rattle.reading.specs.Place.{acceptedFrame}
 use Rattle.line.proofs.Truths.{never, and-left, and-right}
 use Rattle.wire.specs.Addresses.{registerCount, wordCount}
@@ -65,35 +66,37 @@ unfolding readRegistersOutcome replyTooLong Outcome.numberOfOutcome
 registers-answer checking address n fits few =
     rw (le-ltb registerCount (address + n) fits, le-ltb 255 (1 + (2 + n) + checkLength checking) (omega (arith, check-short checking)))
 
-words-answer : (checking : Bool) (high low n : ℕ) → wordAt (high ∷ low ∷ n ∷ []) 0 + n ≤ wordCount → n ≤ 124
-    → Outcome.numberOfOutcome (readWordsOutcome wordCount checking (high ∷ low ∷ n ∷ [])) ≡ 0
+words-answer : (checking : Bool) (address n : ℕ) → address + n ≤ wordCount → 3 + 2 * n ≤ mostData checking
+    → Outcome.numberOfOutcome (readWordsOutcome wordCount checking (highFirst address ++ (n ∷ []))) ≡ 0
 unfolding readWordsOutcome replyTooLong Outcome.numberOfOutcome
-words-answer checking high low n fits few =
+words-answer checking address n fits few =
+    let there : wordAt (highFirst address ++ (n ∷ [])) 0 ≡ address = omega arith in
     rw (
-      le-ltb wordCount (wordAt (high ∷ low ∷ n ∷ []) 0 + n) fits,
-      le-ltb 255 (1 + (3 + (n + n)) + checkLength checking) (omega (arith, check-short checking)),
+      there,
+      le-ltb wordCount (address + n) fits,
+      le-ltb 255 (1 + (3 + (n + n)) + checkLength checking) (omega (arith, length-most checking)),
     )
 
--- an 0x81 of the run of an 0x80 that was done
+-- an 0x81 of a part of the run of an 0x80 that was done
 pub read-of-written-is-done : (now : Moment) → Reachable (now .panel) → (content : List ℕ) → handedOver now ask ≡ acceptedFrame 0x80 content ∷ []
-    → numberGiven now ask ≡ 0 → (then : Moment) → Reachable (then .panel)
-    → handedOver then ask ≡ acceptedFrame 0x81 (byteAt content 0 ∷ length (drop 1 content) ∷ []) ∷ [] → numberGiven then ask ≡ 0
+    → numberGiven now ask ≡ 0 → (address count : ℕ) → byteAt content 0 ≤ address → address + count ≤ byteAt content 0 + length (drop 1 content)
+    → (then : Moment) → Reachable (then .panel) → handedOver then ask ≡ acceptedFrame 0x81 (address ∷ count ∷ []) ∷ [] → numberGiven then ask ≡ 0
 unfolding outcome
-read-of-written-is-done now reached content writes done then there reads =
+read-of-written-is-done now reached content writes done address count from to then there reads =
     let passed = registers-passed (now .panel .setup .pages) content (is-done now reached content done 0x80 (handed-asks now 0x80 content writes)) in
-    let question = byteAt content 0 ∷ length (drop 1 content) ∷ [] in
+    let question = address ∷ count ∷ [] in
     let few = short-run (length (drop 1 content)) (byteAt content 0) (passed .may) (passed .fits) in
     done-number then (reachable-sound (then .panel) there) 0x81 question (handed-asks then 0x81 question reads)
-    ∙ registers-answer (checkingOf (then .panel .setup)) (byteAt content 0) (length (drop 1 content)) (passed .fits) few
+    ∙ registers-answer (checkingOf (then .panel .setup)) address count (omega (arith, passed .fits)) (omega arith)
 
--- an 0x83 of the run of an 0x82 that was done, of at most 124 words
+-- an 0x83 of a part of the run of an 0x82 that was done, where the reply fits a frame
 pub fetch-of-stored-is-done : (now : Moment) → Reachable (now .panel) → (content : List ℕ) → handedOver now ask ≡ acceptedFrame 0x82 content ∷ []
-    → numberGiven now ask ≡ 0 → length (wordsOf (drop 2 content)) ≤ 124 → (then : Moment) → Reachable (then .panel)
-    → handedOver then ask ≡ acceptedFrame 0x83 (byteAt content 0 ∷ byteAt content 1 ∷ length (wordsOf (drop 2 content)) ∷ []) ∷ [] → numberGiven then ask ≡ 0
+    → numberGiven now ask ≡ 0 → (address count : ℕ) → address + count ≤ wordAt content 0 + length (wordsOf (drop 2 content))
+    → (then : Moment) → Reachable (then .panel) → 3 + 2 * count ≤ mostData (checkingOf (then .panel .setup))
+    → handedOver then ask ≡ acceptedFrame 0x83 (highFirst address ++ (count ∷ [])) ∷ [] → numberGiven then ask ≡ 0
 unfolding outcome
-fetch-of-stored-is-done now reached content writes done few then there reads =
+fetch-of-stored-is-done now reached content writes done address count to then there few reads =
     let passed = words-passed wordCount content (is-done now reached content done 0x82 (handed-asks now 0x82 content writes)) in
-    let n = length (wordsOf (drop 2 content)) in
-    let question = byteAt content 0 ∷ byteAt content 1 ∷ n ∷ [] in
+    let question = highFirst address ++ (count ∷ []) in
     done-number then (reachable-sound (then .panel) there) 0x83 question (handed-asks then 0x83 question reads)
-    ∙ words-answer (checkingOf (then .panel .setup)) (byteAt content 0) (byteAt content 1) n (passed .fits) few
+    ∙ words-answer (checkingOf (then .panel .setup)) address count (omega (arith, passed .fits)) few

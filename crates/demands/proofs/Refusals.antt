@@ -6,10 +6,9 @@ use mathlib.Core.List.{List, [], _∷_, _++_, map, append-nil}
 use Prim.Native.Nat.{ℕ, suc, _≤_, _<_}
 use native.Mathlib.Omega.{arith}
 use lib.Dec.{eqb}
-use lib.ListN.{length, take, drop}
+use lib.ListN.{length, take}
 use Rattle.wire.specs.Bytes.{Bytes}
 use Rattle.wire.specs.Room.{over}
-use Rattle.wire.proofs.Over.{over-nil}
 use Rattle.wire.specs.Addresses.{wordCount}
 use Rattle.reading.specs.Place.{acceptedFrame}
 use Rattle.line.specs.declared.Reader.{Reader}
@@ -23,9 +22,8 @@ use Rattle.line.proofs.Truths.{never}
 use Rattle.commands.specs.declared.Outcome.{Outcome}
 use Rattle.commands.specs.declared.Outcome.the-variants.{Done, UnknownCommand, WrongData, PastEnd, Unwritable, WrongValue, ReplyTooLong}
 use Rattle.commands.specs.Outcome as Outcome
-use Rattle.commands.specs.Outcome.{outcome, isDone}
-use Rattle.commands.specs.Perform.{performs}
-use Rattle.commands.proofs.Refusals.{number-refuses, number-at-most-7, refusal-changes-nothing}
+use Rattle.commands.specs.Outcome.{outcome}
+use Rattle.commands.proofs.Refusals.{number-at-most-7}
 use Rattle.panel.specs.declared.Panel.{Panel}
 use Rattle.panel.specs.declared.ContactAnswer.{ContactAnswer}
 use Rattle.panel.specs.declared.ContactAnswer.the-variants as contact-answer
@@ -48,8 +46,8 @@ use Rattle.demands.proofs.Answers.{momentAsked, momentTouched}
 use Rattle.demands.proofs.Waits.{busy-waits}
 use Rattle.demands.proofs.Numbers.{one-more}
 use Rattle.commands.specs.Lent.{withRoom}
-use Rattle.commands.specs.Effect.{answered}
 use Rattle.demands.proofs.FrameAsked.{Asks, handed-asks, done-number, performance-leaves}
+use Rattle.demands.proofs.Access.{refused-does}
 
 -- the numbers of a refused command
 refused-numbers : (o : Outcome) → 0 < Outcome.numberOfOutcome o → 2 ≤ Outcome.numberOfOutcome o
@@ -71,20 +69,13 @@ pub record CommandRefused (now : Moment) (command : ℕ) : Type 0 where
 pub command-refused : (now : Moment) → Sound (now .panel) → (command : ℕ) (content : List ℕ) → Asks now command content → 0 < numberGiven now ask
     → CommandRefused now command
 command-refused now sound command content asks above =
-    let setup = now .panel .setup in
-    let o = outcome (fixedFor setup) wordCount command content in
+    let o = outcome (fixedFor (now .panel .setup)) wordCount command content in
     let number : numberGiven now ask ≡ Outcome.numberOfOutcome o = done-number now sound command content asks in
     let above-0 : 0 < Outcome.numberOfOutcome o = omega arith in
-    let answer = acknowledgementOf setup command true in
-    let part = drop (length answer) (over answer (now .lent .room)) in
-    let p = outcome (fixedFor setup) (length (now .lent .words)) command content in
-    let refused : isDone p ≡ false = rw (asks .well .words) (number-refuses o above-0) in
     record {
       at-least = omega (arith, refused-numbers o above-0);
       at-most = omega (arith, number-at-most-7 o);
-      left = performance-leaves now sound command content asks (answered p 0) (now .lent) []
-          (refusal-changes-nothing (fixedFor setup) (now .panel .registers) content (withRoom (now .lent) part) command refused
-          ∙ ap (λ (r : List ℕ). performs (answered p 0) (withRoom (now .lent) r)) (sym (over-nil part)));
+      left = performance-leaves now sound command content asks _ (now .lent) [] (refused-does now sound command content asks above);
     }
 
 frame-refused : (now : Moment) → Sound (now .panel) → (command : ℕ) (content : List ℕ) → Asks now command content

@@ -53,7 +53,9 @@ use Rattle.demands.proofs.Answers.{momentTouched}
 use Rattle.commands.specs.Lent.{Lent, withWords}
 use Rattle.touch.specs.declared.Setup.{Setup}
 use Rattle.touch.specs.Rounding.{roundingOf}
+use Rattle.demands.specs.Stored.{otherByte, Stores}
 use Rattle.demands.proofs.Storing.{word-below, record-bytes}
+use Rattle.demands.proofs.Stored.{step-keeps-other, slider-keeps-other}
 
 -- a contact that is done had all words, no report waiting, a good table, touch on and a point on the screen
 abbrev touchDone : Panel → Contact → Lent → Contacting
@@ -211,18 +213,27 @@ module _ (now : Moment) (c : Contact) (are : Bytes (c .table)) (done : numberGiv
 
   -- "Step: t is the value with the step added or taken, as whole numbers. ..": the value that the mode finds in the word
   pub step-stores : (f : StepFields) → r .kind ≡ Step f
-      → valueIn (r .mode) (wordAtAddress (after now (contact c) .lent .words) (r .word))
-      ≡ fenced (stepsUp f) (goesRound f) (signed (f .least)) (signed (f .greatest)) (stepped (stepsUp f) (valueIn (r .mode) (wordAtAddress (now .lent .words) (r .word))) (f .step))
+      → Stores (r .mode) (wordAtAddress (now .lent .words) (r .word)) (wordAtAddress (after now (contact c) .lent .words) (r .word))
+      (fenced (stepsUp f) (goesRound f) (signed (f .least)) (signed (f .greatest)) (stepped (stepsUp f) (valueIn (r .mode) (wordAtAddress (now .lent .words) (r .word))) (f .step)))
   step-stores f is =
       let fit = step-fields-fit (c .table) are i f (ap (λ (q : Record). q .kind) (sym same-record) ∙ is) in
-      ap (valueIn (r .mode)) acted-word
-      ∙ step-acts-as-printed (now .panel .setup) r (wordAtAddress (now .lent .words) (r .word)) (c .x) (c .y) (good-kind (now .panel .setup) r acting-good) f is (fit .0) (fit .1)
+      let setup = now .panel .setup in
+      let old = wordAtAddress (now .lent .words) (r .word) in
+      record {
+        stored = ap (valueIn (r .mode)) acted-word ∙ step-acts-as-printed setup r old (c .x) (c .y) (good-kind setup r acting-good) f is (fit .0) (fit .1);
+        other-stays = ap (otherByte (r .mode)) acted-word ∙ step-keeps-other setup r old (c .x) (c .y) f is;
+      }
 
   -- "Slider: with d the distance from the first edge and w the edge-to-edge distance, |end − begin|·d / w rounded down is moved from begin towards end."
   pub slider-stores : (f : SliderFields) → r .kind ≡ Slider f
-      → valueIn (digitMode (r .mode)) (wordAtAddress (after now (contact c) .lent .words) (r .word))
-      ≡ slidTo (roundingOf (now .panel .setup)) (signed (f .begin)) (signed (f .end)) (firstEdge (r .mode) (r .area)) (lastEdge (r .mode) (r .area)) (along (r .mode) (c .x) (c .y))
+      → Stores (digitMode (r .mode)) (wordAtAddress (now .lent .words) (r .word)) (wordAtAddress (after now (contact c) .lent .words) (r .word))
+      (slidTo (roundingOf (now .panel .setup)) (signed (f .begin)) (signed (f .end)) (firstEdge (r .mode) (r .area)) (lastEdge (r .mode) (r .area)) (along (r .mode) (c .x) (c .y)))
   slider-stores f is =
       let fit = slider-fields-fit (c .table) are i f (ap (λ (q : Record). q .kind) (sym same-record) ∙ is) in
-      ap (valueIn (digitMode (r .mode))) acted-word
-      ∙ slider-acts-as-printed (now .panel .setup) r (wordAtAddress (now .lent .words) (r .word)) (c .x) (c .y) (good-kind (now .panel .setup) r acting-good) f is (fit .0) (fit .1)
+      let setup = now .panel .setup in
+      let old = wordAtAddress (now .lent .words) (r .word) in
+      record {
+        stored = ap (valueIn (digitMode (r .mode))) acted-word
+            ∙ slider-acts-as-printed setup r old (c .x) (c .y) (good-kind setup r acting-good) f is (fit .0) (fit .1);
+        other-stays = ap (otherByte (digitMode (r .mode))) acted-word ∙ slider-keeps-other setup r old (c .x) (c .y) f is;
+      }

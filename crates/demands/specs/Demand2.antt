@@ -97,13 +97,15 @@ afterWrite now content =
     leaving now 0x80 (registersLeft (now .panel .registers) content) (cond (catchDropped content) Free (now .panel .catch)) (now .lent) []
 
 -- "0x81, address (1), count (1): read registers. Reply 0x81, address, count, bytes."
-unfoldable pub afterRead : Moment → List ℕ → Moment
-afterRead now content =
+abbrev pub readReply : Moment → List ℕ → List ℕ
+readReply now content =
     let setup = now .panel .setup in
     let address = byteAt content 0 in
     let count = byteAt content 1 in
-    leaving now 0x81 (now .panel .registers) (now .panel .catch) (now .lent)
-    (frameOf (checkingOf setup) (headerOf setup) 0x81 (address ∷ count ∷ registerRun (now .panel .registers) address count))
+    frameOf (checkingOf setup) (headerOf setup) 0x81 (address ∷ count ∷ registerRun (now .panel .registers) address count)
+
+unfoldable pub afterRead : Moment → List ℕ → Moment
+afterRead now content = leaving now 0x81 (now .panel .registers) (now .panel .catch) (now .lent) (readReply now content)
 
 -- "0x82, address (2), one or more words: write variables."
 unfoldable pub afterStore : Moment → List ℕ → Moment
@@ -112,13 +114,15 @@ afterStore now content =
     (withWords (now .lent) (wordsWritten (now .lent .words) (wordAt content 0) (drop 2 content))) []
 
 -- "0x83, address (2), count (1): read variables. Reply 0x83, address, count, words."
-unfoldable pub afterFetch : Moment → List ℕ → Moment
-afterFetch now content =
+abbrev pub fetchReply : Moment → List ℕ → List ℕ
+fetchReply now content =
     let setup = now .panel .setup in
     let address = wordAt content 0 in
     let count = byteAt content 2 in
-    leaving now 0x83 (now .panel .registers) (now .panel .catch) (now .lent)
-    (frameOf (checkingOf setup) (headerOf setup) 0x83 (highFirst address ++ (count ∷ bytesOf (wordRun (now .lent .words) address count))))
+    frameOf (checkingOf setup) (headerOf setup) 0x83 (highFirst address ++ (count ∷ bytesOf (wordRun (now .lent .words) address count)))
+
+unfoldable pub afterFetch : Moment → List ℕ → Moment
+afterFetch now content = leaving now 0x83 (now .panel .registers) (now .panel .catch) (now .lent) (fetchReply now content)
 
 -- "each bad check by the same with 0x00"
 unfoldable pub afterBadCheck : Moment → (command : ℕ) → Moment

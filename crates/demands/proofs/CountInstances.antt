@@ -1,0 +1,66 @@
+-- Reports with counts, by computation: checking and acknowledging on, a read that is done, one that is refused, a command that is not known, and a bad check.
+use mathlib.Core.Path.{_≡_, refl}
+use mathlib.Core.Bool.{true}
+use mathlib.Core.List.{List, [], _∷_}
+use Prim.Native.Nat.{ℕ}
+use native.Mathlib.Omega.{arith}
+use lib.ListN.{replicate}
+use Rattle.wire.specs.Addresses.{wordCount}
+use Rattle.frame.specs.Writer.{leastRoom}
+use Rattle.reading.proofs.ByteLists.{allBytes, tested-bytes}
+use Rattle.commands.specs.declared.Outcome.the-variants.{Done, UnknownCommand, PastEnd}
+use Rattle.commands.specs.Lent.{lending}
+use Rattle.touch.specs.declared.Setup.{Setup}
+use Rattle.panel.specs.declared.StartAnswer.the-variants as start
+use Rattle.panel.specs.Start.{started}
+use Rattle.demands.specs.Calls.{Moment, bytes, begun, after, Typed, Arises, from-start, by-call}
+use Rattle.demands.specs.Counts.{BadCheckCounted, FrameCounted}
+use Rattle.demands.specs.Story.{version}
+use Rattle.demands.proofs.Computed.{computingStart, computingCalls, computingAcknowledgements}
+use Rattle.demands.proofs.Demand2.{counts-of-frame, counts-of-bad-check}
+use Rattle.demands.proofs.Story.{copies-below}
+
+abbrev acknowledging : Setup
+acknowledging = record { h1 = 0x5A; h2 = 0xA5; flags = 3; pages = 2; width = 800; height = 480 }
+
+-- given a frame, every byte of the room EE
+abbrev fed : List ℕ → Moment
+fed frame = after (begun acknowledging [] (lending (replicate wordCount 0) (replicate leastRoom 0xEE))) (bytes frame)
+
+-- 81 of 2 registers from FF on; 84; 81 with wrong check bytes
+abbrev pastEnd : List ℕ
+pastEnd = 0x5A ∷ 0xA5 ∷ 0x05 ∷ 0x81 ∷ 0xFF ∷ 0x02 ∷ 0xE1 ∷ 0xD9 ∷ []
+
+abbrev unknown : List ℕ
+unknown = 0x5A ∷ 0xA5 ∷ 0x05 ∷ 0x84 ∷ 0x00 ∷ 0x01 ∷ 0xF0 ∷ 0x29 ∷ []
+
+abbrev damaged : List ℕ
+damaged = 0x5A ∷ 0xA5 ∷ 0x05 ∷ 0x81 ∷ 0x00 ∷ 0x01 ∷ 0xE0 ∷ 0x29 ∷ []
+
+starts : started acknowledging [] .answer ≡ start.Started
+unfolding computingStart
+starts = refl
+
+fed-arises : (frame : List ℕ) → allBytes frame ≡ true → Arises (fed frame)
+unfolding Typed
+fed-arises frame are =
+    by-call (begun acknowledging [] (lending (replicate wordCount 0) (replicate leastRoom 0xEE))) (bytes frame) (tested-bytes frame are)
+    (from-start acknowledging [] (lending (replicate wordCount 0) (replicate leastRoom 0xEE)) (omega arith) (omega arith)
+    (λ k. copies-below wordCount 0 k (omega arith)) starts)
+
+-- two bytes of data each; seven bytes of acknowledgement; nine of reply where the read is done
+pub read-counted : FrameCounted (fed version) 0x81 2 7 9
+unfolding computingCalls computingAcknowledgements allBytes
+read-counted = counts-of-frame (fed version) (fed-arises version refl) 0x81 2 Done 7 9 refl
+
+pub refused-counted : FrameCounted (fed pastEnd) 0x81 2 7 0
+unfolding computingCalls computingAcknowledgements allBytes
+refused-counted = counts-of-frame (fed pastEnd) (fed-arises pastEnd refl) 0x81 2 PastEnd 7 0 refl
+
+pub unknown-counted : FrameCounted (fed unknown) 0x84 2 7 0
+unfolding computingCalls computingAcknowledgements allBytes
+unknown-counted = counts-of-frame (fed unknown) (fed-arises unknown refl) 0x84 2 UnknownCommand 7 0 refl
+
+pub damaged-counted : BadCheckCounted (fed damaged) 0x81 7
+unfolding computingCalls computingAcknowledgements allBytes
+damaged-counted = counts-of-bad-check (fed damaged) (fed-arises damaged refl) 0x81 7 refl
