@@ -21,10 +21,10 @@ pub is-waiting-determined : OneAnswer 0 is-waiting-kinds.ps is-waiting-kinds.r i
 is-waiting-determined κs a x y s t p q = p ∙ sym q
 
 pub give-byte-determined : OneAnswer 0 give-byte-kinds.ps give-byte-kinds.r give-byte.Post
-give-byte-determined κs a x y s t p q = p ∙ sym q
+give-byte-determined κs a x y s t p q = p .0 ∙ sym (q .0)
 
 pub give-mark-determined : OneAnswer 0 give-mark-kinds.ps give-mark-kinds.r give-mark.Post
-give-mark-determined κs a x y s t p q = p ∙ sym q
+give-mark-determined κs a x y s t p q = p .0 ∙ sym (q .0)
 
 pub ask-determined : OneAnswer 0 ask-kinds.ps ask-kinds.r ask.Post
 ask-determined κs a x y s t p q = p ∙ sym q

@@ -12,3 +12,4 @@ pub mod Noise
 pub mod Carried
 pub mod Determined
 pub mod Handing
+pub mod Said

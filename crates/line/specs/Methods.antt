@@ -16,6 +16,7 @@ use Rattle.line.specs.declared.Gave.{Gave}
 use Rattle.line.specs.declared.Report.{Report}
 use Rattle.line.specs.declared.Report.the-variants.{Accepted, BadCheck, Nothing}
 use Rattle.line.specs.declared.Asked.{Asked}
+use Rattle.wire.specs.Numbers.{Said, says, Listed, _when_, firstSaid}
 use Rattle.line.specs.State.{rulesFor, padded, readerOf, keptOf, settledReader}
 
 -- 01's number of each answer
@@ -40,6 +41,16 @@ busy reader = not (takes (reader .len) (reader .head))
 -- what an input is answered, and the reader as it is then
 abbrev pub gives : Answer → Reader → Given
 gives answer reader = record { answer = answer; reader = reader }
+
+-- what an input is answered, and by which list: "byte or mark 1"
+unfoldable pub answerSaid : Answer → Said
+answerSaid answer = says (numberOfAnswer answer) []
+
+unfoldable pub inputListed : Reader → List Listed
+inputListed reader = (says 1 [] when busy reader) ∷ []
+
+abbrev pub inputSaid : Reader → Said
+inputSaid reader = firstSaid (inputListed reader) (says 0 [])
 
 -- "Bytes or marks are given one at a time"; "otherwise a refusal changes nothing"
 unfoldable pub givenByte : Reader → ℕ → Given

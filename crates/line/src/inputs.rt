@@ -13,7 +13,7 @@ use place::Look;
 ghost use mathlib.Core.Path.{_≡_};
 ghost use Rattle.reading.specs.Moves.{fresh};
 ghost use Rattle.line.specs.State.{readerOf};
-ghost use Rattle.line.specs.Methods.{busy, givenByte, givenMark, givenBytes};
+ghost use Rattle.line.specs.Methods.{busy, answerSaid, inputSaid, givenByte, givenMark, givenBytes};
 
 impl Reader {
     // A reader that holds nothing.
@@ -44,6 +44,7 @@ impl Reader {
     // Gives one byte.
     pub fn give_byte(self, b: u8) -> Given
         ensures { λ r. ⌜ r ≡ givenByte self b ⌝ }
+        ensures { λ r. ⌜ answerSaid (r .answer) ≡ inputSaid self ⌝ }
     {
         let n = self.len;
         let head = self.head;
@@ -67,6 +68,7 @@ impl Reader {
     // Gives a quiet mark.
     pub fn give_mark(self) -> Given
         ensures { λ r. ⌜ r ≡ givenMark self ⌝ }
+        ensures { λ r. ⌜ answerSaid (r .answer) ≡ inputSaid self ⌝ }
     {
         let n = self.len;
         let head = self.head;

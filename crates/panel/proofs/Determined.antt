@@ -38,16 +38,16 @@ report-determined κs a x y s t p q =
 
 pub contact-determined : OneAnswerLeft 2 contact-kinds.ps contact-kinds.r contact.Post (λ κs s. now (s .1 .1 .0))
 contact-determined κs a x y s t p q =
-    (ap (λ (d : Contacting). d .contacted) (p [] ∙ sym (q [])), ap (λ (d : Contacting). d .lent .words) (p [] ∙ sym (q [])))
+    (ap (λ (d : Contacting). d .contacted) (p .0 [] ∙ sym (q .0 [])), ap (λ (d : Contacting). d .lent .words) (p .0 [] ∙ sym (q .0 [])))
 
 pub start-determined : OneAnswer 1 start-kinds.ps start-kinds.r start.Post
-start-determined κs a x y s t p q = p ∙ sym q
+start-determined κs a x y s t p q = p .0 ∙ sym (q .0)
 
 pub give-byte-determined : OneAnswer 0 give-byte-kinds.ps give-byte-kinds.r give-byte.Post
-give-byte-determined κs a x y s t p q = p ∙ sym q
+give-byte-determined κs a x y s t p q = p .0 ∙ sym (q .0)
 
 pub give-mark-determined : OneAnswer 0 give-mark-kinds.ps give-mark-kinds.r give-mark.Post
-give-mark-determined κs a x y s t p q = p ∙ sym q
+give-mark-determined κs a x y s t p q = p .0 ∙ sym (q .0)
 
 pub give-bytes-determined : OneAnswer 1 give-bytes-kinds.ps give-bytes-kinds.r give-bytes.Post
 give-bytes-determined κs a x y s t p q = p ∙ sym q
@@ -65,7 +65,7 @@ pub buzzer-determined : OneAnswer 0 buzzer-kinds.ps buzzer-kinds.r buzzer.Post
 buzzer-determined κs a x y s t p q = p ∙ sym q
 
 pub lift-determined : OneAnswer 0 lift-kinds.ps lift-kinds.r lift.Post
-lift-determined κs a x y s t p q = p ∙ sym q
+lift-determined κs a x y s t p q = p .0 ∙ sym (q .0)
 
 pub is-waiting-determined : OneAnswer 0 is-waiting-kinds.ps is-waiting-kinds.r is-waiting.Post
 is-waiting-determined κs a x y s t p q = p ∙ sym q

@@ -9,3 +9,4 @@ pub mod Soundness
 pub mod Invariant
 pub mod ExampleF
 pub mod Lengths
+pub mod Said

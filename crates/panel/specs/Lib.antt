@@ -6,3 +6,4 @@ pub mod Reporting
 pub mod Contacts
 pub mod Sound
 pub mod Reachable
+pub mod Listed

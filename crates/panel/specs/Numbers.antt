@@ -1,5 +1,6 @@
 -- 01, "Numbers given back": the number of each answer.
 use Prim.Native.Nat.{ℕ}
+use mathlib.Core.List.{[], _∷_}
 use Rattle.commands.specs.Outcome.{numberOfOutcome}
 use Rattle.panel.specs.declared.StartAnswer.{StartAnswer}
 use Rattle.panel.specs.declared.StartAnswer.the-variants as start
@@ -8,6 +9,7 @@ use Rattle.panel.specs.declared.Handed.the-variants as handed
 use Rattle.panel.specs.declared.ContactAnswer.{ContactAnswer}
 use Rattle.panel.specs.declared.ContactAnswer.the-variants as contact
 use Rattle.panel.specs.declared.LiftAnswer.{LiftAnswer}
+use Rattle.wire.specs.Numbers.{Said, says}
 use Rattle.panel.specs.declared.LiftAnswer.the-variants as lift
 
 unfoldable pub startNumber : StartAnswer → ℕ
@@ -36,3 +38,22 @@ unfoldable pub liftNumber : LiftAnswer → ℕ
 liftNumber lift.Done = 0
 liftNumber lift.Waits = 1
 liftNumber lift.IsUp = 10
+
+-- what is named beside the number: "13: a record is wrong; the first wrong one is named"
+unfoldable pub startSaid : StartAnswer → Said
+startSaid start.Started = says (startNumber start.Started) []
+startSaid start.WrongSetup = says (startNumber start.WrongSetup) []
+startSaid start.NotRecords = says (startNumber start.NotRecords) []
+startSaid (start.WrongRecord i) = says (startNumber (start.WrongRecord i)) (i ∷ [])
+
+unfoldable pub contactSaid : ContactAnswer → Said
+contactSaid contact.Done = says (contactNumber contact.Done) []
+contactSaid contact.NotLent = says (contactNumber contact.NotLent) []
+contactSaid contact.Waits = says (contactNumber contact.Waits) []
+contactSaid contact.NotRecords = says (contactNumber contact.NotRecords) []
+contactSaid (contact.WrongRecord i) = says (contactNumber (contact.WrongRecord i)) (i ∷ [])
+contactSaid contact.TouchOff = says (contactNumber contact.TouchOff) []
+contactSaid contact.OffScreen = says (contactNumber contact.OffScreen) []
+
+unfoldable pub liftSaid : LiftAnswer → Said
+liftSaid answer = says (liftNumber answer) []

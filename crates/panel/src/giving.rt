@@ -1,6 +1,6 @@
 // Line bytes and quiet marks: the reader takes them or refuses them.
 ghost use mathlib.Core.Path.{_≡_};
-ghost use Rattle.line.specs.Methods.{busy};
+ghost use Rattle.line.specs.Methods.{busy, answerSaid, inputSaid};
 ghost use Rattle.panel.specs.Inputs.{fedByte, fedMark, fedBytes};
 use crate::Fed;
 use crate::FedBytes;
@@ -10,6 +10,7 @@ impl Panel {
     // Gives a line byte.
     pub fn give_byte(self, b: u8) -> Fed
         ensures { λ r. ⌜ r ≡ fedByte self b ⌝ }
+        ensures { λ r. ⌜ answerSaid (r .answer) ≡ inputSaid (self .reader) ⌝ }
     {
         let reader = self.reader;
         let given = reader.give_byte(b);
@@ -27,6 +28,7 @@ impl Panel {
     // Gives a quiet mark.
     pub fn give_mark(self) -> Fed
         ensures { λ r. ⌜ r ≡ fedMark self ⌝ }
+        ensures { λ r. ⌜ answerSaid (r .answer) ≡ inputSaid (self .reader) ⌝ }
     {
         let reader = self.reader;
         let given = reader.give_mark();

@@ -1,6 +1,8 @@
 // Starting a panel.
 ghost use mathlib.Core.Path.{_≡_};
 ghost use Rattle.panel.specs.State.{headerFor};
+ghost use Rattle.panel.specs.Numbers.{startSaid};
+ghost use Rattle.panel.specs.Listed.{startListed, saidBy};
 ghost use Rattle.panel.specs.Start.{newPanel, noPanel, started};
 use crate::Panel;
 use crate::Start;
@@ -52,6 +54,7 @@ impl Panel {
     // Starts a panel, or refuses with 11, 12 or 13.
     pub fn start(setup: Setup, table: &[u8]) -> Start
         ensures { λ r. ⌜ r ≡ started setup (now (table .entry)) ⌝ }
+        ensures { λ r. ⌜ startSaid (r .answer) ≡ saidBy (startListed setup (now (table .entry))) ⌝ }
     {
         if touch::good_setup(setup) {
             let verdict = touch::judge(setup, table);

@@ -5,6 +5,8 @@ ghost use Prim.Native.Nat.{ℕ};
 ghost use Rattle.commands.specs.Lent.{lending};
 ghost use Rattle.touch.specs.Judge.{judged};
 ghost use Rattle.panel.specs.State.{withPad};
+ghost use Rattle.panel.specs.Numbers.{contactSaid, liftSaid};
+ghost use Rattle.panel.specs.Listed.{contactListed, liftListed, saidBy};
 ghost use Rattle.panel.specs.Contacts.{contactAt, contacts, contactOn, contactJudged, contacting, lifting};
 use crate::ContactAnswer;
 use crate::Contacted;
@@ -19,6 +21,7 @@ impl Panel {
     // A contact at a point, under the table that is lent.
     pub fn contact(self, table: &[u8], words: &mut [u16], x: u16, y: u16) -> Contacted
         ensures { λ r. ⌜ ((room : List ℕ) → contacts (r .answer) (r .panel) (lending (now (words .exit)) room) ≡ contacting self (contactAt (now (table .entry)) x y) (lending (now (words .entry)) room)) ⌝ }
+        ensures { λ r. ⌜ ((room : List ℕ) → contactSaid (r .answer) ≡ saidBy (contactListed self (contactAt (now (table .entry)) x y) (lending (now (words .entry)) room))) ⌝ }
     {
         if words.len() == WORD_COUNT {
             let reader = self.reader;
@@ -39,6 +42,7 @@ impl Panel {
 
     pub fn lift(self) -> Lifted
         ensures { λ r. ⌜ r ≡ lifting self ⌝ }
+        ensures { λ r. ⌜ liftSaid (r .answer) ≡ saidBy (liftListed self) ⌝ }
     {
         let reader = self.reader;
         if reader.is_waiting() {

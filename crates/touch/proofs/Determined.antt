@@ -1,4 +1,5 @@
 -- One answer fits each public function.
+use mathlib.Core.Path.{sym, _∙_}
 use Rattle.wire.proofs.OneAnswer.{OneAnswer}
 use Rattle.touch.proofs.setups.good_setup.Reads as good-setup
 use Rattle.touch.proofs.setups.good_setup.Kinds as good-setup-kinds
@@ -24,7 +25,7 @@ use Rattle.touch.proofs.acting.dragged.Reads as dragged
 use Rattle.touch.proofs.acting.dragged.Kinds as dragged-kinds
 
 pub good-setup-determined : OneAnswer 0 good-setup-kinds.ps good-setup-kinds.r good-setup.Post
-good-setup-determined κs a x y s t p q = cc
+good-setup-determined κs a x y s t p q = p .0 ∙ sym (q .0)
 
 pub checking-determined : OneAnswer 0 checking-kinds.ps checking-kinds.r checking.Post
 checking-determined κs a x y s t p q = cc
@@ -45,7 +46,7 @@ pub good-record-determined : OneAnswer 0 good-record-kinds.ps good-record-kinds.
 good-record-determined κs a x y s t p q = cc
 
 pub judge-determined : OneAnswer 1 judge-kinds.ps judge-kinds.r judge.Post
-judge-determined κs a x y s t p q = cc
+judge-determined κs a x y s t p q = p .0 ∙ sym (q .0)
 
 pub find-determined : OneAnswer 1 find-kinds.ps find-kinds.r find.Post
 find-determined κs a x y s t p q = cc

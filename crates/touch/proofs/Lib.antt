@@ -9,3 +9,4 @@ pub mod ByCode
 pub mod ByKind
 pub mod TableAnswers
 pub mod Determined
+pub mod Said

@@ -1,6 +1,6 @@
 -- 01, "Setup and touch table", which records and which tables are good. "A field outside what is printed makes the record wrong."
 use Prim.Native.Nat.{ℕ, _*_, _%_}
-use mathlib.Core.Bool.{Bool, false, _&&_, _||_, not, cond}
+use mathlib.Core.Bool.{Bool, true, false, _&&_, _||_, not, cond}
 use mathlib.Core.List.{List, [], _∷_}
 use lib.Dec.{ltb, leb, eqb}
 use lib.ListN.{length}
@@ -19,6 +19,7 @@ use Rattle.touch.specs.declared.Found.the-variants.{Nothing, At}
 use Rattle.wire.specs.Addresses.{wordCount}
 use Rattle.stores.specs.Store.{signed, goodEnd}
 use Rattle.touch.specs.Record.{noNext, digitMode, firstEdge, lastEdge}
+use Rattle.wire.specs.Numbers.{Said, says, Listed, _when_, firstSaid}
 use Rattle.touch.specs.Table.{firstOf, recordsOf, recordBytes, mostRecords}
 
 -- "the area on the screen with Xs ≤ Xe, Ys ≤ Ye"
@@ -98,3 +99,23 @@ abbrev pub namedByVerdict : Verdict → List ℕ
 namedByVerdict Good = []
 namedByVerdict NotRecords = []
 namedByVerdict (Wrong i) = i ∷ []
+
+unfoldable pub verdictSaid : Verdict → Said
+verdictSaid verdict = says (numberOfVerdict verdict) (namedByVerdict verdict)
+
+-- the list by which a table is judged: "12 table longer than 128 records or not whole records", "13 a record is wrong; the first wrong one is named"
+abbrev pub isFound : Found → Bool
+isFound Nothing = false
+isFound (At i r) = true
+
+abbrev pub numberFound : Found → List ℕ
+numberFound Nothing = []
+numberFound (At i r) = i ∷ []
+
+unfoldable pub tableListed : Setup → List ℕ → List Listed
+tableListed s table =
+    let first = firstOf (wrong s) 0 (recordsOf table) in
+    (says 12 [] when notRecords table) ∷ (says 13 (numberFound first) when isFound first) ∷ []
+
+abbrev pub tableSaid : Setup → List ℕ → Said
+tableSaid s table = firstSaid (tableListed s table) (says 0 [])

@@ -1,7 +1,9 @@
 -- 01, "Setup and touch table", the setup.
 use Prim.Native.Nat.{ℕ, _/_, _%_}
-use mathlib.Core.Bool.{Bool, _&&_, cond}
+use mathlib.Core.Bool.{Bool, cond, not, _&&_}
+use mathlib.Core.List.{List, [], _∷_}
 use lib.Dec.{ltb, leb, eqb}
+use Rattle.wire.specs.Numbers.{Said, says, Listed, _when_, firstSaid}
 use Rattle.touch.specs.declared.Setup.{Setup}
 
 -- "flags (bit 0 checking, bit 1 acknowledging, others 0)": how many values they may take
@@ -24,6 +26,12 @@ goodSetup s =
     && leb 1 (s .width) && leb (s .width) 1024
     && leb 1 (s .height) && leb (s .height) 768
 
--- 01, "Numbers given back": "11 setup wrong"
-abbrev pub numberOfSetup : Setup → ℕ
-numberOfSetup s = cond (goodSetup s) 0 11
+-- 01, "Numbers given back": what is said of a setup that is good or not, and by which list: "11 setup wrong"
+abbrev pub numberOfSetup : (good : Bool) → ℕ
+numberOfSetup good = cond good 0 11
+
+unfoldable pub setupListed : Setup → List Listed
+setupListed s = (says 11 [] when not (goodSetup s)) ∷ []
+
+abbrev pub setupSaid : Setup → Said
+setupSaid s = firstSaid (setupListed s) (says 0 [])

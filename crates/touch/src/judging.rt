@@ -2,7 +2,7 @@
 ghost use mathlib.Core.Path.{_≡_};
 ghost use Rattle.stores.specs.Store.{goodEnd};
 ghost use Rattle.touch.specs.Table.{recordsOf};
-ghost use Rattle.touch.specs.Judge.{goodArea, goodStep, sameArea, goodSlider, goodKind, goodRecord, firstWrong, judged};
+ghost use Rattle.touch.specs.Judge.{goodArea, goodStep, sameArea, goodSlider, goodKind, goodRecord, firstWrong, judged, verdictSaid, tableSaid};
 use crate::Area;
 use crate::END_PAGE;
 use crate::Kind;
@@ -111,6 +111,7 @@ fn first_wrong(s: Setup, table: &[u8]) -> Verdict
 // Whether a table is good under a setup, and if not, why.
 pub fn judge(s: Setup, table: &[u8]) -> Verdict
     ensures { λ r. ⌜ r ≡ judged s (now (table .entry)) ⌝ }
+    ensures { λ r. ⌜ verdictSaid r ≡ tableSaid s (now (table .entry)) ⌝ }
 {
     let size = table.len();
     if (MOST_RECORDS * RECORD_BYTES < size) | (size % RECORD_BYTES != 0) {

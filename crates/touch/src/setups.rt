@@ -1,6 +1,8 @@
 // What a setup may say, and what it chooses.
 ghost use mathlib.Core.Path.{_≡_};
-ghost use Rattle.touch.specs.Setup.{goodSetup, checkingOf, acknowledgingOf};
+ghost use mathlib.Core.List.{[]};
+ghost use Rattle.wire.specs.Numbers.{says};
+ghost use Rattle.touch.specs.Setup.{goodSetup, numberOfSetup, setupSaid, checkingOf, acknowledgingOf};
 use crate::Setup;
 
 // How many values the flags may take: bit 0 checking, bit 1 acknowledging.
@@ -8,6 +10,7 @@ const FLAG_VALUES: u8 = 4;
 
 pub fn good_setup(s: Setup) -> bool
     ensures { λ r. ⌜ r ≡ goodSetup s ⌝ }
+    ensures { λ r. ⌜ says (numberOfSetup r) [] ≡ setupSaid s ⌝ }
 {
     (s.flags < FLAG_VALUES)
         & (1 <= s.pages)

@@ -2,3 +2,4 @@ pub mod Bytes
 pub mod ByteOrder
 pub mod Room
 pub mod Addresses
+pub mod Numbers

@@ -2,6 +2,7 @@
 use Rattle.line.proofs.Giving.{below-full, one-more-fits, longer-inside, longer-counted, longer-fits, byte-taken, byte-refused}
 use borrow.Author.Needs.{needs}
 use Rattle.line.proofs.Reader.give_byte.Statement.{statement}
+use Rattle.line.proofs.Said.{byte-said}
 use Rattle.line.proofs.Reader.give_byte.Tie as tie
 
 pub give-byte-spec : {M : Type 1} → statement M
@@ -14,5 +15,5 @@ give-byte-spec =
     (λ c. search (needs, longer-inside))
     (λ c. search (needs, longer-counted))
     (λ c κs. search longer-fits)
-    (λ c. search (needs, byte-taken))
-    (λ c. search byte-refused))
+    (λ c. byte-said _ _ _ (search (needs, byte-taken)))
+    (λ c. byte-said _ _ _ (search byte-refused)))

@@ -2,6 +2,7 @@
 use borrow.Author.Needs.{needs}
 use Rattle.panel.proofs.Touches.{number-14, number-1, then-judged}
 use Rattle.panel.proofs.Panel.contact.Statement.{statement}
+use Rattle.panel.proofs.Said.{contact-said}
 use Rattle.panel.proofs.Panel.contact.Tie as tie
 
 pub contact-spec : {M : Type 1} → statement M
@@ -9,8 +10,8 @@ contact-spec =
     tie.close
     (tie.spec
     (λ c κs. search needs)
-    (λ c. search number-1)
+    (λ c. contact-said _ _ _ _ _ (search number-1))
     (λ c κs. search needs)
     (λ c. search needs)
-    (λ c. search then-judged)
-    (λ c. search number-14))
+    (λ c. contact-said _ _ _ _ _ (search then-judged))
+    (λ c. contact-said _ _ _ _ _ (search number-14)))

@@ -1,6 +1,7 @@
 -- `panel::Panel::give_mark` meets its contract.
 use borrow.Author.Needs.{needs}
 use Rattle.panel.proofs.Inputs.{mark-fed}
+use Rattle.panel.proofs.Said.{mark-fed-said}
 use Rattle.panel.proofs.Panel.give_mark.Statement.{statement}
 use Rattle.panel.proofs.Panel.give_mark.Tie as tie
 
@@ -9,4 +10,4 @@ give-mark-spec =
     tie.close
     (tie.spec
     (λ c κs. search needs)
-    (λ c. search mark-fed))
+    (λ c. mark-fed-said _ _ (search mark-fed)))

@@ -2,6 +2,7 @@
 use borrow.Author.Needs.{needs}
 use Rattle.panel.proofs.Inputs.{setup-refused, start-done, start-not-records, start-wrong}
 use Rattle.panel.proofs.Panel.start.Statement.{statement}
+use Rattle.panel.proofs.Said.{start-said}
 use Rattle.panel.proofs.Panel.start.Tie as tie
 
 pub start-spec : {M : Type 1} → statement M
@@ -17,7 +18,7 @@ start-spec =
     (λ c. search needs)
     (λ c κs. search needs)
     (λ c κs. search needs)
-    (λ c. search start-done)
-    (λ c. search start-not-records)
-    (λ c. search start-wrong)
-    (λ c. search setup-refused))
+    (λ c. start-said _ _ _ (search start-done))
+    (λ c. start-said _ _ _ (search start-not-records))
+    (λ c. start-said _ _ _ (search start-wrong))
+    (λ c. start-said _ _ _ (search setup-refused)))

@@ -1,0 +1,27 @@
+-- 01, "Numbers given back": what an answer says, and the list by which it is given.
+use Prim.Native.Nat.{ℕ}
+use mathlib.Core.Bool.{Bool, cond}
+use mathlib.Core.List.{List, [], _∷_}
+
+-- "a definition gives this paper's number and values for each of its cases"
+pub record Said : Type 0 where
+  pub number : ℕ
+  -- what is named beside the number
+  pub values : List ℕ
+
+abbrev pub says : (number : ℕ) → (values : List ℕ) → Said
+says number values = record { number = number; values = values }
+
+-- a number of the table with what is named beside it, and whether its condition holds
+pub record Listed : Type 0 where
+  pub said : Said
+  pub holds : Bool
+
+infix 20 _when_
+abbrev pub _when_ : Said → Bool → Listed
+said when holds = record { said = said; holds = holds }
+
+-- "The first number in order whose condition holds is given"; where none holds, what is said then
+unfoldable pub firstSaid : List Listed → (otherwise : Said) → Said
+firstSaid [] otherwise = otherwise
+firstSaid (l ∷ ls) otherwise = cond (l .holds) (l .said) (firstSaid ls otherwise)
