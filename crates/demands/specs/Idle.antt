@@ -2,7 +2,7 @@
 -- and reading only the first stretch or frame properly (3)." What each of them would do, said of any build. proofs/Idle shows that no build which
 -- keeps the demand is idle. The same is tried on the code by must-fail edits: crates/commands/must-fail/every_frame_refused, all_reads_alike,
 -- taken_without_storing; crates/words/must-fail/taken_without_storing; crates/panel/must-fail/taken_without_storing, stuck_at_the_first_report;
--- crates/place/must-fail/every_frame_passed_over; crates/line/must-fail/only_first_frame, only_first_stretch. What each did when it was run stands in it.
+-- crates/place/must-fail/every_frame_passed_over; crates/line/must-fail/only_first_frame, only_first_stretch. Each says in which run it is seen.
 use Prim.Native.Nat.{ℕ, _≤_}
 use mathlib.Core.Path.{_≡_}
 use mathlib.Core.List.{List, [], _∷_, _++_, map}
