@@ -32,7 +32,7 @@ pub fn answer(o: Outcome, replied: usize) -> Performed
     }
 }
 
-pub fn is_reply_too_long(checking: bool, payload: usize) -> bool
+pub(crate) fn is_reply_too_long(checking: bool, payload: usize) -> bool
     requires { ⌜ payload ≤ 1000 ⌝ }
     ensures { λ r. ⌜ r ≡ replyTooLong checking payload ⌝ }
 {

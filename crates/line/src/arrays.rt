@@ -25,7 +25,7 @@ pub fn no_payload() -> [u8; MOST_PAYLOAD]
 }
 
 // These bytes at the front of a new array.
-pub fn packed(s: &[u8]) -> [u8; LONGEST_FRAME]
+pub(crate) fn packed(s: &[u8]) -> [u8; LONGEST_FRAME]
     requires { ⌜ length (now s) ≤ longestFrame ⌝ }
     ensures { λ r. ⌜ r ≡ padded longestFrame (now (s .entry)) ⌝ }
 {
@@ -44,7 +44,7 @@ fn copy_held(reader: Reader, from: usize, to: usize, out: &mut [u8])
 }
 
 // The same, where nothing may be there to lay. A reader lent by value is copied at a call: so the call stands behind the test.
-pub fn put_held(reader: Reader, from: usize, to: usize, out: &mut [u8])
+pub(crate) fn put_held(reader: Reader, from: usize, to: usize, out: &mut [u8])
     requires { ⌜ (from ≤ to) × (to ≤ longestFrame) × (to - from ≤ length (now out)) ⌝ }
     ensures { λ _. ⌜ now (out .exit) ≡ over (take (to - from) (drop from (reader .held))) (now (out .entry)) ⌝ }
 {

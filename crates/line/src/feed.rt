@@ -70,7 +70,7 @@ fn noise_length(h1: u8, bytes: &[u8]) -> usize
 }
 
 // Gives bytes to a reader that takes them, in place: a byte that nothing waits for is skipped, a block that decides nothing is copied.
-pub fn feed(line: Line, held: &mut [u8], count: usize, bytes: &[u8]) -> Fed
+pub(crate) fn feed(line: Line, held: &mut [u8], count: usize, bytes: &[u8]) -> Fed
     requires { ⌜ (count ≤ longestFrame) × (length (now held) ≡ longestFrame) × (now held ≡ padded longestFrame (take count (now held))) ⌝ }
     ensures { λ r. ⌜ gave (r .used) (opened line (now (held .exit)) (r .len) (r .head)) ≡ givenBytes (opened line (now (held .entry)) count Wait) (now (bytes .entry)) ⌝ }
 {

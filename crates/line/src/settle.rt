@@ -15,7 +15,7 @@ ghost use Rattle.line.specs.State.{rulesFor, padded, settledReader};
 ghost use Rattle.place.specs.Looks.{stopOf};
 
 // Goes past all that is passed over of the n bytes held in an open stretch, and brings what is left to the front.
-pub fn settle_in(line: Line, held: &mut [u8], n: usize) -> Rest
+pub(crate) fn settle_in(line: Line, held: &mut [u8], n: usize) -> Rest
     requires { ⌜ (n ≤ longestFrame) × (length (now held) ≡ longestFrame) × (now held ≡ padded longestFrame (take n (now held))) ⌝ }
     ensures { λ r. ⌜ (r ≡ restOf line (take n (now (held .entry)))) × (now (held .exit) ≡ padded longestFrame (leftOf line (take n (now (held .entry))))) ⌝ }
 {
@@ -34,7 +34,7 @@ pub fn settle_in(line: Line, held: &mut [u8], n: usize) -> Rest
 }
 
 // The reader that holds what is left of these bytes.
-pub fn settle(line: Line, closed: bool, s: &[u8]) -> Reader
+pub(crate) fn settle(line: Line, closed: bool, s: &[u8]) -> Reader
     requires { ⌜ length (now s) ≤ longestFrame ⌝ }
     ensures { λ r. ⌜ r ≡ settledReader line closed (now (s .entry)) ⌝ }
 {
@@ -64,7 +64,7 @@ fn stop_behind(reader: Reader, k: usize) -> Stop
 }
 
 // Lays what is left behind the first k bytes held.
-pub fn settle_left(reader: Reader, k: usize, left: &mut [u8]) -> Rest
+pub(crate) fn settle_left(reader: Reader, k: usize, left: &mut [u8]) -> Rest
     requires { ⌜ (k ≤ reader .len) × (reader .len ≤ longestFrame) × (now left ≡ padded longestFrame []) ⌝ }
     ensures { λ r. ⌜ readerWith (reader .line) (reader .closed) (r .len) (r .head) (now (left .exit)) ≡ settledReader (reader .line) (reader .closed) (take (reader .len - k) (drop k (reader .held))) ⌝ }
 {

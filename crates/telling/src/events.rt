@@ -67,7 +67,7 @@ fn do_lift(panel: Panel, room: &mut [u8]) -> PanelPrinted
     }
 }
 
-pub fn do_event(
+pub(crate) fn do_event(
     panel: Panel,
     item: [u8; ITEM_BYTES],
     table: &[u8],

@@ -15,7 +15,7 @@ use panel::Handed;
 use text::Line;
 
 // One line.
-pub fn print_line(line: Line, room: &mut [u8]) -> usize
+pub(crate) fn print_line(line: Line, room: &mut [u8]) -> usize
     requires { ⌜ leastText ≤ length (now room) ⌝ }
     ensures { λ r. ⌜ (lays r (now (room .exit)) ≡ prints (lineText line) (now (room .entry))) × (r ≤ longestLine) ⌝ }
 {
@@ -65,7 +65,7 @@ fn print_both(
 }
 
 // The lines of a report.
-pub fn print_report(handed: Handed, reply: &[u8], room: &mut [u8]) -> usize
+pub(crate) fn print_report(handed: Handed, reply: &[u8], room: &mut [u8]) -> usize
     requires { ⌜ (leastText ≤ length (now room)) × (length (now reply) ≡ leastRoom) × (acknowledgedBy handed ≤ acknowledgementBytes) × (repliedBy handed ≤ longestFrame) ⌝ }
     ensures { λ r. ⌜ lays r (now (room .exit)) ≡ prints (reportText handed (now (reply .entry))) (now (room .entry)) ⌝ }
 {

@@ -18,7 +18,7 @@ fn no_reply() -> [u8; LEAST_ROOM]
 }
 
 // Asks for one report and prints it.
-pub fn ask_once(panel: Panel, words: &mut [u16], room: &mut [u8]) -> PanelPrinted
+pub(crate) fn ask_once(panel: Panel, words: &mut [u16], room: &mut [u8]) -> PanelPrinted
     requires { ⌜ leastText ≤ length (now room) ⌝ }
     ensures { λ r. ⌜ leavesPanel r (remembering (now (words .exit))) (now (room .exit)) ≡ panelPrinting (askedOnce panel (remembering (now (words .entry)))) (now (room .entry)) ⌝ }
 {

@@ -79,7 +79,7 @@ fn grow(trace: Trace, b: u8, table: &mut [u8], words: &mut [u16], room: &mut [u8
 }
 
 // One byte of the input.
-pub fn take_byte(
+pub(crate) fn take_byte(
     trace: Trace,
     b: u8,
     table: &mut [u8],

@@ -62,7 +62,7 @@ fn started_event(
 }
 
 // An event, the first of which starts the panel; where the start is refused, the trace fails.
-pub fn any_event(
+pub(crate) fn any_event(
     trace: Trace,
     item: [u8; ITEM_BYTES],
     table: &[u8],

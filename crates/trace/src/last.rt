@@ -34,7 +34,7 @@ fn print_last(trace: Trace, table: &[u8], room: &mut [u8]) -> usize
 }
 
 // Writes the last line of any trace; one that has failed has none.
-pub fn print_end(trace: Trace, table: &[u8], room: &mut [u8]) -> usize
+pub(crate) fn print_end(trace: Trace, table: &[u8], room: &mut [u8]) -> usize
     requires { ⌜ (tableBytes ≤ length (now table)) × (leastText ≤ length (now room)) ⌝ }
     ensures { λ r. ⌜ lays r (now (room .exit)) ≡ prints (endText trace (now (table .entry))) (now (room .entry)) ⌝ }
 {

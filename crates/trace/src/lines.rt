@@ -13,7 +13,7 @@ use crate::TracePrinted;
 use text::Line;
 
 // Writes a line over the front of a room that has space for it; answers how many bytes.
-pub fn print_line(line: Line, room: &mut [u8]) -> usize
+pub(crate) fn print_line(line: Line, room: &mut [u8]) -> usize
     requires { ⌜ leastText ≤ length (now room) ⌝ }
     ensures { λ r. ⌜ (lays r (now (room .exit)) ≡ prints (lineText line) (now (room .entry))) × (r ≤ longestLine) ⌝ }
 {
@@ -21,7 +21,7 @@ pub fn print_line(line: Line, room: &mut [u8]) -> usize
 }
 
 // The trace fails with a line.
-pub fn stop(trace: Trace, line: Line, room: &mut [u8]) -> TracePrinted
+pub(crate) fn stop(trace: Trace, line: Line, room: &mut [u8]) -> TracePrinted
     requires { ⌜ leastText ≤ length (now room) ⌝ }
     ensures { λ r. ⌜ (r .trace ≡ stopped trace) × (lays (r .count) (now (room .exit)) ≡ prints (lineText line) (now (room .entry))) ⌝ }
 {

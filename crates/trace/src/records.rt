@@ -31,7 +31,7 @@ pub fn counted(records: usize) -> usize
 }
 
 // Lays the record that an item of kind 05 carries behind those in the table.
-pub fn put(records: usize, item: [u8; ITEM_BYTES], table: &mut [u8])
+pub(crate) fn put(records: usize, item: [u8; ITEM_BYTES], table: &mut [u8])
     requires { ⌜ tableBytes ≤ length (now table) ⌝ }
     ensures { λ _. ⌜ now (table .exit) ≡ recordPut records item (now (table .entry)) ⌝ }
 {

@@ -11,7 +11,7 @@ use crate::Trace;
 use crate::TracePrinted;
 
 // Asks for one report of the trace's panel.
-pub fn hand_over(trace: Trace, words: &mut [u16], room: &mut [u8]) -> TracePrinted
+pub(crate) fn hand_over(trace: Trace, words: &mut [u16], room: &mut [u8]) -> TracePrinted
     requires { ⌜ leastText ≤ length (now room) ⌝ }
     ensures { λ r. ⌜ leavesEvent r (remembering (now (words .exit))) (now (room .exit)) ≡ eventPrinting trace (askedOnce (trace .panel) (remembering (now (words .entry)))) (now (room .entry)) ⌝ }
 {

@@ -14,7 +14,7 @@ use panel::Panel;
 const LONGEST_RUN: usize = 256;
 
 // The line bytes of whole items of kind 01 at the front of the input, at the front of `run`; answers how many.
-pub fn gather_run(input: &[u8], run: &mut [u8]) -> usize
+pub(crate) fn gather_run(input: &[u8], run: &mut [u8]) -> usize
     requires { ⌜ length (now run) ≡ longestRun ⌝ }
     ensures { λ r. ⌜ (r ≤ longestRun) × (take r (now (run .exit)) ≡ lineRun longestRun (now (input .entry))) ⌝ }
 {
@@ -45,7 +45,7 @@ pub fn no_run() -> [u8; LONGEST_RUN]
 }
 
 // Gives a run to the trace's panel; each byte of it is two of the input.
-pub fn give_run(trace: Trace, bytes: &[u8]) -> Took
+pub(crate) fn give_run(trace: Trace, bytes: &[u8]) -> Took
     requires { ⌜ length (now bytes) ≤ longestRun ⌝ }
     ensures { λ r. ⌜ r ≡ ranBytes trace (now (bytes .entry)) ⌝ }
 {

@@ -89,7 +89,7 @@ fn take_input(
 }
 
 // Hands over a report that waits, or takes some of the input.
-pub fn take_step(
+pub(crate) fn take_step(
     trace: Trace,
     input: &[u8],
     table: &mut [u8],
