@@ -24,7 +24,7 @@ pub record OneIsLeft (setup : Setup) (now : Moment) (calls : List Call) : Type 0
   pub later : List Report
   pub left : readingOf setup now calls ≡ handedOverAll now calls ++ (report ∷ later)
 
--- those handed over are all of them
+-- "While one of them is left", and the opposite: those handed over are all of them
 abbrev pub NoneIsLeft : Setup → Moment → List Call → Type 0
 NoneIsLeft setup now calls = handedOverAll now calls ≡ readingOf setup now calls
 
@@ -46,13 +46,15 @@ pub record AnsweredOne (setup : Setup) (now : Moment) (calls : List Call) : Type
       → Exactly (numberGiven (afterAll now calls) (contact c) ≡ 1) (OneIsLeft setup now calls)
   pub of-bytes : (bs : List ℕ) → Bytes bs → Exactly (numberGiven (afterAll now calls) (bytes bs) ≡ 1) (OneComesWhileLeft setup now calls bs)
 
--- "reports are then asked for one at a time until the answer is 'nothing'": that answer, and what it tells: no report is handed over, and the number is 0
+-- "reports are then asked for one at a time until the answer is 'nothing'": that answer
 abbrev pub AnswersNothing : Moment → Type 0
 AnswersNothing now = reporting (now .panel) (now .lent) .reported .handed ≡ handed.Nothing
 
+-- what that answer tells: no report is handed over, and the number is 0
 abbrev pub HandsNothingOver : Moment → Type 0
 HandsNothingOver now = (handedOver now ask ≡ []) × (numberGiven now ask ≡ 0)
 
+-- it is given exactly where none is left
 pub record AnsweredNothing (setup : Setup) (now : Moment) (calls : List Call) : Type 0 where
   pub answer : Exactly (AnswersNothing (afterAll now calls)) (NoneIsLeft setup now calls)
   pub no-report : Exactly (HandsNothingOver (afterAll now calls)) (NoneIsLeft setup now calls)

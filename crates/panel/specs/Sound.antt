@@ -25,6 +25,7 @@ pub record Reads (line : Line) (reader : Reader) : Type 0 where
   pub reached : Reached line kept
   pub is : reader ≡ readerOf line kept
 
+-- holds of every panel that is reached
 pub record Sound (panel : Panel) : Type 0 where
   -- 256 register bytes, the page below P, a catch only while down and of a good slider
   pub pad : Pad.Sound (panel .setup) (padOf panel)

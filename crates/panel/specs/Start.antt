@@ -31,13 +31,16 @@ newPanel setup =
 unfoldable pub noPanel : Panel
 noPanel = newPanel (record { h1 = 0; h2 = 0; flags = 0; pages = 0; width = 0; height = 0 })
 
+-- "A refused start gives no panel."
 abbrev pub refuses : StartAnswer → Start
 refuses answer = record { answer = answer; panel = noPanel }
 
+-- "start .. 12, 13": what a table's verdict answers
 unfoldable pub startJudged : Verdict → Setup → Start
 startJudged Good setup = record { answer = start.Started; panel = newPanel setup }
 startJudged NotRecords setup = refuses start.NotRecords
 startJudged (Wrong i) setup = refuses (start.WrongRecord i)
 
+-- "start 11, 12, 13"
 unfoldable pub started : Setup → List ℕ → Start
 started setup table = cond (not (goodSetup setup)) (refuses start.WrongSetup) (startJudged (judged setup table) setup)
