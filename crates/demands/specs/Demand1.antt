@@ -30,7 +30,7 @@ use Rattle.panel.specs.Inputs.{fedByte}
 use Rattle.demands.specs.Calls.{Moment, Call, lend, byte, bytes, mark, ask, contact, lift, after, afterAll, numberGiven, handedOver}
 use Rattle.demands.specs.Reports.{reportWaits, waitingReport, readBehind, acknowledgementOf}
 
--- a number of the table and whether its condition holds
+-- "Given exactly when": a number of the table and whether its condition holds
 pub record Condition : Type 0 where
   pub number : ℕ
   pub holds : Bool

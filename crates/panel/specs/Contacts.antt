@@ -21,7 +21,7 @@ use Rattle.panel.specs.declared.LiftAnswer.the-variants as lift
 use Rattle.panel.specs.declared.Lifted.{Lifted}
 use Rattle.panel.specs.State.{padOf, withPad}
 
--- "8: contact off the screen"
+-- the opposite of "8: contact off the screen"
 abbrev pub onScreen : Setup → (x y : ℕ) → Bool
 onScreen setup x y = ltb x (setup .width) && ltb y (setup .height)
 

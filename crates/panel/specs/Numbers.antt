@@ -49,7 +49,7 @@ startSaid start.WrongSetup = says (startNumber start.WrongSetup) []
 startSaid start.NotRecords = says (startNumber start.NotRecords) []
 startSaid (start.WrongRecord i) = says (startNumber (start.WrongRecord i)) (i ∷ [])
 
--- and of a contact: "13: a record is wrong; the first wrong one is named"
+-- what a contact answers: its number, and beside 13 "the first wrong one is named"
 unfoldable pub contactSaid : ContactAnswer → Said
 contactSaid contact.Done = says (contactNumber contact.Done) []
 contactSaid contact.NotLent = says (contactNumber contact.NotLent) []
@@ -59,6 +59,6 @@ contactSaid (contact.WrongRecord i) = says (contactNumber (contact.WrongRecord i
 contactSaid contact.TouchOff = says (contactNumber contact.TouchOff) []
 contactSaid contact.OffScreen = says (contactNumber contact.OffScreen) []
 
--- and of a lift, beside whose number nothing is named
+-- what a lift answers: its number, beside which nothing is named
 unfoldable pub liftSaid : LiftAnswer → Said
 liftSaid answer = says (liftNumber answer) []

@@ -28,11 +28,11 @@ use Rattle.panel.specs.declared.HandedOver.{HandedOver}
 use Rattle.panel.specs.declared.Reported.{Reported}
 use Rattle.panel.specs.State.{headerOf, fixedFor, answering}
 
--- "14: words lent aren't 28,672, or reply .. room below 265"
+-- the opposite of "14: words lent aren't 28,672, or reply .. room below 265"
 unfoldable pub enough : (words room : ℕ) → Bool
 enough words room = eqb words wordCount && leb leastRoom room
 
--- whether what is lent is enough
+-- the same of what is lent
 abbrev pub wellLent : Lent → Bool
 wellLent lent = enough (length (lent .words)) (length (lent .room))
 

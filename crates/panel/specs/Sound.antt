@@ -15,7 +15,7 @@ use Rattle.contact.specs.Sound as Pad
 use Rattle.panel.specs.declared.Panel.{Panel}
 use Rattle.panel.specs.State.{headerFor, padOf}
 
--- the line as it was set up
+-- "Two header bytes H1 H2, fixed at setup", and whether checking is on: what the reader is set up with
 abbrev pub lineOf : Setup → Line
 lineOf setup = record { header = headerFor setup; checking = checkingOf setup }
 

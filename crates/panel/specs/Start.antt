@@ -17,7 +17,7 @@ use Rattle.panel.specs.declared.StartAnswer.the-variants as start
 use Rattle.panel.specs.declared.Start.{Start}
 use Rattle.panel.specs.State.{headerFor}
 
--- a panel that has just been started: the registers' starts, nothing caught, nothing held
+-- "a new panel": the registers' starts, nothing caught, nothing held
 unfoldable pub newPanel : Setup → Panel
 newPanel setup =
     record {
@@ -27,7 +27,7 @@ newPanel setup =
       reader = readerOf (record { header = headerFor setup; checking = checkingOf setup }) fresh;
     }
 
--- what stands in the panel's place where there is none: a panel of no page and no screen
+-- "A refused start gives no panel.": what stands in its place, a panel of no page and no screen
 unfoldable pub noPanel : Panel
 noPanel = newPanel (record { h1 = 0; h2 = 0; flags = 0; pages = 0; width = 0; height = 0 })
 

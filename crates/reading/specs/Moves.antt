@@ -6,7 +6,7 @@ use mathlib.Core.List.{List, [], _∷_, _++_}
 use lib.ListN.{drop}
 use Rattle.reading.specs.Place.{Rules, Seen, pass, wait, bad, accepted, Report, look, reportOf, goneBy}
 
--- the bytes not yet gone past, and whether a mark has closed their stretch
+-- what a reader keeps between inputs: the bytes not yet gone past, and whether a mark has closed their stretch
 pub record Kept : Type 0 where
   pub closed : Bool
   pub bytes : List ℕ
@@ -22,7 +22,7 @@ isPass wait = false
 isPass (bad body) = false
 isPass (accepted body) = false
 
--- how many bytes at the front are passed over before a place waits, reports, or there are no more
+-- "go to p+1, nothing reported": how many bytes at the front are passed over so before a place waits, reports, or there are no more
 unfoldable pub passes : Rules → Bool → List ℕ → ℕ
 passes rules closed [] = 0
 passes rules closed (x ∷ xs) = cond (isPass (look rules closed (x ∷ xs))) (suc (passes rules closed xs)) 0

@@ -25,7 +25,7 @@ readFrom rules closed p (suc n) (x ∷ xs) = readFrom rules closed (suc p) n xs
 unfoldable pub reading : Rules → Bool → List ℕ → List Placed
 reading rules closed xs = readFrom rules closed 0 0 xs
 
--- the same without the places: the reports after n bytes that still belong to an accepted frame
+-- "At a place p": the same without the places, after n bytes that still belong to an accepted frame
 unfoldable pub reportsFrom : Rules → Bool → ℕ → List ℕ → List Report
 reportsFrom rules closed n [] = []
 reportsFrom rules closed zero (x ∷ xs) =

@@ -27,6 +27,6 @@ memoryOf lent = remembering (lent .words)
 unfoldable pub newMemory : Memory
 newMemory = remembering (replicate wordCount 0)
 
--- all of it is lent
+-- "28,672 variable words": all of them are there
 pub record Whole (memory : Memory) : Type 0 where
   pub words : length (memory .words) ≡ wordCount

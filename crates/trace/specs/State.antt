@@ -101,11 +101,11 @@ stopped trace =
 
 -- ---- What is held with the trace changed
 
--- and nothing else
+-- what is held, with another trace
 abbrev pub withTrace : Held → Trace → Held
 withTrace held trace = holds trace (held .table) (held .memory)
 
--- as what is told of the panel leaves it, and its text
+-- what is held as a panel's event or report leaves it, and its text
 abbrev pub showsTold : Held → Told → Shown
 showsTold held told = shows (holds (withPanel (held .trace) (told .panel)) (held .table) (told .memory)) (told .text)
 
@@ -115,7 +115,7 @@ fails held text = shows (withTrace held (stopped (held .trace))) text
 
 -- ---- What is asked of a trace
 
--- a report waits
+-- "a report waits"
 abbrev pub waits : Trace → Bool
 waits trace = busy (trace .panel .reader)
 

@@ -20,7 +20,7 @@ unfoldable pub numberOfStep : Answer → ℕ
 numberOfStep Done = 0
 numberOfStep NotLent = 14
 
--- the line bytes of the whole items of kind 01 at the front, at most so many
+-- "01 a line byte": the bytes of the whole items of this kind at the front, at most so many
 unfoldable pub lineRun : ℕ → List ℕ → List ℕ
 lineRun zero input = []
 lineRun (suc n) [] = []
