@@ -1,16 +1,16 @@
 #!/usr/bin/env python3
-"""Tells the definitions under crates/*/specs/ that have to be believed from those that only hold the code together, and holds the files to it.
+"""Tells the definitions that have to be believed from those that only hold the code together, and holds crates/*/specs/ to it.
 
     tests/definitions.py [--list] [--paper FILE ..]
 
-A definition has to be believed where the promise (`ensures`) of a public function, or the statement of a theorem that docs/CLAIMS.md names, speaks of it or
-of another one that does. Then a comment stands right above it: it quotes the sentence that the definition states or, where there is none, says what word of
-ours it is. Every other definition stands in a file called Inner.antt, whose first line says that no promise cites it; and no promise or claim may come to
-speak of one that stands there.
+A definition has to be believed where the promise (`ensures`) of a public function, or a theorem that docs/CLAIMS.md names, speaks of it or of another one
+that does, or where docs/CLAIMS.md names it. Then a comment stands right above it: it quotes the sentence that the definition states or, where there is
+none, says what word of ours it is. Every other definition of specs/ stands in a file called Inner.antt, which says so in its first line; and no promise or
+claim may come to speak of one that stands there. Where a claim has words of its own, defined beside it in proofs/, they have a comment as well.
 
---list prints each definition that has to be believed and quotes nothing, with its comment. --paper holds every quotation to the printed text: what stands
-in quotation marks, part by part between ".." or [our own words], must stand in one of the files. Of a table's row the columns stand with | between, or
-with : behind the number.
+--list prints each definition that has to be believed and quotes nothing, with its comment. --paper holds every quotation of specs/ to the printed text:
+what stands in quotation marks, part by part between ".." or [our own words], must stand in one of the files. An entry of a table is quoted with | between
+its columns, or with : behind its number.
 """
 import argparse
 import dataclasses
@@ -23,8 +23,9 @@ import source
 from source import TOP
 
 INNER = "Inner.antt"
+INNER_BEGINS = "-- No public promise cites this file: "
 WORD = r"[^\s(){};,.λ→]+"
-# A line that declares something; one that only goes on with it (a clause, what it unfolds) does not.
+# The first line of a declaration; a clause and what it unfolds are none.
 DECLARES = re.compile(r"((?:(?:abbrev|unfoldable|pub) )*)(?:(data|record) (%s)|(%s) :(?=\s|$))" % (WORD, WORD))
 COMPUTES = {"abbrev", "unfoldable", "data", "record"}
 
@@ -43,6 +44,10 @@ class Declaration:
 
     def told(self):
         return f"{self.file.relative_to(TOP)}: {self.name}"
+
+    def beside(self, other):
+        """The two as one, where another module of the file declares the name too."""
+        return self if other is None else dataclasses.replace(self, comment=self.comment and other.comment, says=f"{other.says}\n{self.says}")
 
 
 def without_comments(text):
@@ -91,13 +96,13 @@ def statement(body):
     return body
 
 
-def declarations_in(file):
+def declarations_in(file, side):
     lines = file.read_text().split("\n")
     for at, body, parameters in outlined(lines):
         form = DECLARES.match(body[0])
         words = frozenset(filter(None, [*form.group(1).split(), form.group(2)]))
         name = form.group(3) or form.group(4)
-        says = body if words & COMPUTES else statement(body)
+        says = body if side == "specs" or words & COMPUTES else statement(body)
         yield Declaration(file, name, words, comment_above(lines, at), without_comments("\n".join([*parameters, *says])))
 
 
@@ -110,12 +115,15 @@ def declarations():
             folder = TOP / "crates" / crate / side
             for file in sorted(folder.rglob("*.antt")):
                 module = ".".join(file.relative_to(folder).with_suffix("").parts)
-                found.update(((crate, side, module, each.name), each) for each in declarations_in(file))
+                for each in declarations_in(file, side):
+                    key = crate, side, module, each.name
+                    found[key] = each.beside(found.get(key))
     return found
 
 
-def definitions():
-    return {key: each for key, each in declarations().items() if key[1] == "specs"}
+def definitions(side):
+    """What specs/ declares, or what proofs/ declares and does not prove."""
+    return {key: each for key, each in declarations().items() if key[1] == side and (side == "specs" or each.words & COMPUTES)}
 
 
 # ---- What a text speaks of
@@ -221,7 +229,7 @@ def comments_of(text):
 
 def misquoted(papers):
     printed = " ".join(plain(pathlib.Path(paper).read_text()) for paper in papers)
-    for file in sorted({each.file for each in definitions().values()}):
+    for file in sorted({each.file for each in definitions("specs").values()}):
         for comment in comments_of(file.read_text()):
             for part in quotations(comment):
                 if part not in printed and part.replace("'", '"') not in printed:
@@ -231,28 +239,40 @@ def misquoted(papers):
 # ---- All
 
 
+def to_be_believed(side):
+    return [each for key, each in definitions(side).items() if key in believed()]
+
+
 def faults():
-    for key, each in definitions().items():
+    for key, each in definitions("specs").items():
         inner, cause = each.file.name == INNER, believed().get(key)
         if inner and cause:
             yield f"{each.told()}: {cause} speaks of it, and it stands among the inner ones"
         if not inner and not cause:
             yield f"{each.told()}: no promise and no claim speaks of it, and it does not stand in {INNER}"
-        if cause and not each.comment:
+    for each in [*to_be_believed("specs"), *to_be_believed("proofs")]:
+        if not each.comment:
             yield f"{each.told()}: nothing stands above it"
+    for file in sorted((TOP / "crates").glob(f"*/specs/{INNER}")):
+        if not file.read_text().startswith(INNER_BEGINS):
+            yield f"{file.relative_to(TOP)}: its first line does not begin with '{INNER_BEGINS.strip()}'"
+
+
+def quotes(each):
+    return re.search(r'".+"', each.comment) is not None
 
 
 def main():
     parser = argparse.ArgumentParser(description=__doc__.split("\n")[0])
-    parser.add_argument("--list", action="store_true")
-    parser.add_argument("--paper", nargs="+", default=[])
+    parser.add_argument("--list", action="store_true", help="print each definition that has to be believed and quotes nothing")
+    parser.add_argument("--paper", nargs="+", default=[], metavar="FILE", help="hold every quotation to these texts")
     asked = parser.parse_args()
-    outer = [each for key, each in definitions().items() if key in believed()]
-    own = [each for each in outer if not re.search('".+"', each.comment)]
     if asked.list:
-        print("\n".join(f"{each.told()}: {each.comment}" for each in own))
+        found = [*to_be_believed("specs"), *to_be_believed("proofs")]
+        print("\n".join(f"{each.told()}: {each.comment}" for each in found if not quotes(each)))
     wrong = [*faults(), *(misquoted(asked.paper) if asked.paper else [])]
-    print(f"{len(definitions())} definitions: {len(outer)} to be believed, {len(outer) - len(own)} of them under a quotation", flush=True)
+    outer = to_be_believed("specs")
+    print(f"{len(definitions('specs'))} definitions: {len(outer)} to be believed, {sum(map(quotes, outer))} of them under a quotation", flush=True)
     if wrong:
         print("\n".join(wrong), f"faults: {len(wrong)}; the first: {wrong[0]}", sep="\n", file=sys.stderr)
     return 1 if wrong else 0
