@@ -8,8 +8,8 @@ that does, or where docs/CLAIMS.md names it. Then a comment stands right above i
 none, says what word of ours it is. Every other definition of specs/ stands in a file called Inner.antt, which says so in its first line; and no promise or
 claim may come to speak of one that stands there. Where a claim has words of its own, defined beside it in proofs/, they have a comment as well.
 
---list prints each definition that has to be believed and quotes nothing, with its comment. --paper holds every quotation of specs/ to the printed text:
-what stands in quotation marks, part by part between ".." or [our own words], must stand in one of the files. An entry of a table is quoted with | between
+--list prints each definition that has to be believed and quotes nothing, with its comment. --paper holds every quotation of specs/ and proofs/ to the printed
+text: what stands in quotation marks, part by part between ".." or [our own words], must stand in one of the files. An entry of a table is quoted with | between
 its columns, or with : behind its number.
 """
 import argparse
@@ -131,10 +131,10 @@ def definitions(side):
 
 @functools.cache
 def members():
-    """The constructors of each `data` and the fields of each `record`: a name of one stands for its type."""
+    """The constructors of each `data`: a name of one stands for its type. Fields need not be looked for: what has one has its type named."""
     found = {}
     for key, each in declarations().items():
-        if each.words & {"data", "record"}:
+        if "data" in each.words:
             for member in re.findall(r"^ +(?:pub )?(%s) :" % WORD, each.says, re.M):
                 found[(*key[:3], member)] = key
     return found
@@ -229,7 +229,7 @@ def comments_of(text):
 
 def misquoted(papers):
     printed = " ".join(plain(pathlib.Path(paper).read_text()) for paper in papers)
-    for file in sorted({each.file for each in definitions("specs").values()}):
+    for file in sorted({each.file for each in declarations().values()}):
         for comment in comments_of(file.read_text()):
             for part in quotations(comment):
                 if part not in printed and part.replace("'", '"') not in printed:

@@ -13,6 +13,6 @@ unfoldable pub verdict : Bool → ℕ
 verdict true = 0xFF
 verdict false = 0x00
 
--- "header, length, command, 0xFF, check", or "the same with 0x00"; since one is written only "With checking and acknowledging both on", it has check bytes
+-- "header, length, command, 0xFF, check"; "the same with 0x00". Since one is written only "With checking and acknowledging both on", it has check bytes.
 unfoldable pub acknowledgement : List ℕ → ℕ → Bool → List ℕ
 acknowledgement header command accepted = enclosed true header acknowledgementLength (command ∷ verdict accepted ∷ [])

@@ -22,7 +22,7 @@ unfoldable pub joined : List (List ℕ) → List ℕ
 joined [] = []
 joined (frame ∷ frames) = frame ++ joined frames
 
--- of good frames not "those .. that had come whole": what has come of one, perhaps nothing
+-- "good frames that had come whole": what has come of the one behind them that has not, perhaps nothing
 pub record Cut (rules : Rules) (tail : List ℕ) : Type 0 where
   pub frame : List ℕ
   pub good : Good rules frame

@@ -70,7 +70,8 @@ ending trace table room =
     cond (leb tableBytes (length table) && leb leastText (length room)) (ends (record { answer = Done; count = length text }) (over text room))
     (ends (record { answer = NotLent; count = 0 }) room)
 
--- "Reports are asked for after each event until 'nothing'."; "at the end `E pppp` the page": the text for what is left of the input
+-- "Reports are asked for after each event until 'nothing'."; "at the end `E pppp` the page": the text for what is left of the input. They are asked for after
+-- each byte: where no event ends with it, none waits
 unfoldable pub inputText : Held → List ℕ → List ℕ
 inputText held [] = endText (held .trace) (held .table)
 inputText held (b ∷ input) =

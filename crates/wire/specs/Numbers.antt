@@ -13,7 +13,7 @@ pub record Said : Type 0 where
 abbrev pub says : (number : ℕ) → (values : List ℕ) → Said
 says number values = record { number = number; values = values }
 
--- "Given exactly when": a number of the table with what is named beside it, and whether its condition holds
+-- a number of the table with what is named beside it, and whether its condition holds
 pub record Listed : Type 0 where
   pub said : Said
   pub holds : Bool
