@@ -1,13 +1,14 @@
 #!/usr/bin/env python3
 """Holds every public function under crates/ against docs/CONTRACTS.md and against the proofs that one answer fits its contract.
 
-Each public function of a crate in crates.txt (a method as Type::method; `source.py` says what is public)
-- has no `requires` and has an `ensures`;
+No `pub fn` has a `requires`, wherever it stands: one that has is `pub(crate)` at most. And each public function of a crate in crates.txt (a method as
+Type::method; `source.py` says what is public)
+- has an `ensures`;
 - stands in docs/CONTRACTS.md, in a row below the heading of its crate, with what it answers and at least two wrong answers that are ruled out;
 - has a theorem NAME-determined in its crate's proofs/Determined.antt (in NAME - for _), which speaks of the contract of this very function and of
   each thing that it is lent to change, and which proofs/Lib.antt declares, so that it is checked.
-The table below "Exceptions" in docs/CONTRACTS.md names, as `crate::function`, those for which the last two do not hold, each with its cause. A row
-that names no public function is wrong too.
+The table below "Exceptions" in docs/CONTRACTS.md names, as `crate::function`, those for which none of the three holds, each with its cause. A row that
+names no public function is wrong too.
 """
 import re
 import sys
@@ -130,34 +131,32 @@ def theorem_fault(function, others):
 # ---- All
 
 
-def contract_faults(function):
-    if re.search(r"\brequires\b", function.contract):
-        yield "it has a `requires`"
-    if not re.search(r"\bensures\b", function.contract):
-        yield "it has no `ensures`"
-
-
 def faults(function, functions, known, excepted):
     pair = function.crate, function.name
-    told = list(contract_faults(function))
     if pair in excepted:
-        return [each for each in told if "ensures" not in each]
-    if pair not in known:
-        told.append("no row in docs/CONTRACTS.md")
+        return []
     others = [other for other in functions if other.crate == function.crate and other is not function]
-    fault = theorem_fault(function, others)
-    return told + [fault] * (fault is not None)
+    found = [
+        None if re.search(r"\bensures\b", function.contract) else "it has no `ensures`",
+        None if pair in known else "no row in docs/CONTRACTS.md",
+        theorem_fault(function, others),
+    ]
+    return [fault for fault in found if fault is not None]
+
+
+def where(function):
+    return f"{function.file.relative_to(TOP)}:{function.line}: {function.crate}::{function.name}"
 
 
 def main():
-    functions = [each for crate in source.crates() for each in source.functions(crate) if each.public]
+    declared = [each for crate in source.crates() for each in source.functions(crate)]
+    functions = [each for each in declared if each.public]
     public = [(each.crate, each.name) for each in functions]
     known, wrong = documented(public)
     excepted, more = exceptions(public)
     wrong += more
-    for each in functions:
-        where = f"{each.file.relative_to(TOP)}:{each.line}: {each.crate}::{each.name}"
-        wrong += [f"{where}: {fault}" for fault in faults(each, functions, known, excepted)]
+    wrong += [f"{where(each)}: it is `pub` and has a `requires`" for each in declared if each.pub and re.search(r"\brequires\b", each.contract)]
+    wrong += [f"{where(each)}: {fault}" for each in functions for fault in faults(each, functions, known, excepted)]
     print(f"{len(functions)} public functions: {len(known)} in docs/CONTRACTS.md, {len(excepted)} exceptions", flush=True)
     if wrong:
         print("\n".join(wrong), f"faults: {len(wrong)}; the first: {wrong[0]}", sep="\n", file=sys.stderr)

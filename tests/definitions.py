@@ -1,17 +1,18 @@
 #!/usr/bin/env python3
-"""Tells the definitions under crates/*/specs/ that have to be believed from those that only hold the code together, and holds the files to it.
+"""Tells the definitions that have to be believed from those that only hold the code together, and holds crates/*/specs/ to it.
 
     tests/definitions.py [--list] [--paper FILE ..]
 
-A definition has to be believed where the promise (`ensures`) of a public function, or the statement of a theorem that docs/CLAIMS.md names, speaks of it or
-of another one that does. Then it stands in a file of its own subject, under a comment that quotes the sentence it states, or that says what word of ours it
-is. Every other definition stands in a file called Inner.antt, and no promise or claim may come to speak of one that stands there.
+A definition has to be believed where the promise (`ensures`) of a public function, or a theorem that docs/CLAIMS.md names, speaks of it or of another one
+that does, or where docs/CLAIMS.md names it. Then a comment stands right above it: it quotes the sentence that the definition states or, where there is
+none, says what word of ours it is. Every other definition of specs/ stands in a file called Inner.antt, which says so in its first line; and no promise or
+claim may come to speak of one that stands there. Where a claim has words of its own, defined beside it in proofs/, they have a comment as well.
 
---list prints every definition that has to be believed and quotes nothing. --paper holds each quotation to the printed text: what stands in quotation
-marks, part by part between "..", must stand in one of the files.
+--list prints each definition that has to be believed and quotes nothing, with its comment. --paper holds every quotation of specs/ and proofs/ to the printed
+text: what stands in quotation marks, part by part between ".." or [our own words], must stand in one of the files. An entry of a table is quoted with | between
+its columns, or with : behind its number.
 """
 import argparse
-import collections
 import dataclasses
 import functools
 import pathlib
@@ -22,77 +23,107 @@ import source
 from source import TOP
 
 INNER = "Inner.antt"
+INNER_BEGINS = "-- No public promise cites this file: "
 WORD = r"[^\s(){};,.λ→]+"
-HEAD = re.compile(r"^(?:(?:abbrev|unfoldable|pub|axiom) )*(?:(?:data|record) )?(%s)" % WORD)
+# The first line of a declaration; a clause and what it unfolds are none.
+DECLARES = re.compile(r"((?:(?:abbrev|unfoldable|pub) )*)(?:(data|record) (%s)|(%s) :(?=\s|$))" % (WORD, WORD))
+COMPUTES = {"abbrev", "unfoldable", "data", "record"}
+
+
+# ---- Declarations
 
 
 @dataclasses.dataclass(frozen=True)
-class Definition:
-    crate: str
+class Declaration:
     file: pathlib.Path
     name: str
-    line: int
+    words: frozenset
+    # The comment lines right above it, and what it says: of a definition all of it, of a theorem what is proved, with the parameters of the modules around it.
     comment: str
-    # Where its text, without the comment above it, begins and ends in the file.
-    begin: int
-    end: int
-
-    def text(self):
-        return self.file.read_text()[self.begin:self.end]
+    says: str
 
     def told(self):
         return f"{self.file.relative_to(TOP)}: {self.name}"
 
+    def beside(self, other):
+        """The two as one, where another module of the file declares the name too."""
+        return self if other is None else dataclasses.replace(self, comment=self.comment and other.comment, says=f"{other.says}\n{self.says}")
+
 
 def without_comments(text):
-    return re.sub(r"--(?=\s|$)[^\n]*", lambda found: " " * len(found.group()), text)
+    return re.sub(r"--(?=\s|$)[^\n]*", "", text)
 
 
-def paragraphs(text):
-    """The top-level declarations of a file, as begin and end: one begins at a line that no blank opens, and takes in the clauses of its name."""
-    found, at = [], 0
-    for line in text.splitlines(keepends=True):
-        head = HEAD.match(line)
-        if line[:1].strip() and not line.startswith(("--", "use ", "mod ", "pub mod ", "infix", "infixl ", "infixr ", "unfolding ")):
-            declares = re.match(r"(abbrev|unfoldable|pub|data|record) ", line) or re.match(r"%s :" % WORD, line)
-            if declares or not found:
-                found.append([head.group(1), at, at])
-            found[-1][2] = at + len(line)
-        elif found and line[:1] == " " and line.strip():
-            found[-1][2] = at + len(line)
-        at += len(line)
+def comment_above(lines, at):
+    """The comment right above a line; declarations of fixity may stand between."""
+    while at > 0 and lines[at - 1].startswith("infix"):
+        at -= 1
+    found = []
+    while at > 0 and lines[at - 1].lstrip().startswith("--"):
+        at -= 1
+        found.insert(0, lines[at].strip().removeprefix("--").strip())
+    return " ".join(found)
+
+
+def outlined(lines):
+    """Each declaration of a file: the line that it begins at, its lines, and the parameters of the modules around it."""
+    modules, found, at = [], [], 0
+    while at < len(lines):
+        first, body = at, lines[at].lstrip()
+        at += 1
+        if not body or body.startswith(("--", "use ", "mod ", "pub mod ", "infix")):
+            continue
+        depth = len(lines[first]) - len(body)
+        while modules and depth <= modules[-1][0]:
+            modules.pop()
+        top = depth == (modules[-1][0] + 2 if modules else 0)
+        if top and body.startswith("module "):
+            while not lines[at - 1].rstrip().endswith("where"):
+                at += 1
+            modules.append((depth, " ".join(lines[first:at])))
+        elif top and DECLARES.match(body):
+            found.append((first, [body], [parameters for _, parameters in modules]))
+        elif found:
+            found[-1][1].append(body if top else lines[first])
     return found
 
 
-def comment_above(text, at):
-    """The comment lines right above a place; declarations of fixity may stand between."""
-    above = text[:at].split("\n")[:-1]
-    while above and above[-1].startswith("infix"):
-        above.pop()
-    lines = []
-    while above and above[-1].startswith("--"):
-        lines.append(above.pop()[2:].strip())
-    return " ".join(reversed(lines))
+def statement(body):
+    """The lines of a theorem up to the first that proves it."""
+    for count, line in enumerate(body):
+        if line.startswith("unfolding ") or count and re.match(r"\S", line):
+            return body[:count]
+    return body
 
 
-def definitions_in(crate, file):
-    text = file.read_text()
-    for name, begin, end in paragraphs(text):
-        if "pub " in text[begin:text.index("\n", begin)]:
-            yield Definition(crate, file, name, text.count("\n", 0, begin) + 1, comment_above(text, begin), begin, end)
+def declarations_in(file, side):
+    lines = file.read_text().split("\n")
+    for at, body, parameters in outlined(lines):
+        form = DECLARES.match(body[0])
+        words = frozenset(filter(None, [*form.group(1).split(), form.group(2)]))
+        name = form.group(3) or form.group(4)
+        says = body if side == "specs" or words & COMPUTES else statement(body)
+        yield Declaration(file, name, words, comment_above(lines, at), without_comments("\n".join([*parameters, *says])))
 
 
 @functools.cache
-def definitions():
-    """Each definition of specs/, by the path that `use` names it by."""
+def declarations():
+    """Each declaration of specs/ and proofs/, by its crate, the one of the two, its module and its name."""
     found = {}
     for crate in source.crates():
-        folder = TOP / "crates" / crate / "specs"
-        for file in sorted(folder.rglob("*.antt")) if folder.is_dir() else []:
-            module = ".".join(file.relative_to(folder).with_suffix("").parts)
-            for each in definitions_in(crate, file):
-                found[crate, module, each.name] = each
+        for side in ("specs", "proofs"):
+            folder = TOP / "crates" / crate / side
+            for file in sorted(folder.rglob("*.antt")):
+                module = ".".join(file.relative_to(folder).with_suffix("").parts)
+                for each in declarations_in(file, side):
+                    key = crate, side, module, each.name
+                    found[key] = each.beside(found.get(key))
     return found
+
+
+def definitions(side):
+    """What specs/ declares, or what proofs/ declares and does not prove."""
+    return {key: each for key, each in declarations().items() if key[1] == side and (side == "specs" or each.words & COMPUTES)}
 
 
 # ---- What a text speaks of
@@ -100,90 +131,71 @@ def definitions():
 
 @functools.cache
 def members():
-    """The constructors of each `data` and the fields of each `record`, so that a name of one counts for its type."""
+    """The constructors of each `data`: a name of one stands for its type. Fields need not be looked for: what has one has its type named."""
     found = {}
-    for (crate, module, name), each in definitions().items():
-        if re.match(r"(pub )?(data|record) ", each.text()):
-            for member in re.findall(r"^  (?:pub )?(%s) :" % WORD, each.text(), re.M):
-                found[crate, module, member] = (crate, module, name)
+    for key, each in declarations().items():
+        if "data" in each.words:
+            for member in re.findall(r"^ +(?:pub )?(%s) :" % WORD, each.says, re.M):
+                found[(*key[:3], member)] = key
     return found
 
 
-def uses(text):
-    """What each name of a file stands for: pairs of crate and module, with the name there; and the names that stand for whole modules."""
+@functools.cache
+def uses(file):
+    """What each name that a file uses stands for, and which of them stand for whole modules."""
     names, modules = {}, {}
-    for found in re.finditer(r"^\s*(?:ghost )?use Rattle·(\w+)(?:·specs)?\.specs\.(\w+(?:\.\w+)*)(?:\.\{([^}]*)\}| as (\S+?))?;?$", text, re.M):
-        crate, module, listed, alias = found.groups()
-        for name in source.split_items(listed or ""):
+    form = r"^\s*(?:ghost )?use Rattle·(\w+)(?:·\w+)?\.(specs|proofs)\.(\w+(?:\.\w+)*)(?:\.\{([^}]*)\}| as (\S+?));?$"
+    for crate, side, module, listed, alias in re.findall(form, file.read_text(), re.M):
+        for name in source.split_items(listed):
             old, _, new = name.partition(" as ")
-            names[new.strip() or old.strip()] = (crate, module, old.strip())
+            names[(new or old).strip()] = (crate, side, module, old.strip())
         if alias:
-            modules[alias] = (crate, module)
+            modules[alias] = (crate, side, module)
     return names, modules
 
 
-def resolved(key):
-    return key if key in definitions() else members().get(key)
-
-
-def spoken_of(text, names, modules, own=None):
-    """The definitions that a piece of text names. `own` is the crate and module that it stands in itself."""
-    text = without_comments(text)
-    found = set()
-    for alias, name in re.findall(r"(?<![^\s(){};,])(%s)\.(%s)" % (WORD, WORD), text):
-        if alias in modules:
-            found.add(resolved((*modules[alias], name)))
-    for word in re.findall(WORD, text):
-        parts = [word, *re.findall(r"[^_]+", word)] if "_" in word else [word]
-        for each in (*parts, f"_{word}_"):
-            if each in names:
-                found.add(resolved(names[each]))
-            elif own is not None:
-                found.add(resolved((*own, each)))
-    return found - {None}
+def spoken_of(text, file, own=()):
+    """The declarations that a text of a file names; `own` is the crate, side and module that the file is."""
+    names, modules = uses(file)
+    keys = [(*modules[alias], name) for alias, name in re.findall(r"(?<![^\s(){};,])(%s)\.(%s)" % (WORD, WORD), text) if alias in modules]
+    for word in set(re.findall(WORD, text)):
+        # An operator stands between or around what it is applied to.
+        for name in {word, f"_{word}_", f"_{word}", f"{word}_"}:
+            keys.append(names.get(name) or (*own, name))
+    return {members().get(key, key) for key in keys} & declarations().keys()
 
 
 @functools.cache
 def cites(key):
-    """The definitions that a definition speaks of."""
-    each = definitions()[key]
-    return spoken_of(each.text(), *uses(each.file.read_text()), own=key[:2]) - {key}
+    """The declarations that a declaration speaks of."""
+    each = declarations()[key]
+    return spoken_of(each.says, each.file, key[:3]) - {key}
 
 
 # ---- What has to be believed
 
 
 def promised():
-    """What the promises of public functions speak of."""
-    found = collections.defaultdict(set)
+    """What the promises of public functions speak of, each with such a function."""
     for crate in source.crates():
         for function in source.functions(crate):
             if function.public:
-                names, modules = uses(function.file.read_text())
-                for key in spoken_of(function.contract, names, modules):
-                    found[key].add(f"{crate}::{function.name}")
-    return found
+                for key in spoken_of(function.contract, function.file):
+                    yield key, f"the promise of {crate}::{function.name}"
 
 
 def claimed():
-    """What the theorems that docs/CLAIMS.md names speak of."""
+    """The theorems and definitions that docs/CLAIMS.md names."""
     named = set(re.findall(r"`([^`\s]+)`", (TOP / "docs" / "CLAIMS.md").read_text()))
-    found = collections.defaultdict(set)
-    for crate in source.crates():
-        folder = TOP / "crates" / crate / "proofs"
-        for file in sorted(folder.rglob("*.antt")) if folder.is_dir() else []:
-            text = file.read_text()
-            names, modules = uses(text)
-            for found_at in re.finditer(r"^\s*pub (%s) :(.*(?:\n\s+(?!unfolding )\S.*)*)" % WORD, text, re.M):
-                if found_at.group(1) in named:
-                    for key in spoken_of(found_at.group(2), names, modules):
-                        found[key].add(f"{crate} {found_at.group(1)}")
-    return found
+    for key, each in declarations().items():
+        if "pub" in each.words and each.name in named:
+            yield key, f"the claim {key[0]} {each.name}"
 
 
+@functools.cache
 def believed():
-    """Each definition that has to be believed, with what first led to it."""
-    reached = {key: min(causes) for each in (promised(), claimed()) for key, causes in each.items()}
+    """Each declaration that a promise or a claim speaks of, with the first that does."""
+    reached = dict(sorted([*promised(), *claimed()], reverse=True))
     todo = list(reached)
     while todo:
         key = todo.pop()
@@ -197,52 +209,70 @@ def believed():
 
 
 def plain(text):
-    return re.sub(r"\s+", " ", re.sub(r"[*`\\|]", " ", text)).strip()
+    """A text without marks of form, and with one blank between any two words."""
+    return " ".join(re.sub(r"[*`\\|]", " ", text).split()).replace("“", '"').replace("”", '"')
 
 
 def quotations(comment):
+    """The parts of what a comment quotes, as `plain` has them."""
     for quoted in re.findall(r'"([^"]*)"', comment):
-        for part in re.split(r"\s*\.\.\s*|\s*\[[^\]]*\]\s*", quoted):
-            if part.strip(" .,;:"):
-                yield plain(part).strip(" .,;:")
+        for part in re.split(r"\.\.|\[[^\]]*\]", re.sub(r"^(\d+): ", r"\1 ", quoted)):
+            part = plain(part).strip(" .,;:")
+            if part:
+                yield part
+
+
+def comments_of(text):
+    """The comments of a file, each with the lines that belong to it as one."""
+    return [re.sub(r"\n *--", " ", found) for found in re.findall(r"^ *--(?:\s[^\n]*(?:\n *--\s[^\n]*)*)?", text, re.M)]
 
 
 def misquoted(papers):
-    text = " ".join(plain(pathlib.Path(paper).read_text()) for paper in papers)
-    text = re.sub(r"[“”]", '"', text)
-    for each in definitions().values():
-        for part in quotations(each.comment):
-            if part not in text and part.replace("'", '"') not in text:
-                yield f"{each.told()}: \"{part}\" is not printed"
+    printed = " ".join(plain(pathlib.Path(paper).read_text()) for paper in papers)
+    for file in sorted({each.file for each in declarations().values()}):
+        for comment in comments_of(file.read_text()):
+            for part in quotations(comment):
+                if part not in printed and part.replace("'", '"') not in printed:
+                    yield f'{file.relative_to(TOP)}: "{part}" is not printed'
 
 
 # ---- All
 
 
+def to_be_believed(side):
+    return [each for key, each in definitions(side).items() if key in believed()]
+
+
 def faults():
-    reached = believed()
-    for key, each in definitions().items():
-        inner = each.file.name == INNER
-        if inner and key in reached:
-            yield f"{each.told()}: {reached[key]} speaks of it, and it stands among the inner ones"
-        if not inner and key not in reached:
+    for key, each in definitions("specs").items():
+        inner, cause = each.file.name == INNER, believed().get(key)
+        if inner and cause:
+            yield f"{each.told()}: {cause} speaks of it, and it stands among the inner ones"
+        if not inner and not cause:
             yield f"{each.told()}: no promise and no claim speaks of it, and it does not stand in {INNER}"
-        if not inner and key in reached and not each.comment:
+    for each in [*to_be_believed("specs"), *to_be_believed("proofs")]:
+        if not each.comment:
             yield f"{each.told()}: nothing stands above it"
+    for file in sorted((TOP / "crates").glob(f"*/specs/{INNER}")):
+        if not file.read_text().startswith(INNER_BEGINS):
+            yield f"{file.relative_to(TOP)}: its first line does not begin with '{INNER_BEGINS.strip()}'"
+
+
+def quotes(each):
+    return re.search(r'".+"', each.comment) is not None
 
 
 def main():
     parser = argparse.ArgumentParser(description=__doc__.split("\n")[0])
-    parser.add_argument("--list", action="store_true")
-    parser.add_argument("--paper", nargs="+", default=[])
+    parser.add_argument("--list", action="store_true", help="print each definition that has to be believed and quotes nothing")
+    parser.add_argument("--paper", nargs="+", default=[], metavar="FILE", help="hold every quotation to these texts")
     asked = parser.parse_args()
-    reached = believed()
-    outer = [each for key, each in definitions().items() if key in reached]
-    silent = [each for each in outer if '"' not in each.comment]
     if asked.list:
-        print("\n".join(each.told() for each in silent))
+        found = [*to_be_believed("specs"), *to_be_believed("proofs")]
+        print("\n".join(f"{each.told()}: {each.comment}" for each in found if not quotes(each)))
     wrong = [*faults(), *(misquoted(asked.paper) if asked.paper else [])]
-    print(f"{len(definitions())} definitions: {len(outer)} to be believed, {len(outer) - len(silent)} of them under a quotation", flush=True)
+    outer = to_be_believed("specs")
+    print(f"{len(definitions('specs'))} definitions: {len(outer)} to be believed, {sum(map(quotes, outer))} of them under a quotation", flush=True)
     if wrong:
         print("\n".join(wrong), f"faults: {len(wrong)}; the first: {wrong[0]}", sep="\n", file=sys.stderr)
     return 1 if wrong else 0

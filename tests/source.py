@@ -22,6 +22,8 @@ class Function:
     # how it is reached, as asking::helper.
     name: str
     line: int
+    # Written `pub`, which `pub(crate)` is not; and offered to other crates besides.
+    pub: bool
     public: bool
     parameters: str
     # Between the parameters and the body: the answer's type and the contract.
@@ -143,6 +145,7 @@ def functions_in(crate, file, offered, kinds):
             file=file,
             name=plain if by_name else "::".join(path),
             line=text.count("\n", 0, found.start(2)) + 1,
+            pub=found.group(1) is not None,
             public=found.group(1) is not None and reached,
             parameters=text[found.end():parameters - 1],
             contract=text[parameters:opened],

@@ -1,4 +1,4 @@
--- "The tables' rule is proved once over each whole table": one computed test a table, and one law that reads the rule off it.
+-- "the tables' rule is proved once over each whole table": one computed test a table, and one law that reads the rule off it.
 use mathlib.Core.Path.{_≡_, refl, sym, ap, ap₂, _∙_}
 use mathlib.Core.Bool.{Bool, true, false, _&&_}
 use mathlib.Core.List.{List, [], _∷_}

@@ -16,6 +16,7 @@ use Rattle.commands.specs.Outcome.{isDone, writeWordsOutcome}
 use Rattle.commands.specs.Perform.{performance}
 use Rattle.commands.proofs.Named.{words-as-done}
 
+-- the data of example f
 abbrev pub exampleData : List ℕ
 exampleData = 0x00 ∷ 0x10 ∷ 0x01 ∷ 0xF4 ∷ []
 

@@ -20,49 +20,56 @@ use Rattle.commands.specs.Reply.{registersReply, wordsReply}
 abbrev pub answered : Outcome → (replied : ℕ) → Performed
 answered o replied = record { outcome = o; writes = false; drops = false; replied = replied }
 
--- 0x80, "address (1), one or more bytes": what a write with this data leaves of the registers, and whether it drops the catch, where it is done
+-- "0x80, address (1), one or more bytes: write registers.": what a write with this data leaves of the registers, where it is done
 unfoldable pub registersLeft : Registers → (content : List ℕ) → Registers
 registersLeft registers content = registersAfter registers (byteAt content 0) (drop 1 content)
 
+-- "Every page write by a command .. drops the catch.": whether a write with this data does, where it is done
 unfoldable pub catchDropped : (content : List ℕ) → Bool
 catchDropped content = dropsCatch (byteAt content 0) (drop 1 content)
 
--- a write that is done asks for that
+-- "0x80, address (1), one or more bytes: write registers.": its answer; one that is done asks the panel to write, and to drop the catch where it must
 unfoldable pub registersWriting : (pages : ℕ) → (content : List ℕ) → Performed
 registersWriting pages content =
     let o = writeRegistersOutcome pages content in
     record { outcome = o; writes = isDone o; drops = isDone o && catchDropped content; replied = 0 }
 
--- 0x82: a write that is done leaves its words in its run
+-- what a write of words answers, and the words as it leaves them
 pub record WordsWriting : Type 0 where
   pub performed : Performed
   pub words : List ℕ
 
+-- builds one
 abbrev pub leavesWords : Performed → List ℕ → WordsWriting
 leavesWords performed words = record { performed = performed; words = words }
 
+-- "0x82, address (2), one or more words: write variables."; "otherwise a refusal changes nothing"
 unfoldable pub wordsWriting : (words content : List ℕ) → WordsWriting
 wordsWriting words content =
     let o = writeWordsOutcome (length words) content in
     leavesWords (answered o 0) (cond (isDone o) (wordsWritten words (wordAt content 0) (drop 2 content)) words)
 
--- 0x81 and 0x83: a read that is done lays its reply over the front of the room
+-- what a read answers, and the room as it leaves it
 pub record Replying : Type 0 where
   pub performed : Performed
   pub room : List ℕ
 
+-- builds one
 abbrev pub replies : Performed → List ℕ → Replying
 replies performed room = record { performed = performed; room = room }
 
+-- a read that is done lays its reply over the front of the room; "otherwise a refusal changes nothing"
 unfoldable pub replying : Fixed → Outcome → (command : ℕ) → (payload room : List ℕ) → Replying
 replying fixed o command payload room =
     let laid = cond (isDone o) (frameLaid (fixed .checking) (headerBytes (fixed .header)) command payload room) (lays 0 room) in
     replies (answered o (laid .count)) (laid .room)
 
+-- "0x81, address (1), count (1): read registers. Reply 0x81, address, count, bytes."
 unfoldable pub registersReplying : Fixed → Registers → (content room : List ℕ) → Replying
 registersReplying fixed registers content room =
     replying fixed (readRegistersOutcome (fixed .checking) content) 0x81 (registersReply registers (byteAt content 0) (byteAt content 1)) room
 
+-- "0x83, address (2), count (1): read variables. Reply 0x83, address, count, words."
 unfoldable pub wordsReplying : Fixed → (words content room : List ℕ) → Replying
 wordsReplying fixed words content room =
     replying fixed (readWordsOutcome (length words) (fixed .checking) content) 0x83 (wordsReply words (wordAt content 0) (byteAt content 2)) room

@@ -2,18 +2,21 @@
 use Prim.Native.Nat.{ℕ}
 use mathlib.Core.List.{List}
 
+-- what the caller lends and has back
 pub record Lent : Type 0 where
   -- "28,672 variable words, .. lent by the caller as 16-bit numbers"
   pub words : List ℕ
   -- "Reply room is at least 265 bytes; bytes past the reported count stay."
   pub room : List ℕ
 
+-- builds one
 abbrev pub lending : (words room : List ℕ) → Lent
 lending words room = record { words = words; room = room }
 
--- the same but for one of them
+-- the same with other words
 abbrev pub withWords : Lent → (words : List ℕ) → Lent
 withWords lent words = lending words (lent .room)
 
+-- the same with another room
 abbrev pub withRoom : Lent → (room : List ℕ) → Lent
 withRoom lent room = lending (lent .words) room

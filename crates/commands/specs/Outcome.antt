@@ -14,6 +14,8 @@ use Rattle.commands.specs.declared.Fixed.{Fixed}
 use Rattle.commands.specs.declared.Outcome.{Outcome}
 use Rattle.commands.specs.declared.Outcome.the-variants.{Done, UnknownCommand, WrongData, PastEnd, Unwritable, WrongValue, ReplyTooLong}
 
+-- "0: done", "2: command not 80 to 83", "3: data too short, too long, or an odd word byte", "4: address or its run passes the end",
+-- "5: a write touches an unwritable register or half the page", "6: backlight above 3F, or page not below P", "7: reply frame's L would pass 255"
 unfoldable pub numberOfOutcome : Outcome → ℕ
 numberOfOutcome Done = 0
 numberOfOutcome UnknownCommand = 2
@@ -23,6 +25,7 @@ numberOfOutcome Unwritable = 5
 numberOfOutcome WrongValue = 6
 numberOfOutcome ReplyTooLong = 7
 
+-- "0: done"
 abbrev pub isDone : Outcome → Bool
 isDone Done = true
 isDone UnknownCommand = false

@@ -10,24 +10,28 @@ use Rattle.commands.specs.declared.Performed.{Performed}
 use Rattle.commands.specs.Lent.{Lent, withWords, withRoom}
 use Rattle.commands.specs.Effect.{answered, registersLeft, registersWriting, WordsWriting, wordsWriting, Replying, registersReplying, wordsReplying}
 
--- the registers as a command that has been performed leaves them
+-- the registers as a command leaves them that has this answer: it says whether they are to be written
 abbrev pub registersBy : Performed → Registers → (content : List ℕ) → Registers
 registersBy performed registers content = cond (performed .writes) (registersLeft registers content) registers
 
+-- what a command answers, and what is lent as it leaves it
 pub record Performance : Type 0 where
   pub performed : Performed
   pub lent : Lent
 
+-- builds one
 abbrev pub performs : Performed → Lent → Performance
 performs performed lent = record { performed = performed; lent = lent }
 
--- a command that leaves all that is lent but the words, or but the room
+-- that of a command which leaves all that is lent but the words
 abbrev pub onWords : Lent → WordsWriting → Performance
 onWords lent done = performs (done .performed) (withWords lent (done .words))
 
+-- that of a command which leaves all that is lent but the room
 abbrev pub onRoom : Lent → Replying → Performance
 onRoom lent done = performs (done .performed) (withRoom lent (done .room))
 
+-- "commands 0x80 to 0x83", each by its own definition; another is refused, "2: command not 80 to 83"
 unfoldable pub performance : Fixed → Registers → (command : ℕ) → (content : List ℕ) → Lent → Performance
 performance fixed registers command content lent =
     cond (eqb command 0x80) (performs (registersWriting (fixed .pages) content) lent)

@@ -16,6 +16,7 @@ use Rattle.contact.specs.declared.Catch.{Catch}
 use Rattle.contact.specs.declared.Catch.the-variants.{Free, Caught}
 use Rattle.contact.specs.declared.Pad.{Pad}
 
+-- builds what a touch sets of a panel: the registers and the catch
 abbrev pub padWith : Registers → Catch → Pad
 padWith registers catch = record { registers = registers; catch = catch }
 
@@ -24,6 +25,7 @@ pub record Touching : Type 0 where
   pub pad : Pad
   pub words : List ℕ
 
+-- builds one
 abbrev pub touching : Pad → List ℕ → Touching
 touching pad words = record { pad = pad; words = words }
 
@@ -58,6 +60,7 @@ heldDown setup pad words x y =
     let registers = withPlace (withStatus (pad .registers) 0x03) x y in
     touching (padWith registers (pad .catch)) (dragging setup (pad .catch) words x y)
 
+-- "Contact while up"; "Contact while down"
 unfoldable pub touched : Setup → Pad → List ℕ → List ℕ → (x y : ℕ) → Touching
 touched setup pad table words x y = cond (isDown (pad .registers)) (heldDown setup pad words x y) (pressed setup pad table words x y)
 

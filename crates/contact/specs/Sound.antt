@@ -12,6 +12,7 @@ use Rattle.touch.specs.Judge.{goodRecord}
 use Rattle.contact.specs.declared.Catch.the-variants.{Free, Caught}
 use Rattle.contact.specs.declared.Pad.{Pad}
 
+-- holds of registers and catch of every panel that is reached
 pub record Sound (setup : Setup) (pad : Pad) : Type 0 where
   -- "There are 256 register bytes"
   pub whole : length (pad .registers .bytes) ≡ 256

@@ -21,10 +21,11 @@ use Rattle.demands.proofs.NothingLeft.{nothing-where-none-left}
 abbrev lent : Lent
 lent = lending (replicate wordCount 0) (replicate leastRoom 0)
 
--- a frame has come; its report is asked for
+-- a frame has come
 abbrev come : List Call
 come = bytes version ∷ []
 
+-- a frame has come, and its report has been asked for
 abbrev asked : List Call
 asked = bytes version ∷ ask ∷ []
 

@@ -169,6 +169,7 @@ module _ (now : Moment) (reached : Reachable (now .panel)) (content : List ℕ) 
   abbrev k : ℕ
   k = address - wordAt content 0
 
+  -- the moment after the write and further calls
   abbrev then : Moment
   then = afterAll (after now ask) calls
 

@@ -23,14 +23,15 @@ use Rattle.demands.specs.Calls.{Moment, WellLent, Call, ask, begun, afte
 use Rattle.demands.specs.Reports.{reportWaits}
 use Rattle.demands.specs.Given.{givenAll}
 
--- what a panel keeps of the line, and the reports of it that are still to be handed over
+-- what a panel keeps of the line
 abbrev pub keptBy : Panel → List ℕ
 keptBy panel = keptOf (panel .reader) .bytes
 
+-- "While one of them is left": the reports that are still to be handed over, those of what is kept
 abbrev pub stillToHand : Setup → Panel → List Report
 stillToHand setup panel = reports (rulesFor (lineOf setup)) (panel .reader .closed) (keptBy panel)
 
--- the reports of the reading of all that was given
+-- the reports of "the reading of all that was given"
 abbrev pub readingOf : Setup → Moment → List Call → List Report
 readingOf setup now calls = lineReports (rulesFor (lineOf setup)) (givenAll now calls)
 
@@ -48,6 +49,7 @@ pub record AsRead (setup : Setup) (now : Moment) (calls : List Call) : Type 0 wh
   pub at-most-257 : reportWaits (afterAll now calls .panel) ≡ false
       → length (keptBy (afterAll now calls .panel)) ≤ oneLessThanLongest (rulesFor (lineOf setup) .header)
 
+-- from every start, after any sequence of calls
 abbrev pub AlwaysAsRead : Type 0
 AlwaysAsRead =
     (setup : Setup) (table : List ℕ) (lent : Lent) → started setup table .answer ≡ start.Started
@@ -59,6 +61,7 @@ pub record AskedUntilNothing (now : Moment) : Type 0 where
   pub nothing-waits : reporting (now .panel) (now .lent) .reported .handed ≡ handed.Nothing → reportWaits (now .panel) ≡ false
   pub comes : reportWaits (afterAll now (replicate longestFrame ask) .panel) ≡ false
 
+-- at every moment that calls lead to, where what must be lent is lent
 abbrev pub AlwaysUntilNothing : Type 0
 AlwaysUntilNothing =
     (now : Moment) → Arises now → WellLent (now .lent) → AskedUntilNothing now

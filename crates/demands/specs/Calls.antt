@@ -28,8 +28,8 @@ pub record Moment : Type 0 where
   pub panel : Panel
   pub lent : Lent
 
--- a line byte, line bytes one after the other, a quiet mark, asking for a report, a contact with the table it is lent, a lift. `lend` is no call
--- of the panel: the caller lends other things from then on.
+-- "sequence of line bytes, quiet marks, contacts, lifts, tables or lent buffers": a line byte, line bytes one after the other, a quiet mark, asking for a report,
+-- a contact with the table it is lent, a lift. `lend` is no call of the panel: the caller lends other things from then on.
 pub data Call : Type 0 where
   lend : (lent : Lent) → Call
   byte : (b : ℕ) → Call
@@ -39,6 +39,7 @@ pub data Call : Type 0 where
   contact : (c : Contact) → Call
   lift : Call
 
+-- a moment with another panel, and the same lent
 abbrev pub withPanel : Moment → Panel → Moment
 withPanel now panel = record { panel = panel; lent = now .lent }
 
@@ -65,6 +66,7 @@ after now (contact c) =
     record { panel = done .contacted .panel; lent = done .lent }
 after now lift = withPanel now (lifting (now .panel) .panel)
 
+-- what calls leave, one after the other
 unfoldable pub afterAll : Moment → List Call → Moment
 afterAll now [] = now
 afterAll now (call ∷ calls) = afterAll (after now call) calls
@@ -86,7 +88,7 @@ reportHanded handed.Nothing payload = []
 reportHanded (handed.BadCheck command acknowledged) payload = badCheck command ∷ []
 reportHanded (handed.Accepted command count outcome acknowledged replied) payload = acceptedFrame command (take count payload) ∷ []
 
--- the reports that a call hands over: only asking does
+-- "reports are then asked for one at a time": what a call hands over; only asking does
 unfoldable pub handedOver : Moment → Call → List Report
 handedOver now (lend lent) = []
 handedOver now (byte b) = []
@@ -98,18 +100,21 @@ handedOver now ask =
 handedOver now (contact c) = []
 handedOver now lift = []
 
+-- "The reports asked for, in order"
 unfoldable pub handedOverAll : Moment → List Call → List Report
 handedOverAll now [] = []
 handedOverAll now (call ∷ calls) = handedOver now call ++ handedOverAll (after now call) calls
 
--- what the types of a call's arguments say: bytes, and "16-bit numbers"
+-- "16-bit numbers"
 abbrev pub Halfwords : List ℕ → Type 0
 Halfwords ws = (i : ℕ) → getD ws i 0 < 65536
 
+-- what the types of what is lent say: "16-bit numbers", and bytes
 pub record LentTyped (lent : Lent) : Type 0 where
   pub words : Halfwords (lent .words)
   pub room : Bytes (lent .room)
 
+-- what the types of a call's arguments say
 unfoldable pub Typed : Call → Type 0
 Typed (lend lent) = LentTyped lent
 Typed (byte b) = b < 256
@@ -119,6 +124,7 @@ Typed ask = Unit
 Typed (contact c) = Bytes (c .table) × ((c .x < 65536) × (c .y < 65536))
 Typed lift = Unit
 
+-- and of the arguments of all these calls
 unfoldable pub AllTyped : List Call → Type 0
 AllTyped [] = Unit
 AllTyped (call ∷ calls) = Typed call × AllTyped calls

@@ -17,13 +17,13 @@ use Rattle.demands.specs.Demand2.{readReply, fetchReply}
 abbrev pub handedBy : Moment → Handed
 handedBy now = reporting (now .panel) (now .lent) .reported .handed
 
--- the reply frame to a command that asking hands over: 0x81 and 0x83 have one where they are done
+-- "Reply 0x81, address, count, bytes."; "Reply 0x83, address, count, words.": the reply frame to a command that asking hands over, where it is done
 unfoldable pub replyTo : Moment → (command : ℕ) → (content : List ℕ) → List ℕ
 replyTo now command content =
     cond (eqb (numberGiven now ask) 0) (cond (eqb command 0x81) (readReply now content) (cond (eqb command 0x83) (fetchReply now content) [])) []
 
--- the counts are those of an acknowledgement and a reply; so many bytes of the room that is left are the one, so many right behind them the other, and
--- all behind those are as they stood
+-- "The reply follows the acknowledgement at once in the same room. .. bytes past the reported count stay.": the counts are those of an acknowledgement and a
+-- reply; so many bytes of the room that is left are the one, so many right behind them the other, and all behind those are as they stood
 pub record Counted (now : Moment) (acknowledged replied : ℕ) (acknowledgement reply : List ℕ) : Type 0 where
   pub acknowledged-is : acknowledged ≡ length acknowledgement
   pub replied-is : replied ≡ length reply
@@ -31,12 +31,13 @@ pub record Counted (now : Moment) (acknowledged replied : ℕ) (acknowledgement 
   pub next : take replied (drop acknowledged (after now ask .lent .room)) ≡ reply
   pub rest : drop (acknowledged + replied) (after now ask .lent .room) ≡ drop (acknowledged + replied) (now .lent .room)
 
--- a bad check: its command, how long an acknowledgement was written, and no reply
+-- "each bad check by the same with 0x00": its command, how long an acknowledgement was written, and no reply
 pub record BadCheckCounted (now : Moment) (command acknowledged : ℕ) : Type 0 where
   pub hands : handedOver now ask ≡ badCheck command ∷ []
   pub counted : Counted now acknowledged 0 (acknowledgementOf (now .panel .setup) command false) []
 
--- an accepted frame: its command, how much data there is, how long an acknowledgement and how long a reply were written
+-- "each accepted frame is first answered by header, length, command, 0xFF, check": its command, how much data there is, how long an acknowledgement and how long
+-- a reply were written
 pub record FrameCounted (now : Moment) (command count acknowledged replied : ℕ) : Type 0 where
   pub content : List ℕ
   pub hands : handedOver now ask ≡ acceptedFrame command content ∷ []

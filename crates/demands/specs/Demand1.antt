@@ -30,11 +30,12 @@ use Rattle.panel.specs.Inputs.{fedByte}
 use Rattle.demands.specs.Calls.{Moment, Call, lend, byte, bytes, mark, ask, contact, lift, after, afterAll, numberGiven, handedOver}
 use Rattle.demands.specs.Reports.{reportWaits, waitingReport, readBehind, acknowledgementOf}
 
--- a number of the table and whether its condition holds
+-- "Given exactly when": a number of the table and whether its condition holds
 pub record Condition : Type 0 where
   pub number : ℕ
   pub holds : Bool
 
+-- builds one: this number is given where that holds
 infix 20 _when_
 abbrev pub _when_ : ℕ → Bool → Condition
 n when holds = record { number = n; holds = holds }
@@ -44,11 +45,12 @@ unfoldable pub firstNumber : List Condition → ℕ
 firstNumber [] = 0
 firstNumber (c ∷ cs) = cond (c .holds) (c .number) (firstNumber cs)
 
--- "Given exactly when": the number stands in its list under a condition that holds, and none before it does
+-- no condition of a list holds
 unfoldable pub noneHolds : List Condition → Bool
 noneHolds [] = true
 noneHolds (c ∷ cs) = not (c .holds) && noneHolds cs
 
+-- "each number exactly under its printed condition and order": it stands in its list under a condition that holds, and none before it does
 pub record GivenUnder (cs : List Condition) (n : ℕ) : Type 0 where
   pub before : List Condition
   pub condition : Condition
@@ -114,10 +116,11 @@ replyPasses checking command content =
     false
     (replyTooLong checking (3 + (byteAt content 2 + byteAt content 2)))
 
--- 14: "words lent aren't 28,672, or reply .. room below 265"
+-- 14: "words lent aren't 28,672"
 unfoldable pub wordsNotLent : List ℕ → Bool
 wordsNotLent words = not (eqb (length words) wordCount)
 
+-- 14: "reply or writer's room below 265"
 unfoldable pub roomTooSmall : List ℕ → Bool
 roomTooSmall room = ltb (length room) leastRoom
 
@@ -187,7 +190,7 @@ pub record OnlyHandedOver (now later : Moment) : Type 0 where
   pub only-read-on : later .panel ≡ readBehind (now .panel)
   pub only-acknowledged : later .lent ≡ withRoom (now .lent) (over (acknowledgementOf (now .panel .setup) command true) (now .lent .room))
 
--- what a refused call leaves, by its number
+-- "beyond that a refusal leaves the panel, the variable words and the reply room as they stood": what a refused call leaves, by its number
 pub data RefusalLeaves (now : Moment) : Call → Type 0 where
   -- 2 to 7: "answers beside a frame's report, which counts as handed over, and its acknowledgement is written"
   only-handed-over : 2 ≤ numberGiven now ask → numberGiven now ask ≤ 7 → OnlyHandedOver now (after now ask) → RefusalLeaves now ask

@@ -33,7 +33,7 @@ use Rattle.panel.specs.State.{headerOf, padOf, withPad}
 use Rattle.demands.specs.Calls.{Moment, Call, lend, bytes, ask, contact, lift, after, numberGiven, handedOver}
 use Rattle.demands.specs.Reports.{readBehind, acknowledgementOf}
 
--- the word is named by the call, which is done
+-- "those the command or touch rule names": the word is named by the call, which is done
 pub data NamesWord (now : Moment) (k : ℕ) : Call → Type 0 where
   -- "0x82, address (2), one or more words: write variables": the word lies in the run
   by-store : (content : List ℕ) → handedOver now ask ≡ acceptedFrame 0x82 content ∷ [] → numberGiven now ask ≡ 0
@@ -47,7 +47,7 @@ pub data NamesWord (now : Moment) (k : ℕ) : Call → Type 0 where
   -- the caller lends other words, with another number there
   by-lending : (lent : Lent) → wordAtAddress (lent .words) k ≢ wordAtAddress (now .lent .words) k → NamesWord now k (lend lent)
 
--- the register is named by the call, which is done
+-- "those the command or touch rule names": the register is named by the call, which is done
 pub data NamesRegister (now : Moment) (address : ℕ) : Call → Type 0 where
   -- "0x80, address (1), one or more bytes: write registers": the register lies in the run
   by-write : (content : List ℕ) → handedOver now ask ≡ acceptedFrame 0x80 content ∷ [] → numberGiven now ask ≡ 0
@@ -104,6 +104,7 @@ readReply now content =
     let count = byteAt content 1 in
     frameOf (checkingOf setup) (headerOf setup) 0x81 (address ∷ count ∷ registerRun (now .panel .registers) address count)
 
+-- "0x81, address (1), count (1): read registers.": what it leaves, with its reply
 unfoldable pub afterRead : Moment → List ℕ → Moment
 afterRead now content = leaving now 0x81 (now .panel .registers) (now .panel .catch) (now .lent) (readReply now content)
 
@@ -121,6 +122,7 @@ fetchReply now content =
     let count = byteAt content 2 in
     frameOf (checkingOf setup) (headerOf setup) 0x83 (highFirst address ++ (count ∷ bytesOf (wordRun (now .lent .words) address count)))
 
+-- "0x83, address (2), count (1): read variables.": what it leaves, with its reply
 unfoldable pub afterFetch : Moment → List ℕ → Moment
 afterFetch now content = leaving now 0x83 (now .panel .registers) (now .panel .catch) (now .lent) (fetchReply now content)
 
@@ -138,10 +140,11 @@ afterContact now c =
     let done = Touch.touched (now .panel .setup) (padOf (now .panel)) (c .table) (now .lent .words) (c .x) (c .y) in
     record { panel = withPad (now .panel) (done .pad); lent = withWords (now .lent) (done .words) }
 
+-- "touch effects", of a lift
 unfoldable pub afterLift : Moment → Moment
 afterLift now = record { panel = withPad (now .panel) (Touch.lifted (padOf (now .panel))); lent = now .lent }
 
--- what the four commands leave where they are done
+-- "register and word access": what the four commands leave where they are done
 unfoldable pub afterCommand : Moment → (command : ℕ) → List ℕ → Moment
 afterCommand now command content =
     cond (eqb command 0x80) (afterWrite now content)

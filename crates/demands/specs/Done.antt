@@ -10,6 +10,6 @@ pub record Exactly (given condition : Type 0) : Type 0 where
   pub only-when : given → condition
   pub wherever : condition → given
 
--- the number given is 0 exactly where no condition of the list holds
+-- "0: done": the number given is 0 exactly where no condition of the list holds
 abbrev pub DoneExactly : (number : ℕ) → List Condition → Type 0
 DoneExactly number cs = Exactly (number ≡ 0) (noneHolds cs ≡ true)

@@ -36,6 +36,7 @@ pub data Row : Type 0 where
   reading : (given printed : List Report) → Row
   answered : (given printed : List Handed) → Row
 
+-- the two are the same
 abbrev pub Right : Row → Type 0
 Right (number given printed) = given ≡ printed
 Right (whole given printed) = given ≡ printed
@@ -43,11 +44,12 @@ Right (frame given printed) = given ≡ printed
 Right (reading given printed) = given ≡ printed
 Right (answered given printed) = given ≡ printed
 
+-- every row of a table is right
 abbrev pub AllRight : List Row → Type 0
 AllRight [] = Unit {0}
 AllRight (row ∷ rows) = Right row × AllRight rows
 
--- the header of every printed frame
+-- the header of every printed frame, "5A A5"
 abbrev pub header : List ℕ
 header = 0x5A ∷ 0xA5 ∷ []
 
@@ -63,28 +65,31 @@ startedWith flags = started (setupWith flags) [] .panel
 abbrev pub asking : Panel → Reporting
 asking panel = reporting panel (lending (replicate wordCount 0) (replicate leastRoom 0))
 
--- e, to a panel: the bytes and the mark are given, then two reports are asked for
+-- e: "5A A5 40, 5A A5 05 81 00 01 E0 28"
 abbrev pub noiseAndRead : List ℕ
 noiseAndRead = 0x5A ∷ 0xA5 ∷ 0x40 ∷ 0x5A ∷ 0xA5 ∷ 0x05 ∷ 0x81 ∷ 0x00 ∷ 0x01 ∷ 0xE0 ∷ 0x28 ∷ []
 
+-- e, to a panel with "Checking on": the bytes and the mark are given, then a report is asked for
 abbrev pub firstAsked : Reporting
 firstAsked = asking (fedMark (fedBytes (startedWith 1) noiseAndRead .panel) .panel)
 
+-- and then another
 abbrev pub secondAsked : Reporting
 secondAsked = asking (firstAsked .reported .panel)
 
--- f, to a panel: the bytes are given, then a report is asked for
+-- f: "Checking off, 5A A5 05 82 00 10 01 F4", to a panel: the bytes are given, then a report is asked for
 abbrev pub writeAsked : Reporting
 writeAsked = asking (fedBytes (startedWith 0) (0x5A ∷ 0xA5 ∷ 0x05 ∷ 0x82 ∷ 0x00 ∷ 0x10 ∷ 0x01 ∷ 0xF4 ∷ []) .panel)
 
--- g: a step upward on a whole word
+-- g: "98 up 5 in 0..100" and the like, a step upward on a whole word
 abbrev pub stepUp : (value step least greatest : ℕ) (round : Bool) → ℕ
 stepUp value step least greatest round = stepStores 0 value true round step least greatest
 
--- h to j: a slider from 100 to 300 on a whole word, whose begin, end and stored word are read as signed numbers
+-- h to j: "Slider 100..300", on a whole word, whose begin, end and stored word are read as signed numbers
 abbrev pub slider : (begin end : ℤ) (at : ℕ) → ℤ
 slider begin end at = signed (sliderStores (roundingOf (setupWith 0)) 0 0 (wordOf begin) (wordOf end) 100 300 at)
 
+-- "Examples a to j are one proved table under a single claim"
 abbrev pub examples : List Row
 examples =
     -- a. "Check of no bytes FFFF."

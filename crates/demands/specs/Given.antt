@@ -13,7 +13,7 @@ unfoldable pub unlessRefused : Answer → Input → List Input
 unlessRefused Done input = input ∷ []
 unlessRefused Waits input = []
 
--- the inputs that a call gives: a byte, a mark, or as many of the bytes as were taken
+-- "An input refused with 1 was not given": the inputs that a call gives, a byte, a mark, or as many of the bytes as were taken
 unfoldable pub given : Moment → Call → List Input
 given now (lend lent) = []
 given now (byte b) = unlessRefused (fedByte (now .panel) b .answer) (Line.byte b)

@@ -24,11 +24,11 @@ pub record OneIsLeft (setup : Setup) (now : Moment) (calls : List Call) : Type 0
   pub later : List Report
   pub left : readingOf setup now calls ≡ handedOverAll now calls ++ (report ∷ later)
 
--- those handed over are all of them
+-- "While one of them is left", and the opposite: those handed over are all of them
 abbrev pub NoneIsLeft : Setup → Moment → List Call → Type 0
 NoneIsLeft setup now calls = handedOverAll now calls ≡ readingOf setup now calls
 
--- of bytes one after the other: one of them comes while one is left
+-- "1: an input comes while a report waits", of bytes one after the other: one of them comes while one is left
 pub record OneComesWhileLeft (setup : Setup) (now : Moment) (calls : List Call) (bs : List ℕ) : Type 0 where
   pub taken : List ℕ
   pub refused : ℕ
@@ -46,24 +46,26 @@ pub record AnsweredOne (setup : Setup) (now : Moment) (calls : List Call) : Type
       → Exactly (numberGiven (afterAll now calls) (contact c) ≡ 1) (OneIsLeft setup now calls)
   pub of-bytes : (bs : List ℕ) → Bytes bs → Exactly (numberGiven (afterAll now calls) (bytes bs) ≡ 1) (OneComesWhileLeft setup now calls bs)
 
--- "reports are then asked for one at a time until the answer is 'nothing'": that answer, and what it tells: no report is handed over, and the number is 0
+-- "reports are then asked for one at a time until the answer is 'nothing'": that answer
 abbrev pub AnswersNothing : Moment → Type 0
 AnswersNothing now = reporting (now .panel) (now .lent) .reported .handed ≡ handed.Nothing
 
+-- what the answer 'nothing' tells: no report is handed over, and the number is 0
 abbrev pub HandsNothingOver : Moment → Type 0
 HandsNothingOver now = (handedOver now ask ≡ []) × (numberGiven now ask ≡ 0)
 
+-- "until the answer is 'nothing'": it is answered exactly where none is left
 pub record AnsweredNothing (setup : Setup) (now : Moment) (calls : List Call) : Type 0 where
   pub answer : Exactly (AnswersNothing (afterAll now calls)) (NoneIsLeft setup now calls)
   pub no-report : Exactly (HandsNothingOver (afterAll now calls)) (NoneIsLeft setup now calls)
 
--- from a start, over any sequence of calls
+-- "While one of them is left, a report waits": from every start, over any sequence of calls
 abbrev pub OneWhileLeft : Type 0
 OneWhileLeft =
     (setup : Setup) (table : List ℕ) (lent : Lent) → started setup table .answer ≡ start.Started
     → (calls : List Call) → AllTyped calls → AnsweredOne setup (begun setup table lent) calls
 
--- .. where what must be lent is lent at the end of it
+-- "until the answer is 'nothing'": from every start, over any sequence of calls, where what must be lent is lent at the end of it
 abbrev pub NothingWhereNoneLeft : Type 0
 NothingWhereNoneLeft =
     (setup : Setup) (table : List ℕ) (lent : Lent) → started setup table .answer ≡ start.Started

@@ -14,8 +14,8 @@ use Rattle.demands.specs.Reports.{acknowledgementOf}
 use Rattle.demands.specs.Demand2.{withReply}
 use Rattle.demands.specs.Counts.{handedBy}
 
--- the read with this data is answered 0; its report tells how long its data, the acknowledgement and the reply are; and the room is left with the reply frame
--- of that other data, right behind the acknowledgement
+-- "Reply 0x81, address, count, bytes."; "Reply 0x83, address, count, words.": the read with this data is answered 0; its report tells how long its data, the
+-- acknowledgement and the reply are; and the room is left with the reply frame of that other data, right behind the acknowledgement
 pub record Replied (now : Moment) (command : ℕ) (content payload : List ℕ) : Type 0 where
   pub done : numberGiven now ask ≡ 0
   pub counts : handedBy now

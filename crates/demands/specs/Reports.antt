@@ -21,7 +21,7 @@ rulesOf panel = rulesFor (lineOf (panel .setup))
 unfoldable pub reportWaits : Panel → Bool
 reportWaits panel = Moves.waiting (rulesOf panel) (keptOf (panel .reader))
 
--- that report, if there is one
+-- "a report waits": that report, if there is one
 unfoldable pub waitingReport : Panel → List Report
 waitingReport panel = Moves.handed (rulesOf panel) (keptOf (panel .reader))
 

@@ -8,11 +8,11 @@ use Rattle.frame.specs.Frame.{enclosed}
 unfoldable pub acknowledgementLength : ℕ
 acknowledgementLength = 4
 
--- FF for an accepted frame, 00 for a bad check
+-- "each accepted frame is first answered by .. 0xFF ..; each bad check by the same with 0x00"
 unfoldable pub verdict : Bool → ℕ
 verdict true = 0xFF
 verdict false = 0x00
 
--- acknowledgements are written only with checking on
+-- "header, length, command, 0xFF, check"; "the same with 0x00". Since one is written only "With checking and acknowledging both on", it has check bytes.
 unfoldable pub acknowledgement : List ℕ → ℕ → Bool → List ℕ
 acknowledgement header command accepted = enclosed true header acknowledgementLength (command ∷ verdict accepted ∷ [])

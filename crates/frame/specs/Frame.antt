@@ -10,10 +10,11 @@ use Rattle.wire.specs.ByteOrder.{lowByte, highByte, lowFirst}
 use Rattle.check_value.specs.CheckValue.{checkValue}
 use Rattle.frame.specs.declared.Header.{Header}
 
+-- "Two header bytes H1 H2, fixed at setup": as a list
 unfoldable pub headerBytes : Header → List ℕ
 headerBytes header = header .h1 ∷ header .h2 ∷ []
 
--- how many check bytes there are: two, "with checking on"
+-- "with checking on, two check bytes": how many there are
 unfoldable pub checkLength : Bool → ℕ
 checkLength true = 2
 checkLength false = 0
@@ -27,15 +28,15 @@ checkBytes false content = []
 unfoldable pub lengthByte : Bool → List ℕ → ℕ
 lengthByte checking content = length content + checkLength checking
 
--- header, the length byte l, command and data, check bytes
+-- "Two header bytes H1 H2 ..; a length byte L; command; data; and, with checking on, two check bytes", for any length byte l; `content` is command and data
 unfoldable pub enclosed : Bool → List ℕ → ℕ → List ℕ → List ℕ
 enclosed checking header l content = (header ++ (l ∷ [])) ++ (content ++ checkBytes checking content)
 
--- a frame by the general length rule
+-- "L counts command, data and check bytes": the frame whose length byte does
 unfoldable pub framed : Bool → List ℕ → List ℕ → List ℕ
 framed checking header content = enclosed checking header (lengthByte checking content) content
 
--- the frame for a command and its data
+-- that frame, for a command and its data
 unfoldable pub frameOf : Bool → List ℕ → ℕ → List ℕ → List ℕ
 frameOf checking header command payload = framed checking header (command ∷ payload)
 
@@ -47,19 +48,20 @@ leastLength checking = 1 + checkLength checking
 abbrev pub longestFrame : ℕ
 longestFrame = 258
 
--- the same behind a header of any length: L is one byte
+-- "a frame has 3 + L bytes, at most 258", behind a header of any length: L is one byte
 abbrev pub longestWith : List ℕ → ℕ
 longestWith header = length header + 256
 
--- "Data is at most 252 bytes with checking and 254 without": the most that any frame carries, and what a frame carries under a choice
+-- "Data is at most .. 254 without": the most that any frame carries
 abbrev pub mostPayload : ℕ
 mostPayload = 254
 
+-- "Data is at most 252 bytes with checking and 254 without"
 unfoldable pub mostData : Bool → ℕ
 mostData true = 252
 mostData false = mostPayload
 
--- of the L bytes behind the length byte, the command and data
+-- "L counts command, data and check bytes": of those L bytes, command and data
 unfoldable pub contentOf : Bool → List ℕ → List ℕ
 contentOf checking body = take (length body - checkLength checking) body
 

@@ -15,7 +15,7 @@ use Rattle.frame.specs.Acknowledgement.{acknowledgement}
 abbrev pub leastRoom : ℕ
 leastRoom = 265
 
--- 01's number of each answer
+-- "it refuses with 14, then 3, else answers the frame's length": the number of each answer, "0: done" with the length
 unfoldable pub numberOfWritten : Written → ℕ
 numberOfWritten (Frame n) = 0
 numberOfWritten DataTooLong = 3
@@ -31,6 +31,7 @@ pub record Writing : Type 0 where
   pub answer : Written
   pub room : List ℕ
 
+-- builds one
 abbrev pub answers : Written → List ℕ → Writing
 answers answer room = record { answer = answer; room = room }
 

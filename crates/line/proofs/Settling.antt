@@ -116,8 +116,8 @@ module _ (line : Line) (n : ℕ) (held : List ℕ) (stop : Stop) (is : stop ≡ 
   pub rest-moved : _≡_ {A = Rest} (record { len = n - stop .at; head = stop .look }) (restOf line bytes)
   rest-moved = rest-is (n - stop .at) refl
 
-  pub held-stays : stop .at ≡ 0 → held ≡ padded longestFrame bytes → held ≡ padded longestFrame (leftOf line bytes)
-  held-stays none front = front ∙ ap (padded longestFrame) (sym (left-is line false bytes stop is ∙ ap (λ (k : ℕ). drop k bytes) none))
+  pub held-unmoved : stop .at ≡ 0 → held ≡ padded longestFrame bytes → held ≡ padded longestFrame (leftOf line bytes)
+  held-unmoved none front = front ∙ ap (padded longestFrame) (sym (left-is line false bytes stop is ∙ ap (λ (k : ℕ). drop k bytes) none))
 
   pub held-moved : (left held′ : List ℕ) → left ≡ padded longestFrame (take (n - stop .at) (drop (stop .at) held))
       → held′ ≡ take (length left) left ++ drop (length left) held → held′ ≡ padded longestFrame (leftOf line bytes)

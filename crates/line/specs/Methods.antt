@@ -19,11 +19,12 @@ use Rattle.line.specs.declared.Asked.{Asked}
 use Rattle.wire.specs.Numbers.{Said, says, Listed, _when_, firstSaid}
 use Rattle.line.specs.State.{rulesFor, padded, readerOf, keptOf, settledReader}
 
--- 01's number of each answer
+-- "0: done", "1: an input comes while a report waits": the number of each answer
 unfoldable pub numberOfAnswer : Answer → ℕ
 numberOfAnswer Done = 0
 numberOfAnswer Waits = 1
 
+-- "report a bad check"; "report an accepted frame": whether what stands there is a report
 abbrev pub isAnswer : Look → Bool
 isAnswer Pass = false
 isAnswer Wait = false
@@ -42,13 +43,15 @@ busy reader = not (takes (reader .len) (reader .head))
 abbrev pub gives : Answer → Reader → Given
 gives answer reader = record { answer = answer; reader = reader }
 
--- what an input is answered, and by which list: "byte or mark 1"
+-- "a definition gives this paper's number and values for each of its cases"
 unfoldable pub answerSaid : Answer → Said
 answerSaid answer = says (numberOfAnswer answer) []
 
+-- the list by which an input is answered: "byte or mark 1"
 unfoldable pub inputListed : Reader → List Listed
 inputListed reader = (says 1 [] when busy reader) ∷ []
 
+-- "The first number in order whose condition holds is given", "0: done" where none does: of an input
 abbrev pub inputSaid : Reader → Said
 inputSaid reader = firstSaid (inputListed reader) (says 0 [])
 
@@ -57,17 +60,20 @@ unfoldable pub givenByte : Reader → ℕ → Given
 givenByte reader b =
     cond (busy reader) (gives Waits reader) (gives Done (readerOf (reader .line) (withByte (rulesFor (reader .line)) (keptOf reader) b)))
 
+-- "Bytes or marks are given one at a time"; "otherwise a refusal changes nothing"
 unfoldable pub givenMark : Reader → Given
 givenMark reader =
     cond (busy reader) (gives Waits reader) (gives Done (readerOf (reader .line) (withMark (rulesFor (reader .line)) (keptOf reader))))
 
--- bytes given one after the other until one is refused
+-- builds what a block of bytes is answered: how many of them were taken, and the reader as it is then
 abbrev pub gave : ℕ → Reader → Gave
 gave used reader = record { used = used; reader = reader }
 
+-- the same where n bytes more were taken before
 abbrev pub plus : ℕ → Gave → Gave
 plus n given = gave (n + given .used) (given .reader)
 
+-- bytes given one after the other until one is refused: "1: an input comes while a report waits"
 unfoldable pub givenBytes : Reader → List ℕ → Gave
 givenBytes reader [] = gave 0 reader
 givenBytes reader (b ∷ bs) =

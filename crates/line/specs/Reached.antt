@@ -21,11 +21,13 @@ pub record Reached (line : Line) (kept : Kept) : Type 0 where
   -- the first byte kept is one where reading stays: it waits or reports
   pub stands : isPass (look (rulesFor line) (kept .closed) (kept .bytes)) ≡ false
 
+-- the first of these reports, if there is one, as the reader hands it over: "a bad check with the command byte", "an accepted frame with its command and data"
 unfoldable pub reportAs : List Place.Report → Report
 reportAs [] = Nothing
 reportAs (badCheck command ∷ later) = BadCheck command
 reportAs (acceptedFrame command content ∷ later) = Accepted command (length content)
 
+-- and its data, in the array that stands beside it
 unfoldable pub payloadAs : List Place.Report → List ℕ
 payloadAs [] = padded mostPayload []
 payloadAs (badCheck command ∷ later) = padded mostPayload []

@@ -10,6 +10,7 @@ use Rattle.place.specs.Looks.{rulesOf, shown}
 use Rattle.line.specs.declared.Line.{Line}
 use Rattle.line.specs.declared.Reader.{Reader}
 
+-- "Two header bytes H1 H2, fixed at setup", and the checking choice: the reader's own, as the reading takes them
 abbrev pub rulesFor : Line → Rules
 rulesFor line = rulesOf (line .header) (line .checking)
 

@@ -29,9 +29,11 @@ use Rattle.panel.specs.Reporting.{enough, acknowledged, accepting, handi
 abbrev pub plain : (pages width height : ℕ) → Setup
 plain pages width height = record { h1 = 0x5A; h2 = 0xA5; flags = 0; pages = pages; width = width; height = height }
 
+-- "5A A5 05 82 00 10 01 F4"
 abbrev pub exampleFrame : List ℕ
 exampleFrame = 0x5A ∷ 0xA5 ∷ 0x05 ∷ 0x82 ∷ 0x00 ∷ 0x10 ∷ 0x01 ∷ 0xF4 ∷ []
 
+-- a new panel that has been given it
 abbrev pub exampleFed : (pages width height : ℕ) → Panel
 exampleFed pages width height = fedBytes (newPanel (plain pages width height)) exampleFrame .panel
 

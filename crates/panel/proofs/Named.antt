@@ -19,11 +19,12 @@ use Rattle.panel.specs.Reporting.{acknowledged, accepting, handingOver, 
 use Rattle.panel.specs.Contacts.{Contact, contacting, lifting}
 use Rattle.panel.proofs.Ways.{contact-ways, lift-ways, report-ways}
 
--- the frame that is handed over names the word or the register
+-- the frame that is handed over names the word
 pub data ReportNamesWord (panel : Panel) (words : List ℕ) (k : ℕ) : Type 0 where
   accepted : (command count : ℕ) → asked (panel .reader) .report ≡ line.Accepted command count
       → Command.NamesWord command (take count (asked (panel .reader) .payload)) (length words) k → ReportNamesWord panel words k
 
+-- the frame that is handed over names the register
 pub data ReportNamesRegister (panel : Panel) (address : ℕ) : Type 0 where
   accepted : (command count : ℕ) → asked (panel .reader) .report ≡ line.Accepted command count
       → Command.NamesRegister command (take count (asked (panel .reader) .payload)) (panel .setup .pages) address → ReportNamesRegister panel address

@@ -21,7 +21,7 @@ use Rattle.panel.specs.declared.LiftAnswer.the-variants as lift
 use Rattle.panel.specs.declared.Lifted.{Lifted}
 use Rattle.panel.specs.State.{padOf, withPad}
 
--- "8: contact off the screen"
+-- the opposite of "8: contact off the screen"
 abbrev pub onScreen : Setup → (x y : ℕ) → Bool
 onScreen setup x y = ltb x (setup .width) && ltb y (setup .height)
 
@@ -31,6 +31,7 @@ pub record Contact : Type 0 where
   pub x : ℕ
   pub y : ℕ
 
+-- builds one
 abbrev pub contactAt : (table : List ℕ) → (x y : ℕ) → Contact
 contactAt table x y = record { table = table; x = x; y = y }
 
@@ -39,10 +40,11 @@ pub record Contacting : Type 0 where
   pub contacted : Contacted
   pub lent : Lent
 
+-- builds one
 abbrev pub contacts : ContactAnswer → Panel → Lent → Contacting
 contacts answer panel lent = record { contacted = record { answer = answer; panel = panel }; lent = lent }
 
--- with a good table: 9, then 8, else the contact is done
+-- with a good table: "9, 8", each under its condition, else the contact is done
 unfoldable pub contactOn : Panel → Contact → Lent → Contacting
 contactOn panel c lent =
     let done = touched (panel .setup) (padOf panel) (c .table) (lent .words) (c .x) (c .y) in
@@ -56,13 +58,14 @@ contactJudged Good panel c lent = contactOn panel c lent
 contactJudged NotRecords panel c lent = contacts contact.NotRecords panel lent
 contactJudged (Wrong i) panel c lent = contacts (contact.WrongRecord i) panel lent
 
+-- "contact 14, 1, 12, 13, 9, 8": of these, 14, 1 and then the table
 unfoldable pub contacting : Panel → Contact → Lent → Contacting
 contacting panel c lent =
     cond (not (eqb (length (lent .words)) wordCount)) (contacts contact.NotLent panel lent)
     (cond (busy (panel .reader)) (contacts contact.Waits panel lent)
     (contactJudged (judged (panel .setup) (c .table)) panel c lent))
 
--- "Lifts are taken with touch off."
+-- "lift 1, 10"; "Lifts are taken with touch off."
 unfoldable pub lifting : Panel → Lifted
 lifting panel =
     cond (busy (panel .reader)) (record { answer = lift.Waits; panel = panel })

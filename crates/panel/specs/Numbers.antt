@@ -12,6 +12,7 @@ use Rattle.panel.specs.declared.LiftAnswer.{LiftAnswer}
 use Rattle.wire.specs.Numbers.{Said, says}
 use Rattle.panel.specs.declared.LiftAnswer.the-variants as lift
 
+-- "start 11, 12, 13", "0: done": the number of each answer
 unfoldable pub startNumber : StartAnswer → ℕ
 startNumber start.Started = 0
 startNumber start.WrongSetup = 11
@@ -25,6 +26,7 @@ reportNumber handed.Nothing = 0
 reportNumber (handed.BadCheck command acknowledged) = 0
 reportNumber (handed.Accepted command count outcome acknowledged replied) = numberOfOutcome outcome
 
+-- "contact 14, 1, 12, 13, 9, 8", "0: done": the number of each answer
 unfoldable pub contactNumber : ContactAnswer → ℕ
 contactNumber contact.Done = 0
 contactNumber contact.NotLent = 14
@@ -34,6 +36,7 @@ contactNumber (contact.WrongRecord i) = 13
 contactNumber contact.TouchOff = 9
 contactNumber contact.OffScreen = 8
 
+-- "lift 1, 10", "0: done": the number of each answer
 unfoldable pub liftNumber : LiftAnswer → ℕ
 liftNumber lift.Done = 0
 liftNumber lift.Waits = 1
@@ -46,6 +49,7 @@ startSaid start.WrongSetup = says (startNumber start.WrongSetup) []
 startSaid start.NotRecords = says (startNumber start.NotRecords) []
 startSaid (start.WrongRecord i) = says (startNumber (start.WrongRecord i)) (i ∷ [])
 
+-- what a contact answers: its number, and beside 13 "the first wrong one is named"
 unfoldable pub contactSaid : ContactAnswer → Said
 contactSaid contact.Done = says (contactNumber contact.Done) []
 contactSaid contact.NotLent = says (contactNumber contact.NotLent) []
@@ -55,5 +59,6 @@ contactSaid (contact.WrongRecord i) = says (contactNumber (contact.WrongRecord i
 contactSaid contact.TouchOff = says (contactNumber contact.TouchOff) []
 contactSaid contact.OffScreen = says (contactNumber contact.OffScreen) []
 
+-- what a lift answers: its number, beside which nothing is named
 unfoldable pub liftSaid : LiftAnswer → Said
 liftSaid answer = says (liftNumber answer) []

@@ -12,6 +12,7 @@ use Rattle.panel.specs.Inputs.{fedByte, fedMark, fedBytes}
 use Rattle.panel.specs.Reporting.{reporting}
 use Rattle.panel.specs.Contacts.{Contact, contacting, lifting}
 
+-- demand 1, "sequence of line bytes, quiet marks, contacts, lifts, tables or lent buffers": the panels that such a one leads to from a start
 pub data Reachable : Panel → Type 0 where
   by-start : (setup : Setup) (table : List ℕ) → started setup table .answer ≡ start.Started → Reachable (started setup table .panel)
   by-byte : (panel : Panel) (b : ℕ) → b < 256 → Reachable panel → Reachable (fedByte panel b .panel)

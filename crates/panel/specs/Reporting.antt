@@ -28,10 +28,11 @@ use Rattle.panel.specs.declared.HandedOver.{HandedOver}
 use Rattle.panel.specs.declared.Reported.{Reported}
 use Rattle.panel.specs.State.{headerOf, fixedFor, answering}
 
--- "14: words lent aren't 28,672, or reply .. room below 265"
+-- the opposite of "14: words lent aren't 28,672, or reply .. room below 265"
 unfoldable pub enough : (words room : ℕ) → Bool
 enough words room = eqb words wordCount && leb leastRoom room
 
+-- the same of what is lent
 abbrev pub wellLent : Lent → Bool
 wellLent lent = enough (length (lent .words)) (length (lent .room))
 
@@ -45,6 +46,7 @@ pub record Effects : Type 0 where
   pub effected : Effected
   pub lent : Lent
 
+-- builds one
 abbrev pub effects : Effected → Lent → Effects
 effects effected lent = record { effected = effected; lent = lent }
 
@@ -62,12 +64,15 @@ pub record HandingOver : Type 0 where
   pub over : HandedOver
   pub lent : Lent
 
+-- builds one
 abbrev pub overs : HandedOver → Lent → HandingOver
 overs over lent = record { over = over; lent = lent }
 
+-- a report that is handed over and asks nothing of the panel
 abbrev pub onlyHanded : Handed → HandedOver
 onlyHanded handed = record { handed = handed; writes = false; drops = false }
 
+-- "Numbers 2 to 7 are answers beside a frame's report, which counts as handed over": the report of an accepted frame, with what it asks of the panel
 abbrev pub acceptedOver : (command count : ℕ) → Effected → HandedOver
 acceptedOver command count e =
     record {
@@ -76,7 +81,7 @@ acceptedOver command count e =
       drops = e .performed .drops;
     }
 
--- "'Nothing' changes nothing, the reply room included."
+-- "'Nothing' changes nothing, the reply room included."; "each bad check by the same with 0x00"; "An accepted frame takes effect when its report is handed over."
 unfoldable pub handingOver : Setup → Registers → Report → (payload : List ℕ) → Lent → HandingOver
 handingOver setup registers line.Nothing payload lent = overs (onlyHanded handed.Nothing) lent
 handingOver setup registers (line.BadCheck command) payload lent =
@@ -101,10 +106,11 @@ pub record Reporting : Type 0 where
   pub reported : Reported
   pub lent : Lent
 
+-- builds one
 abbrev pub reports : Reported → Lent → Reporting
 reports reported lent = record { reported = reported; lent = lent }
 
--- the panel behind a report: its reader has gone on, and an accepted frame has taken effect
+-- "An accepted frame takes effect when its report is handed over.": the panel behind a report, its reader gone on
 unfoldable pub handing : Asked → Report → Panel → Lent → Reporting
 handing a report panel lent =
     let done = handingOver (panel .setup) (panel .registers) report (a .payload) lent in
@@ -125,6 +131,7 @@ handing a report panel lent =
 abbrev pub refused : Panel → Reported
 refused panel = record { handed = handed.NotLent; payload = padded mostPayload []; panel = panel }
 
+-- "asking for a report 14, then 2 to 7 in turn"
 unfoldable pub reporting : Panel → Lent → Reporting
 reporting panel lent =
     let a = asked (panel .reader) in

@@ -15,7 +15,7 @@ use Rattle.contact.specs.Sound as Pad
 use Rattle.panel.specs.declared.Panel.{Panel}
 use Rattle.panel.specs.State.{headerFor, padOf}
 
--- the line as it was set up
+-- "Two header bytes H1 H2, fixed at setup", and whether checking is on: what the reader is set up with
 abbrev pub lineOf : Setup → Line
 lineOf setup = record { header = headerFor setup; checking = checkingOf setup }
 
@@ -25,6 +25,7 @@ pub record Reads (line : Line) (reader : Reader) : Type 0 where
   pub reached : Reached line kept
   pub is : reader ≡ readerOf line kept
 
+-- holds of every panel that is reached
 pub record Sound (panel : Panel) : Type 0 where
   -- 256 register bytes, the page below P, a catch only while down and of a good slider
   pub pad : Pad.Sound (panel .setup) (padOf panel)

@@ -17,7 +17,7 @@ use Rattle.panel.specs.declared.StartAnswer.the-variants as start
 use Rattle.panel.specs.declared.Start.{Start}
 use Rattle.panel.specs.State.{headerFor}
 
--- a panel that has just been started: the registers' starts, nothing caught, nothing held
+-- "a new panel": the registers' starts, nothing caught, nothing held
 unfoldable pub newPanel : Setup → Panel
 newPanel setup =
     record {
@@ -27,17 +27,20 @@ newPanel setup =
       reader = readerOf (record { header = headerFor setup; checking = checkingOf setup }) fresh;
     }
 
--- what stands in the panel's place where there is none: a panel of no page and no screen
+-- "A refused start gives no panel.": what stands in its place, a panel of no page and no screen
 unfoldable pub noPanel : Panel
 noPanel = newPanel (record { h1 = 0; h2 = 0; flags = 0; pages = 0; width = 0; height = 0 })
 
+-- "A refused start gives no panel."
 abbrev pub refuses : StartAnswer → Start
 refuses answer = record { answer = answer; panel = noPanel }
 
+-- "start .. 12, 13": what a table's verdict answers
 unfoldable pub startJudged : Verdict → Setup → Start
 startJudged Good setup = record { answer = start.Started; panel = newPanel setup }
 startJudged NotRecords setup = refuses start.NotRecords
 startJudged (Wrong i) setup = refuses (start.WrongRecord i)
 
+-- "start 11, 12, 13"
 unfoldable pub started : Setup → List ℕ → Start
 started setup table = cond (not (goodSetup setup)) (refuses start.WrongSetup) (startJudged (judged setup table) setup)

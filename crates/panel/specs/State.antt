@@ -16,6 +16,7 @@ use Rattle.panel.specs.declared.Panel.{Panel}
 abbrev pub headerFor : Setup → Header
 headerFor setup = record { h1 = setup .h1; h2 = setup .h2 }
 
+-- "Two header bytes H1 H2, fixed at setup": as a list
 abbrev pub headerOf : Setup → List ℕ
 headerOf setup = headerBytes (headerFor setup)
 
@@ -27,6 +28,7 @@ fixedFor setup = record { header = headerFor setup; checking = checkingOf setup;
 abbrev pub answering : Setup → Bool
 answering setup = checkingOf setup && acknowledgingOf setup
 
+-- a panel with another reader
 abbrev pub withReader : Panel → Reader → Panel
 withReader panel reader = record { setup = panel .setup; registers = panel .registers; catch = panel .catch; reader = reader }
 
@@ -34,6 +36,7 @@ withReader panel reader = record { setup = panel .setup; registers = panel .regi
 abbrev pub padOf : Panel → Pad
 padOf panel = record { registers = panel .registers; catch = panel .catch }
 
+-- a panel with what a touch left
 abbrev pub withPad : Panel → Pad → Panel
 withPad panel pad = record { setup = panel .setup; registers = pad .registers; catch = pad .catch; reader = panel .reader }
 

@@ -1,4 +1,4 @@
--- What a private function of the code is held against; no public contract cites it.
+-- No public promise cites this file: what a private function of the code is held against.
 use mathlib.Core.Bool.{Bool, true, false}
 use Rattle.place.specs.declared.Look.{Look}
 use Rattle.place.specs.declared.Look.the-variants.{Pass, Wait, Bad, Good}

@@ -11,7 +11,7 @@ use Rattle.place.specs.declared.Look.{Look}
 use Rattle.place.specs.declared.Look.the-variants.{Pass, Wait, Bad, Good}
 use Rattle.place.specs.declared.Stop.{Stop}
 
--- the setup's header and checking choice, as the reading takes them
+-- "Two header bytes H1 H2, fixed at setup", and the checking choice, as the reading takes them
 abbrev pub rulesOf : Header → Bool → Rules
 rulesOf header checking = record { header = headerBytes header; checking = checking }
 

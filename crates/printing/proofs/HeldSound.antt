@@ -42,6 +42,7 @@ pub record ItemSound (trace : Trace) : Type 0 where
   pub are-bytes : Bytes (trace .item)
   pub none : trace .have ≡ 0 → trace .item ≡ noItem
 
+-- what is known of all that is held, from the first byte of the input on
 pub record HeldSound (held : Held) : Type 0 where
   -- the panel is sound once it is started; before that, and after an X, no report waits
   pub panel : isStarted (held .trace .stage) ≡ true → Sound (held .trace .panel)
@@ -92,6 +93,7 @@ new-held-sound =
 
 -- ---- An event and a report, of the panel
 
+-- the panel and its memory are as sound as before
 record ToldSound (told : Told) : Type 0 where
   panel : Sound (told .panel)
   memory : Whole (told .memory)

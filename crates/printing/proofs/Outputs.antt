@@ -99,6 +99,7 @@ abbrev pub between : Setup → ℕ → Panel → Trace
 between setup records panel = record { stage = Started; item = noItem; have = 0; setup = setup; records = records; panel = panel }
 
 module _ (setup : Setup) (records : ℕ) (table : List ℕ) (memory : Memory) where
+  -- the same with what is lent to it
   abbrev pub lined : Panel → Held
   lined panel = holds (between setup records panel) table memory
 

@@ -12,10 +12,11 @@ use Rattle.trace.specs.State.{Held, holds, waits, isOver}
 use Rattle.trace.specs.Steps.{Stepping, stepping}
 use Rattle.trace.specs.Output.{Ending, ending}
 
--- one call of `step`, and what is lent again at the next
+-- one call of `step`
 abbrev pub stepCalled : Held → List ℕ → List ℕ → Stepping
 stepCalled held chunk room = stepping held chunk room
 
+-- what is lent again at the next call
 abbrev pub heldAfter : Stepping → Held
 heldAfter s = holds (s .stepped .trace) (s .table) (s .memory)
 

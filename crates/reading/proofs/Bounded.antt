@@ -91,6 +91,7 @@ module _ (rules : Rules) (events : List Event) (are : Bytes (offered events)) wh
 
 -- two header bytes: 257 and 258
 module _ (h1 h2 : ℕ) (checking : Bool) (events : List Event) (are : Bytes (offered events)) where
+  -- two header bytes, and the checking choice
   abbrev two : Rules
   two = record { header = h1 ∷ h2 ∷ []; checking = checking }
 

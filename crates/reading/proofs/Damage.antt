@@ -71,6 +71,7 @@ isAccepted wait = false
 isAccepted (bad body) = false
 isAccepted (accepted body) = true
 
+-- none of the places of the damage is, whatever has come behind it
 unfoldable pub noneAccepted : Rules → List ℕ → List ℕ → Bool
 noneAccepted rules [] come = true
 noneAccepted rules (x ∷ damage) come = not (isAccepted (look rules true (x ∷ (damage ++ come)))) && noneAccepted rules damage come

@@ -34,6 +34,7 @@ module _ (rules : Rules) (earlier : List Event) (idle : NothingHeldOrWaiting rul
 
 -- For any header, with checking on or off. `events` are the inputs offered and the reports asked for since, in any order, until none waits.
 module _ (rules : Rules) (earlier events : List Event) (idle : NothingHeldOrWaiting rules (run rules fresh earlier .kept)) where
+  -- what these events came to, behind the earlier ones
   abbrev since : Ran
   since = run rules (run rules fresh earlier .kept) events
 
@@ -56,6 +57,7 @@ module _ (rules : Rules) (earlier events : List Event) (idle : NothingHeldOrWait
 
 -- As demanded: two header bytes, whichever, equal ones included; checking on.
 module _ (h1 h2 : ℕ) (earlier events : List Event) (idle : NothingHeldOrWaiting (checked h1 h2) (run (checked h1 h2) fresh earlier .kept)) where
+  -- what these events came to, behind the earlier ones
   abbrev arrived : Ran
   arrived = run (checked h1 h2) (run (checked h1 h2) fresh earlier .kept) events
 

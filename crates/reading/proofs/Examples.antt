@@ -19,6 +19,7 @@ use Rattle.reading.proofs.Damage.{isAccepted, noneAccepted, tested-begi
 abbrev frame : List ℕ
 frame = 0x5A ∷ 0xA5 ∷ 0x05 ∷ 0x81 ∷ 0x00 ∷ 0x01 ∷ 0xE0 ∷ 0x28 ∷ []
 
+-- its report
 abbrev read-version : Report
 read-version = acceptedFrame 0x81 (0x00 ∷ 0x01 ∷ [])
 

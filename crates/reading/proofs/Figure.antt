@@ -18,6 +18,7 @@ use Rattle.reading.proofs.ByteLists.{allBytes, tested-bytes}
 use Rattle.reading.proofs.Course.{reports-stays}
 use Rattle.reading.proofs.Damage.{isAccepted, noneAccepted, tested-begins-none, open-accepts}
 
+-- the header FF FF, checking on
 abbrev pub rules : Rules
 rules = checked 0xFF 0xFF
 
@@ -32,9 +33,11 @@ nothing-yet come few =
 abbrev pub body : List ℕ
 body = 0x81 ∷ 0x00 ∷ 0x01 ∷ 0xE0 ∷ 0x28 ∷ []
 
+-- that frame
 abbrev pub frame : List ℕ
 frame = 0xFF ∷ 0xFF ∷ 0x05 ∷ body
 
+-- 32 of them, 256 bytes
 abbrev pub frames : List (List ℕ)
 frames = replicate 32 frame
 

@@ -68,6 +68,7 @@ run-append rules kept (ask ∷ these) later =
 
 -- from a new reader, for every list of events
 module _ (rules : Rules) (events : List Event) where
+  -- what the events came to
   abbrev ran : Ran
   ran = run rules fresh events
 

@@ -8,7 +8,7 @@ use Rattle.frame.specs.Frame.{contentOf, GoodFrame}
 use Rattle.reading.specs.Place.{Rules, Report, badCheck, acceptedFrame}
 use Rattle.reading.specs.Moves.{Kept, waiting}
 
--- a good frame, under the header and the choice that are set up
+-- "A good frame is a whole one with the header set up": under these rules
 abbrev pub Good : Rules → List ℕ → Type 0
 Good rules frame = GoodFrame (rules .checking) (rules .header) frame
 
@@ -22,7 +22,7 @@ unfoldable pub joined : List (List ℕ) → List ℕ
 joined [] = []
 joined (frame ∷ frames) = frame ++ joined frames
 
--- what has come of a good frame that has not come whole, perhaps nothing
+-- "good frames that had come whole": what has come of the one behind them that has not, perhaps nothing
 pub record Cut (rules : Rules) (tail : List ℕ) : Type 0 where
   pub frame : List ℕ
   pub good : Good rules frame
@@ -45,7 +45,7 @@ acceptedOf [] = []
 acceptedOf (badCheck command ∷ later) = acceptedOf later
 acceptedOf (acceptedFrame command content ∷ later) = acceptedFrame command content ∷ acceptedOf later
 
--- a frame's command and data, as they stand in its bytes
+-- "an accepted frame with its command and data", as they stand in its bytes
 unfoldable pub reportOfFrame : Rules → List ℕ → Report
 reportOfFrame rules frame =
     let body = drop (suc (length (rules .header))) frame in

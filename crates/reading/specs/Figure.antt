@@ -17,7 +17,8 @@ AcceptsOnce rules figure =
     → BeginsNone rules damage (joined frames ++ tail) → figure ≤ length (joined frames ++ tail)
     → acceptedOf (reports rules false (damage ++ (joined frames ++ tail))) ≡ map (reportOfFrame rules) frames
 
--- all that the sentence supposes, with so many bytes behind the damage; good frames have come whole, and none of them is accepted
+-- "no place in the damage begins a run of bytes", so many bytes "have followed the damage on a line still open", some of them good frames "that had come whole",
+-- and none of those is accepted
 pub record FallsShort (rules : Rules) (figure : ℕ) (damage : List ℕ) (frames : List (List ℕ)) (tail : List ℕ) : Type 0 where
   pub good : GoodFrames rules frames
   pub cut : Cut rules tail

@@ -6,12 +6,12 @@ use lib.Dec.{eqb, ltb}
 use lib.ListN.{length, getD, take, drop}
 use Rattle.frame.specs.Frame.{leastLength, contentOf, rightCheck}
 
--- what is fixed at setup: the header, a list so that it may have one byte or two, and whether checking is on
+-- "Two header bytes H1 H2, fixed at setup", a list here so that there may be one byte or two, and whether checking is on
 pub record Rules : Type 0 where
   pub header : List ℕ
   pub checking : Bool
 
--- what stands at a place. `body` is the L bytes behind the length byte.
+-- "At a place p": the four that can stand there. `body` is the L bytes behind the length byte.
 pub data Seen : Type 0 where
   pass : Seen
   wait : Seen
@@ -39,7 +39,7 @@ behind checking closed [] xs = afterHeader checking closed xs
 behind checking closed (h ∷ header) [] = cutShort closed
 behind checking closed (h ∷ header) (x ∷ xs) = cond (eqb x h) (behind checking closed header xs) pass
 
--- what stands at the first of these bytes, the rest of a stretch that is closed or open
+-- "At a place p": what stands at the first of these bytes, the rest of a stretch that is closed or open
 unfoldable pub look : Rules → Bool → List ℕ → Seen
 look rules closed xs = behind (rules .checking) closed (rules .header) xs
 
@@ -48,6 +48,7 @@ pub data Report : Type 0 where
   badCheck : (command : ℕ) → Report
   acceptedFrame : (command : ℕ) (content : List ℕ) → Report
 
+-- "nothing reported"; "report a bad check with the command byte"; "report an accepted frame with its command and data"
 unfoldable pub reportOf : Rules → Seen → List Report
 reportOf rules pass = []
 reportOf rules wait = []
@@ -61,6 +62,7 @@ goneBy rules wait = 0
 goneBy rules (bad body) = 0
 goneBy rules (accepted body) = length (rules .header) + length body
 
+-- "in an open stretch wait": whether a place does
 unfoldable pub isWait : Seen → Bool
 isWait pass = false
 isWait wait = true

@@ -18,9 +18,11 @@ pub record Ran : Type 0 where
   pub handedOver : List Report
   pub kept : Kept
 
+-- a run before which one input more was given
 abbrev pub giving : Input → Ran → Ran
 giving input ran = record { given = input ∷ ran .given; handedOver = ran .handedOver; kept = ran .kept }
 
+-- a run before which these reports were handed over
 abbrev pub handing : List Report → Ran → Ran
 handing these ran = record { given = ran .given; handedOver = these ++ ran .handedOver; kept = ran .kept }
 
@@ -29,6 +31,7 @@ abbrev pub followed : Ran → Ran → Ran
 followed first second =
     record { given = first .given ++ second .given; handedOver = first .handedOver ++ second .handedOver; kept = second .kept }
 
+-- "Bytes or marks are given one at a time": an input that is taken
 unfoldable pub withInput : Rules → Kept → Input → Kept
 withInput rules kept (byte b) = withByte rules kept b
 withInput rules kept mark = withMark rules kept
@@ -40,7 +43,7 @@ run rules kept (offer input ∷ events) =
     cond (waiting rules kept) (run rules kept events) (giving input (run rules (withInput rules kept input) events))
 run rules kept (ask ∷ events) = handing (handed rules kept) (run rules (afterReport rules kept) events)
 
--- a stretch that a mark has closed, or not, and the line behind it
+-- "A quiet mark .. closes a stretch.": the line behind one that a mark has closed, or not
 unfoldable pub closing : Bool → List Input → List Input
 closing true line = mark ∷ line
 closing false line = line
@@ -49,7 +52,7 @@ closing false line = line
 unfoldable pub readOn : Rules → Kept → List Input → List Report
 readOn rules kept line = lineFrom rules (kept .bytes) (closing (kept .closed) line)
 
--- what has come of the stretch that is open at the line's end, `stretch` being what had come of the first
+-- "The last stretch may be open.": what has come of it at the line's end, `stretch` being what had come of the first
 unfoldable pub openFrom : List ℕ → List Input → List ℕ
 openFrom stretch [] = stretch
 openFrom stretch (byte b ∷ line) = openFrom (stretch ++ (b ∷ [])) line
@@ -59,10 +62,11 @@ openFrom stretch (mark ∷ line) = openFrom [] line
 unfoldable pub heldOn : Rules → Kept → List Input → List ℕ
 heldOn rules kept line = heldOf rules (openFrom (kept .bytes) (closing (kept .closed) line))
 
+-- "the bytes from the waiting place on are held": of a line from its first byte on
 unfoldable pub lineHeld : Rules → List Input → List ℕ
 lineHeld rules line = heldOf rules (openFrom [] line)
 
--- reports asked for, n times
+-- "reports are then asked for one at a time", n times
 unfoldable pub asks : ℕ → List Event
 asks zero = []
 asks (suc n) = ask ∷ asks n

@@ -9,10 +9,11 @@ pub record Placed : Type 0 where
   pub place : ℕ
   pub report : Report
 
+-- builds one
 abbrev pub placedAt : ℕ → Report → Placed
 placedAt p report = record { place = p; report = report }
 
--- the reports from place p on, after n bytes that still belong to an accepted frame
+-- "At a place p": the reports from there on, after n bytes that still belong to an accepted frame
 unfoldable pub readFrom : Rules → Bool → (p n : ℕ) → List ℕ → List Placed
 readFrom rules closed p n [] = []
 readFrom rules closed p zero (x ∷ xs) =
@@ -20,11 +21,11 @@ readFrom rules closed p zero (x ∷ xs) =
     cond (isWait seen) [] (map (placedAt p) (reportOf rules seen) ++ readFrom rules closed (suc p) (goneBy rules seen) xs)
 readFrom rules closed p (suc n) (x ∷ xs) = readFrom rules closed (suc p) n xs
 
--- the reading of a stretch, each report with its place
+-- "Reading a stretch starts at its first byte.": each report with its place
 unfoldable pub reading : Rules → Bool → List ℕ → List Placed
 reading rules closed xs = readFrom rules closed 0 0 xs
 
--- the reports alone, after n bytes that still belong to an accepted frame
+-- "At a place p": the same without the places, after n bytes that still belong to an accepted frame
 unfoldable pub reportsFrom : Rules → Bool → ℕ → List ℕ → List Report
 reportsFrom rules closed n [] = []
 reportsFrom rules closed zero (x ∷ xs) =
@@ -32,10 +33,11 @@ reportsFrom rules closed zero (x ∷ xs) =
     cond (isWait seen) [] (reportOf rules seen ++ reportsFrom rules closed (goneBy rules seen) xs)
 reportsFrom rules closed (suc n) (x ∷ xs) = reportsFrom rules closed n xs
 
+-- "Reading a stretch starts at its first byte.": its reports
 unfoldable pub reports : Rules → Bool → List ℕ → List Report
 reports rules closed xs = reportsFrom rules closed 0 xs
 
--- "otherwise the bytes from the waiting place on are held"
+-- "otherwise the bytes from the waiting place on are held", after n bytes that still belong to an accepted frame
 unfoldable pub heldFrom : Rules → Bool → ℕ → List ℕ → List ℕ
 heldFrom rules closed n [] = []
 heldFrom rules closed zero (x ∷ xs) =
@@ -43,5 +45,6 @@ heldFrom rules closed zero (x ∷ xs) =
     cond (isWait seen) (x ∷ xs) (heldFrom rules closed (goneBy rules seen) xs)
 heldFrom rules closed (suc n) (x ∷ xs) = heldFrom rules closed n xs
 
+-- "in an open stretch wait": what is held of an open stretch, from its first byte on
 unfoldable pub heldOf : Rules → List ℕ → List ℕ
 heldOf rules xs = heldFrom rules false 0 xs

@@ -13,6 +13,7 @@ use Rattle.registers.specs.Table.{registerAt, registerRun}
 use Rattle.registers.specs.Run.{registersAfter}
 
 module _ (registers : Registers) (whole : length (registers .bytes) ≡ 256) (address : ℕ) (bytes : List ℕ) (fits : address + length bytes ≤ 256) where
+  -- the registers after a write
   abbrev after : Registers
   after = registersAfter registers address bytes
 

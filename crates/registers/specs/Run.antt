@@ -14,6 +14,7 @@ use Rattle.registers.specs.Table.{holding, writable}
 unfoldable pub covers : ℕ → ℕ → ℕ → Bool
 covers address n register = leb address register && ltb register (address + n)
 
+-- each register of the run may be written: it is not so that the write "touches an unwritable register"
 unfoldable pub allWritable : ℕ → ℕ → Bool
 allWritable address zero = true
 allWritable address (suc n) = writable address && allWritable (suc address) n
@@ -37,7 +38,7 @@ wrongValue address bytes pages =
     covers address n 0x01 && ltb 0x3F (byteFor address bytes 0x01)
     || covers address n 0x03 && leb pages (word (byteFor address bytes 0x03) (byteFor address bytes 0x04))
 
--- what a write that is done leaves of the registers: its bytes in its run; a run that passes the end, which is never done, leaves them
+-- "write registers": what a write that is done leaves, its bytes in its run; a run that passes the end, which is never done, leaves them
 unfoldable pub registersAfter : Registers → (address : ℕ) → (bytes : List ℕ) → Registers
 registersAfter registers address bytes =
     cond (leb (address + length bytes) registerCount) (holding (laidAt address bytes (registers .bytes))) registers

@@ -8,6 +8,7 @@ use Rattle.wire.specs.Room.{laidAt}
 use Rattle.wire.specs.Addresses.{registerCount}
 use Rattle.registers.specs.declared.Registers.{Registers}
 
+-- the registers that these bytes are
 abbrev pub holding : List ℕ → Registers
 holding bytes = record { bytes = bytes }
 
@@ -16,34 +17,35 @@ pub record Row : Type 0 where
   pub address : ℕ
   pub start : List ℕ
 
+-- builds one
 abbrev row : ℕ → List ℕ → Row
 row address start = record { address = address; start = start }
 
 -- the columns "Address" and "Start"
 unfoldable pub startRows : (h1 h2 : ℕ) → (checking acknowledging : Bool) → List Row
 startRows h1 h2 checking acknowledging =
-    -- version
+    -- "00 | version | 10"
     row 0x00 (0x10 ∷ [])
-    -- backlight
+    -- "01 | backlight, 00 to 3F | 3F"
     ∷ row 0x01 (0x3F ∷ [])
-    -- buzzer
+    -- "02 | buzzer, 10 ms units | 00"
     ∷ row 0x02 (0x00 ∷ [])
-    -- page
+    -- "03-04 | page, below P | 0000"
     ∷ row 0x03 (0x00 ∷ 0x00 ∷ [])
-    -- touch flag
+    -- "05 | touch flag | 00"
     ∷ row 0x05 (0x00 ∷ [])
-    -- touch status
+    -- "06 | touch status | 00"
     ∷ row 0x06 (0x00 ∷ [])
-    -- touch X, Y
+    -- "07-0A | touch X, Y | 0"
     ∷ row 0x07 (0x00 ∷ 0x00 ∷ 0x00 ∷ 0x00 ∷ [])
-    -- touch enable
+    -- "0B | touch enable, 00 is off | FF"
     ∷ row 0x0B (0xFF ∷ [])
-    -- "10 if checking, else 00"
+    -- "12 | 10 if checking, else 00"
     ∷ row 0x12 (cond checking 0x10 0x00 ∷ [])
-    -- H1, H2
+    -- "13, 1A | H1, H2"
     ∷ row 0x13 (h1 ∷ [])
     ∷ row 0x1A (h2 ∷ [])
-    -- "08 if acknowledging, else 00"
+    -- "1C | 08 if acknowledging, else 00"
     ∷ row 0x1C (cond acknowledging 0x08 0x00 ∷ [])
     ∷ []
 
@@ -56,11 +58,11 @@ withRows (r ∷ rows) bytes = withRows rows (laidAt (r .address) (r .start) byte
 unfoldable pub startRegisters : (h1 h2 : ℕ) → (checking acknowledging : Bool) → Registers
 startRegisters h1 h2 checking acknowledging = holding (withRows (startRows h1 h2 checking acknowledging) (replicate registerCount 0))
 
--- what a register reads
+-- "Registers are addressed by byte": what a register reads
 unfoldable pub registerAt : Registers → ℕ → ℕ
 registerAt registers address = getD (registers .bytes) address 0
 
--- a run of n registers from an address on
+-- "read registers": a run of n of them from an address on
 unfoldable pub registerRun : Registers → ℕ → ℕ → List ℕ
 registerRun registers address zero = []
 registerRun registers address (suc n) = registerAt registers address ∷ registerRun registers (suc address) n

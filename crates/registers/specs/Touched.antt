@@ -9,21 +9,23 @@ use Rattle.wire.specs.Room.{laidAt}
 use Rattle.registers.specs.declared.Registers.{Registers}
 use Rattle.registers.specs.Table.{holding, registerAt}
 
--- "03-04 page"
+-- "03-04 | page": the number that stands there
 unfoldable pub pageOf : Registers → ℕ
 pageOf registers = word (registerAt registers 0x03) (registerAt registers 0x04)
 
+-- "03-04 | page", set to this number, "both bytes together"
 unfoldable pub withPage : Registers → ℕ → Registers
 withPage registers page = holding (laidAt 0x03 (highFirst page) (registers .bytes))
 
--- "06 touch status": 01 and 03 while down, 02 once lifted, 00 before the first contact
+-- "06 | touch status": 01 and 03 while down, 02 once lifted, 00 before the first contact
 unfoldable pub isDown : Registers → Bool
 isDown registers = eqb (registerAt registers 0x06) 0x01 || eqb (registerAt registers 0x06) 0x03
 
+-- "06 | touch status", set to this byte
 unfoldable pub withStatus : Registers → ℕ → Registers
 withStatus registers status = holding (set (registers .bytes) 0x06 status)
 
--- "0B touch enable, 00 is off"
+-- "0B | touch enable, 00 is off"
 unfoldable pub isTouchOff : Registers → Bool
 isTouchOff registers = eqb (registerAt registers 0x0B) 0x00
 

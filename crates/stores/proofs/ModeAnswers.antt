@@ -8,7 +8,7 @@ use borrow.Author.Needs.{needs}
 use borrow.Author.Tests.{eq-eqb, ne-eqb}
 use Rattle.wire.specs.ByteOrder.{highByte, lowByte, word}
 use Rattle.stores.specs.Store.{inMode, signed, valueIn, placed}
-use Rattle.stores.specs.Raised.{raisedBy, whole}
+use Rattle.stores.specs.Inner.{raisedBy, whole}
 use Rattle.stores.proofs.Whole.{whole-over, whole-signed, whole-word, whole-le}
 
 -- what is picked at each mode

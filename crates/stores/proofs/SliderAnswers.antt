@@ -7,7 +7,7 @@ use lib.IntN.{ℤ}
 use mir.Syntax.{w64}
 use mir.Val.{Fits}
 use borrow.Author.Needs.{needs}
-use Rattle.stores.specs.Raised.{raisedBy, whole}
+use Rattle.stores.specs.Inner.{raisedBy, whole}
 use Rattle.stores.specs.Slider.{nearest, roundedDown, Fair, slidTo}
 use Rattle.stores.proofs.Slid.{near-before, near-behind, near-inside, near-le, share-le, rounded-down-fair, slid-rise, slid-fall}
 

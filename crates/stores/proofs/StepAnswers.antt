@@ -7,7 +7,7 @@ use lib.Dec.{leb}
 use lib.IntN.{ℤ}
 use borrow.Author.Needs.{needs}
 use borrow.Author.Tests.{lt-ltb, le-ltb}
-use Rattle.stores.specs.Raised.{whole}
+use Rattle.stores.specs.Inner.{whole}
 use Rattle.stores.specs.Step.{stepped, fenced}
 use Rattle.stores.proofs.Whole.{whole-add, whole-sub, whole-le, whole-lt}
 

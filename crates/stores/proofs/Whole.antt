@@ -8,7 +8,7 @@ use lib.IntN.{ℤ, pos, _+ℤ_, _-ℤ_}
 use lib.Signed.{leZ, ltZ}
 use borrow.Author.Tests.{ltb-true, ltb-false}
 use Rattle.stores.specs.Store.{signed, wordOf}
-use Rattle.stores.specs.Raised.{raisedBy, whole}
+use Rattle.stores.specs.Inner.{raisedBy, whole}
 use Rattle.stores.proofs.Differences.{Side, under, over, side, sub-below, sub-above, sub-le, sub-lt, sub-add, sub-sub}
 
 pub whole-le : (a b : ℕ) → leZ (whole a) (whole b) ≡ leb a b

@@ -1,4 +1,4 @@
 pub mod Store
 pub mod Step
 pub mod Slider
-pub mod Raised
+pub mod Inner

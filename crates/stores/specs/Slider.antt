@@ -31,7 +31,8 @@ slid rounding begin end d w =
 unfoldable pub slidTo : (rounding : ℕ → ℕ → ℕ) → (begin end : ℤ) → (first last at : ℕ) → ℤ
 slidTo rounding begin end first last at = slid rounding begin end (nearest first last at - first) (last - first)
 
--- the word after a slider acted on it, the point at a place along the axis, for any rounding
+-- "Begin and end are signed, or 0 to 255 in byte modes."; "in all byte modes the other byte stays": the word after a slider acted on it, the point at a place
+-- along the axis, for any rounding
 unfoldable pub sliderStores : (rounding : ℕ → ℕ → ℕ) → (mode old begin end first last at : ℕ) → ℕ
 sliderStores rounding mode old begin end first last at =
     placed mode old (wordOf (slidTo rounding (signed begin) (signed end) first last at))

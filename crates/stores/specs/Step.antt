@@ -16,7 +16,7 @@ fenced up round least greatest t =
     cond (leZ least t && leZ t greatest) t
     (cond round (cond up least greatest) (cond (ltZ t least) least greatest))
 
--- the word after a step acted on it
+-- "Words are signed; bytes are 0 to 255 and so are their two ends."; "in all byte modes the other byte stays": the word after a step acted on it
 unfoldable pub stepStores : (mode old : ℕ) → (up round : Bool) → (step least greatest : ℕ) → ℕ
 stepStores mode old up round step least greatest =
     placed mode old (wordOf (fenced up round (signed least) (signed greatest) (stepped up (valueIn mode old) step)))

@@ -13,7 +13,7 @@ inMode mode whole high low = cond (eqb mode 0) whole (cond (eqb mode 1) high low
 unfoldable pub signed : ℕ → ℤ
 signed w = cond (ltb w 32768) (pos w) (negsuc (65535 - w))
 
--- the word that holds a whole number, of which only the last 16 bits count
+-- "Words are signed": the word that holds a whole number, of which only the last 16 bits count
 unfoldable pub wordOf : ℤ → ℕ
 wordOf (pos n) = n % 65536
 wordOf (negsuc n) = 65535 - n % 65536

@@ -3,7 +3,7 @@ ghost use mathlib.Core.Path.{_≡_};
 ghost use Prim.Native.Nat.{_-_, _≤_, _<_};
 ghost use lib.Signed.{leZ};
 ghost use Rattle.stores.specs.Store.{signed, wordOf, valueIn, placed, keyStores};
-ghost use Rattle.stores.specs.Raised.{whole};
+ghost use Rattle.stores.specs.Inner.{whole};
 ghost use Rattle.stores.specs.Step.{stepped, fenced, stepStores};
 ghost use Rattle.stores.specs.Slider.{nearest, roundedDown, slidTo, sliderStores};
 

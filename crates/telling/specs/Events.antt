@@ -22,16 +22,17 @@ use Rattle.telling.specs.Memory.{Memory, lentFrom, memoryOf}
 unfoldable pub touchText : ℕ → List ℕ
 touchText number = lineText (line.Touch number)
 
--- a contact is lent no room
+-- "`T r` contact or lift": a contact and its line; it is lent no room
 unfoldable pub contactTold : Panel → Contact → Memory → Told
 contactTold panel c memory =
     let done = contacting panel c (lentFrom memory []) in
     tells (done .contacted .panel) (memoryOf (done .lent)) (touchText (contactNumber (done .contacted .answer)))
 
+-- "`T r` contact or lift": a lift and its line
 unfoldable pub liftTold : Panel → Memory → Told
 liftTold panel memory = tells (lifting panel .panel) memory (touchText (liftNumber (lifting panel .answer)))
 
--- an item is its kind with its body behind it; the longest is a touch record
+-- "one byte of kind, then a body whose length the kind fixes": the longest such item is a touch record's
 abbrev pub itemBytes : ℕ
 itemBytes = recordBytes + 1
 
@@ -44,11 +45,11 @@ event panel table memory item =
     (cond (eqb kind 3) (contactTold panel (contactAt table (wordAt item 1) (wordAt item 3)) memory)
     (liftTold panel memory)))
 
--- the reply room of a report
+-- "Reply room is at least 265 bytes": the room that the program lends for a report
 unfoldable pub replyRoom : List ℕ
 replyRoom = replicate leastRoom 0
 
--- one report asked for
+-- "Reports are asked for ..": one of them, and its lines
 unfoldable pub askedOnce : Panel → Memory → Told
 askedOnce panel memory =
     let r = reporting panel (lentFrom memory replyRoom) in

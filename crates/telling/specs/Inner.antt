@@ -1,4 +1,4 @@
--- What private functions of the code write and how much of it, for their contracts; no rule of 01 stands here.
+-- No public promise cites this file: what private functions of the code write and how much of it, for their contracts; no rule of 01 stands here.
 use Prim.Native.Nat.{ℕ, _+_, _*_}
 use mathlib.Core.List.{List}
 use lib.ListN.{length}

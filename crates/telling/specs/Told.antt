@@ -15,19 +15,23 @@ pub record Told : Type 0 where
   pub memory : Memory
   pub text : List ℕ
 
+-- builds one
 abbrev pub tells : Panel → Memory → List ℕ → Told
 tells panel memory text = record { panel = panel; memory = memory; text = text }
 
 -- ---- Text laid over the room that is lent for it
 
+-- the answer of a call that prints: the panel with the text's length, the memory, and the room as they are left
 pub record PanelLeft : Type 0 where
   pub printed : PanelPrinted
   pub memory : Memory
   pub room : List ℕ
 
+-- builds one
 abbrev pub leavesPanel : PanelPrinted → Memory → List ℕ → PanelLeft
 leavesPanel printed memory room = record { printed = printed; memory = memory; room = room }
 
+-- what is told, with its text over the front of the room
 abbrev pub panelPrinting : Told → List ℕ → PanelLeft
 panelPrinting told room =
     leavesPanel (record { panel = told .panel; count = length (told .text) }) (told .memory) (over (told .text) room)

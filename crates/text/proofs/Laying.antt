@@ -51,6 +51,7 @@ module _ (head room : List ℕ) (number m : ℕ) (is-m : m ≡ length (decimal n
 
 -- each line of the trace, from what its arm has laid
 module _ (line : Line) (room left : List ℕ) (count : ℕ) where
+  -- the count and the room are those of laying this text
   abbrev Lays : List ℕ → Type 0
   Lays text = lays count left ≡ laid (leb (length text) (length room)) text room
 
@@ -141,6 +142,7 @@ no-frame [] room is = rw (le-leb 0 (length room) (omega arith))
 no-frame (b ∷ frame) room is = absurd (omega arith)
 
 module _ (frame room : List ℕ) (some : length frame ≡ 0 → ⊥) where
+  -- the line of this frame
   abbrev text : List ℕ
   text = writtenText frame
 

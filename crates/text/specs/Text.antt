@@ -7,9 +7,11 @@ use Rattle.wire.specs.ByteOrder.{highByte, lowByte}
 use Rattle.text.specs.declared.Line.{Line}
 use Rattle.text.specs.declared.Line.the-variants.{Frame, BadCheck, Touch, End, Failed, WrongRecord}
 
+-- "frame bytes spaced": what stands between the parts of a line
 abbrev pub blank : ℕ
 blank = 32
 
+-- "Lines end in a line feed"
 abbrev pub lineFeed : ℕ
 lineFeed = 10
 
@@ -17,11 +19,11 @@ lineFeed = 10
 unfoldable pub hexDigit : ℕ → ℕ
 hexDigit n = cond (ltb n 10) (48 + n) (55 + n)
 
--- a byte as two digits
+-- "hex is capital": a byte as two digits
 unfoldable pub hexByte : ℕ → List ℕ
 hexByte b = hexDigit (b / 16) ∷ hexDigit (b % 16) ∷ []
 
--- a digit of a decimal number
+-- "numbers are decimal": the digit of a number below 10
 abbrev pub decimalDigit : ℕ → ℕ
 decimalDigit n = 48 + n
 
@@ -41,6 +43,7 @@ spaced (b ∷ bytes) = blank ∷ (hexByte b ++ spaced bytes)
 unfoldable pub lined : ℕ → List ℕ → List ℕ
 lined letter rest = letter ∷ (rest ++ (lineFeed ∷ []))
 
+-- "Lines: `F cc r` ..; `B cc` ..; `T r` ..; .. `E pppp` ..; `X n` ..": each of them but O
 unfoldable pub lineText : Line → List ℕ
 -- "`F cc r` accepted command and number"
 lineText (Frame command number) = lined 70 (blank ∷ (hexByte command ++ (blank ∷ decimal number)))

@@ -70,52 +70,59 @@ goodRecord s r =
     && ltb (r .word) wordCount
     && goodKind r (r .kind)
 
--- "13 a record is wrong; the first wrong one is named"
+-- "A field outside what is printed makes the record wrong."
 unfoldable pub wrong : Setup → Record → Bool
 wrong s r = not (goodRecord s r)
 
+-- "the first wrong one is named": the verdict on what was found among the wrong ones
 abbrev pub namedWrong : Found → Verdict
 namedWrong Nothing = Good
 namedWrong (At i r) = Wrong i
 
+-- "13: a record is wrong; the first wrong one is named"
 abbrev pub firstWrong : Setup → List Record → Verdict
 firstWrong s rs = namedWrong (firstOf (wrong s) 0 rs)
 
--- "12 table longer than 128 records or not whole records": judged on the length alone
+-- "12: table longer than 128 records or not whole records": judged on the length alone
 abbrev pub notRecords : List ℕ → Bool
 notRecords table = ltb (mostRecords * recordBytes) (length table) || not (eqb (length table % recordBytes) 0)
 
--- of the two numbers, 12 is given first
+-- "judged again by 12 and 13": of the two numbers, 12 is given first
 unfoldable pub judged : Setup → List ℕ → Verdict
 judged s table = cond (notRecords table) NotRecords (firstWrong s (recordsOf table))
 
--- 01, "Numbers given back": the number of each verdict, and what is named beside it
+-- "0: done", "12: table longer than 128 records or not whole records", "13: a record is wrong; ..": the number of each verdict
 abbrev pub numberOfVerdict : Verdict → ℕ
 numberOfVerdict Good = 0
 numberOfVerdict NotRecords = 12
 numberOfVerdict (Wrong i) = 13
 
+-- "the first wrong one is named": what is named beside the number
 abbrev pub namedByVerdict : Verdict → List ℕ
 namedByVerdict Good = []
 namedByVerdict NotRecords = []
 namedByVerdict (Wrong i) = i ∷ []
 
+-- "a definition gives this paper's number and values for each of its cases"
 unfoldable pub verdictSaid : Verdict → Said
 verdictSaid verdict = says (numberOfVerdict verdict) (namedByVerdict verdict)
 
--- the list by which a table is judged: "12 table longer than 128 records or not whole records", "13 a record is wrong; the first wrong one is named"
+-- whether there is a first one
 abbrev pub isFound : Found → Bool
 isFound Nothing = false
 isFound (At i r) = true
 
+-- "the first wrong one is named": its number
 abbrev pub numberFound : Found → List ℕ
 numberFound Nothing = []
 numberFound (At i r) = i ∷ []
 
+-- the list by which a table is judged: "12: table longer than 128 records or not whole records", "13: a record is wrong; the first wrong one is named"
 unfoldable pub tableListed : Setup → List ℕ → List Listed
 tableListed s table =
     let first = firstOf (wrong s) 0 (recordsOf table) in
     (says 12 [] when notRecords table) ∷ (says 13 (numberFound first) when isFound first) ∷ []
 
+-- "The first number in order whose condition holds is given", "0: done" where none does: of a table
 abbrev pub tableSaid : Setup → List ℕ → Said
 tableSaid s table = firstSaid (tableListed s table) (says 0 [])

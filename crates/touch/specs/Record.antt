@@ -90,9 +90,10 @@ digitMode mode = mode / 16
 abbrev pub along : (mode across down : ℕ) → ℕ
 along mode across down = cond (eqb (mode % 16) 0) across down
 
--- "the first edge" along the axis, and the last
+-- "the first edge" along the axis
 abbrev pub firstEdge : ℕ → Area → ℕ
 firstEdge mode a = along mode (a .xs) (a .ys)
 
+-- the other edge along it, for "the edge-to-edge distance"
 abbrev pub lastEdge : ℕ → Area → ℕ
 lastEdge mode a = along mode (a .xe) (a .ye)

@@ -26,12 +26,14 @@ goodSetup s =
     && leb 1 (s .width) && leb (s .width) 1024
     && leb 1 (s .height) && leb (s .height) 768
 
--- 01, "Numbers given back": what is said of a setup that is good or not, and by which list: "11 setup wrong"
+-- "0: done", "11: setup wrong": the number of a setup that is good or not
 abbrev pub numberOfSetup : (good : Bool) → ℕ
 numberOfSetup good = cond good 0 11
 
+-- the list by which a setup is judged: "11: setup wrong"
 unfoldable pub setupListed : Setup → List Listed
 setupListed s = (says 11 [] when not (goodSetup s)) ∷ []
 
+-- "The first number in order whose condition holds is given", "0: done" where none does: of a setup
 abbrev pub setupSaid : Setup → Said
 setupSaid s = firstSaid (setupListed s) (says 0 [])

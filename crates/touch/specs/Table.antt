@@ -9,14 +9,15 @@ use Rattle.touch.specs.declared.Found.{Found}
 use Rattle.touch.specs.declared.Found.the-variants.{Nothing, At}
 use Rattle.touch.specs.Record.{recordOf}
 
--- "The table has up to 128 records of 32 bytes"
+-- "The table has up to 128 records"
 abbrev pub mostRecords : ℕ
 mostRecords = 128
 
+-- "records of 32 bytes"
 abbrev pub recordBytes : ℕ
 recordBytes = 32
 
--- the record with this number, from 0
+-- the record with this number, "the record's number from 0"
 abbrev pub recordAt : List ℕ → ℕ → Record
 recordAt table i = recordOf (take recordBytes (drop (i * recordBytes) table))
 
@@ -24,6 +25,7 @@ recordAt table i = recordOf (take recordBytes (drop (i * recordBytes) table))
 abbrev pub endPage : ℕ
 endPage = 0xFFFF
 
+-- "A record with page FFFF ends it": whether a record does
 abbrev pub ends : Record → Bool
 ends r = eqb (r .page) endPage
 
@@ -33,7 +35,7 @@ recordsFrom table i zero = []
 recordsFrom table i (suc n) =
     cond (ends (recordAt table i)) [] (recordAt table i ∷ recordsFrom table (i + 1) n)
 
--- the records of a table up to its end; bytes behind the last whole record are none
+-- "A record with page FFFF ends it; later bytes are ignored.": the records of a table up to its end; bytes behind the last whole record are none
 abbrev pub recordsOf : List ℕ → List Record
 recordsOf table = recordsFrom table 0 (length table / recordBytes)
 

@@ -27,27 +27,29 @@ eventAnswered start.WrongSetup panel held item = fails held (refusalText start.W
 eventAnswered start.NotRecords panel held item = fails held (refusalText start.NotRecords)
 eventAnswered (start.WrongRecord i) panel held item = fails held (refusalText (start.WrongRecord i))
 
+-- "Start is made at the first whole event": an event that has come whole
 unfoldable pub eventDone : Held → List ℕ → Shown
 eventDone held item =
     let begun = startedBy (held .trace) (metTable held) in
     eventAnswered (begun .answer) (begun .panel) held item
 
--- a setup that has come whole, and a record
+-- "00 setup": one that has come whole
 abbrev pub metSetup : Held → List ℕ → Held
 metSetup held item = withTrace held (withSetup (held .trace) (setupIn item))
 
+-- "05 touch record": one that has come whole
 abbrev pub metRecord : Held → List ℕ → Held
 metRecord held item =
     let records = held .trace .records in
     holds (withRecords (held .trace) (recordCounted records)) (recordPut records item (held .table)) (held .memory)
 
--- a whole item: setup, record or event
+-- "00 setup ..; 05 touch record": a whole item is one of these, or else an event
 unfoldable pub itemDone : Held → List ℕ → Shown
 itemDone held item =
     cond (eqb (byteAt item 0) 0) (shows (metSetup held item) [])
     (cond (eqb (byteAt item 0) 5) (shows (metRecord held item) []) (eventDone held item))
 
--- one byte more of an item: one that is whole with it is done
+-- "one byte of kind, then a body whose length the kind fixes": one byte more of an item; one that is whole with it is done
 unfoldable pub grown : Held → ℕ → Shown
 grown held b =
     let trace = held .trace in
@@ -55,13 +57,13 @@ grown held b =
     cond (leb (bodyLength (byteAt item 0)) (trace .have)) (itemDone (withTrace held (idle trace)) item)
     (shows (withTrace held (gathering trace item (trace .have + 1))) [])
 
--- one byte of the input: after an X it is nothing; a kind that may not come is 15 at once
+-- one byte of the input: after an X it is nothing, "the program stops"; a kind that may not come is 15 at once, "15 met before that comes first"
 unfoldable pub tookByte : Held → ℕ → Shown
 tookByte held b =
     let trace = held .trace in
     cond (isOver (trace .stage)) (shows held [])
     (cond (eqb (trace .have) 0 && not (mayCome (trace .stage) b)) (fails held wrongText) (grown held b))
 
--- one report of the panel that is asked for
+-- "Reports are asked for ..": one of them
 abbrev pub reportShown : Held → Shown
 reportShown held = showsTold held (askedOnce (held .trace .panel) (held .memory))

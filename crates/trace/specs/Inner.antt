@@ -1,4 +1,4 @@
--- What private functions of the code leave, for their contracts; no rule of 01 stands here. Text is laid over the room that is lent for it.
+-- No public promise cites this file: what private functions of the code leave, for their contracts. Text is laid over the room that is lent for it.
 use Prim.Native.Nat.{ℕ}
 use mathlib.Core.List.{List}
 use lib.ListN.{length}

@@ -39,5 +39,6 @@ setupIn item =
 unfoldable pub recordPut : ℕ → List ℕ → List ℕ → List ℕ
 recordPut records item table = cond (ltb records keptRecords) (laidAt (records * recordBytes) (drop 1 item) table) table
 
+-- how many records have been met, as far as they are kept
 unfoldable pub recordCounted : ℕ → ℕ
 recordCounted records = cond (ltb records keptRecords) (records + 1) records

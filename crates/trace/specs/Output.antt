@@ -37,18 +37,20 @@ endAnswered start.WrongSetup panel = refusalText start.WrongSetup
 endAnswered start.NotRecords panel = refusalText start.NotRecords
 endAnswered (start.WrongRecord i) panel = refusalText (start.WrongRecord i)
 
+-- "Start is made at the first whole event or, without one, at the end of input": the end of an input that may end there
 unfoldable pub endStarted : Trace → List ℕ → List ℕ
 endStarted trace table =
     let begun = startedBy trace (tableOf (trace .records) table) in
     endAnswered (begun .answer) (begun .panel)
 
--- "else 15, as for a cut record, .. or no setup"
+-- "else 15, as for .. no setup"; and nothing where the program has stopped
 unfoldable pub endAt : Stage → Trace → List ℕ → List ℕ
 endAt Bare trace table = wrongText
 endAt Ready trace table = endStarted trace table
 endAt Started trace table = endStarted trace table
 endAt Over trace table = []
 
+-- "else 15, as for a cut record": what the end of the input prints
 unfoldable pub endText : Trace → List ℕ → List ℕ
 endText trace table = cond (eqb (trace .have) 0) (endAt (trace .stage) trace table) wrongText
 
@@ -57,16 +59,19 @@ pub record Ending : Type 0 where
   pub ended : Ended
   pub room : List ℕ
 
+-- builds one
 abbrev pub ends : Ended → List ℕ → Ending
 ends ended room = record { ended = ended; room = room }
 
+-- the end of the input, its text over the front of the room; with too little lent nothing is done
 unfoldable pub ending : Trace → List ℕ → List ℕ → Ending
 ending trace table room =
     let text = endText trace table in
     cond (leb tableBytes (length table) && leb leastText (length room)) (ends (record { answer = Done; count = length text }) (over text room))
     (ends (record { answer = NotLent; count = 0 }) room)
 
--- after each byte the reports; at the end the last line; nothing after an X
+-- "Reports are asked for after each event until 'nothing'."; "at the end `E pppp` the page": the text for what is left of the input. They are asked for after
+-- each byte: where no event ends with it, none waits
 unfoldable pub inputText : Held → List ℕ → List ℕ
 inputText held [] = endText (held .trace) (held .table)
 inputText held (b ∷ input) =
@@ -74,9 +79,10 @@ inputText held (b ∷ input) =
     let all = allReports longestFrame (one .held) in
     one .text ++ (all .text ++ inputText (all .held) input)
 
--- nothing met yet, and the memory of a new panel
+-- "The words begin as 0.": nothing met yet, and the memory of a new panel
 unfoldable pub newHeld : Held
 newHeld = holds newTrace (replicate tableBytes 0) newMemory
 
+-- "The panel program reads standard input": all that is printed for one
 unfoldable pub traceOutput : List ℕ → List ℕ
 traceOutput input = inputText newHeld input

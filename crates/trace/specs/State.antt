@@ -23,6 +23,7 @@ pub record Held : Type 0 where
   pub table : List ℕ
   pub memory : Memory
 
+-- builds one
 abbrev pub holds : Trace → List ℕ → Memory → Held
 holds trace table memory = record { trace = trace; table = table; memory = memory }
 
@@ -31,6 +32,7 @@ pub record Shown : Type 0 where
   pub held : Held
   pub text : List ℕ
 
+-- builds one
 abbrev pub shows : Held → List ℕ → Shown
 shows held text = record { held = held; text = text }
 
@@ -46,6 +48,7 @@ noItem = replicate itemBytes 0
 abbrev pub keptRecords : ℕ
 keptRecords = mostRecords + 1
 
+-- how long the table is that is lent to a trace
 abbrev pub tableBytes : ℕ
 tableBytes = keptRecords * recordBytes
 
@@ -53,6 +56,7 @@ tableBytes = keptRecords * recordBytes
 unfoldable pub tableOf : ℕ → List ℕ → List ℕ
 tableOf records table = take (min records keptRecords * recordBytes) table
 
+-- a trace that has met nothing yet
 unfoldable pub newTrace : Trace
 newTrace =
     record {
@@ -66,21 +70,26 @@ newTrace =
 
 -- ---- The trace with one thing changed
 
+-- so much of an item has come
 abbrev pub gathering : Trace → List ℕ → ℕ → Trace
 gathering trace item have =
     record { stage = trace .stage; item = item; have = have; setup = trace .setup; records = trace .records; panel = trace .panel }
 
+-- between two items
 abbrev pub idle : Trace → Trace
 idle trace = gathering trace noItem 0
 
+-- a setup has come
 abbrev pub withSetup : Trace → Setup → Trace
 withSetup trace setup =
     record { stage = Ready; item = trace .item; have = trace .have; setup = setup; records = trace .records; panel = trace .panel }
 
+-- so many records have come
 abbrev pub withRecords : Trace → ℕ → Trace
 withRecords trace records =
     record { stage = trace .stage; item = trace .item; have = trace .have; setup = trace .setup; records = records; panel = trace .panel }
 
+-- the panel is started, and stands so
 abbrev pub withPanel : Trace → Panel → Trace
 withPanel trace panel =
     record { stage = Started; item = trace .item; have = trace .have; setup = trace .setup; records = trace .records; panel = panel }
@@ -92,11 +101,11 @@ stopped trace =
 
 -- ---- What is held with the trace changed
 
--- and nothing else
+-- what is held, with another trace
 abbrev pub withTrace : Held → Trace → Held
 withTrace held trace = holds trace (held .table) (held .memory)
 
--- as what is told of the panel leaves it, and its text
+-- what is held as a panel's event or report leaves it, and its text
 abbrev pub showsTold : Held → Told → Shown
 showsTold held told = shows (holds (withPanel (held .trace) (told .panel)) (held .table) (told .memory)) (told .text)
 
@@ -106,16 +115,18 @@ fails held text = shows (withTrace held (stopped (held .trace))) text
 
 -- ---- What is asked of a trace
 
--- a report waits
+-- "a report waits"
 abbrev pub waits : Trace → Bool
 waits trace = busy (trace .panel .reader)
 
+-- "Start is made": whether it has been
 unfoldable pub isStarted : Stage → Bool
 isStarted Bare = false
 isStarted Ready = false
 isStarted Started = true
 isStarted Over = false
 
+-- "and the program stops": whether it has
 unfoldable pub isOver : Stage → Bool
 isOver Bare = false
 isOver Ready = false
@@ -130,5 +141,6 @@ metTable held = tableOf (held .trace .records) (held .table)
 unfoldable pub lentTo : (table words text : ℕ) → Bool
 lentTo table words text = leb tableBytes table && eqb words wordCount && leb leastText text
 
+-- whether what is lent is enough
 abbrev pub isLent : Held → List ℕ → Bool
 isLent held room = lentTo (length (held .table)) (length (held .memory .words)) (length room)

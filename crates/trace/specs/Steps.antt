@@ -15,12 +15,12 @@ use Rattle.trace.specs.declared.Took.{Took}
 use Rattle.trace.specs.State.{Held, Shown, shows, withPanel, withTrace, waits, isStarted, isLent}
 use Rattle.trace.specs.Events.{tookByte, reportShown}
 
--- 01's number of each answer
+-- "0: done"; "14: words lent aren't 28,672", and the same number where the table or the room for text is too small, of which 01 does not speak
 unfoldable pub numberOfStep : Answer → ℕ
 numberOfStep Done = 0
 numberOfStep NotLent = 14
 
--- the line bytes of the whole items of kind 01 at the front, at most so many
+-- "01 a line byte": the bytes of the whole items of this kind at the front, at most so many
 unfoldable pub lineRun : ℕ → List ℕ → List ℕ
 lineRun zero input = []
 lineRun (suc n) [] = []
@@ -32,6 +32,7 @@ pub record Step : Type 0 where
   pub used : ℕ
   pub shown : Shown
 
+-- builds one
 abbrev pub takes : ℕ → Shown → Step
 takes used shown = record { used = used; shown = shown }
 
@@ -41,6 +42,7 @@ ranBytes trace bytes =
     let fed = fedBytes (trace .panel) bytes in
     record { trace = withPanel trace (fed .panel); used = fed .used * 2; count = 0 }
 
+-- the first byte of the input, if there is one
 unfoldable pub tookOne : Held → List ℕ → Step
 tookOne held [] = takes 0 (shows held [])
 tookOne held (b ∷ input) = takes 1 (tookByte held b)
@@ -49,6 +51,7 @@ tookOne held (b ∷ input) = takes 1 (tookByte held b)
 abbrev pub longestRun : ℕ
 longestRun = 256
 
+-- a run of line bytes, if there is one, else one byte
 unfoldable pub tookLines : Held → List ℕ → Step
 tookLines held input =
     let bytes = lineRun longestRun input in
@@ -70,9 +73,11 @@ pub record Stepping : Type 0 where
   pub memory : Memory
   pub room : List ℕ
 
+-- builds one
 abbrev pub steps : Stepped → List ℕ → Memory → List ℕ → Stepping
 steps stepped table memory room = record { stepped = stepped; table = table; memory = memory; room = room }
 
+-- what a step leaves, with its text over the front of the room
 abbrev pub stepDone : Step → List ℕ → Stepping
 stepDone s room =
     let shown = s .shown in

@@ -1,4 +1,4 @@
--- What "one answer fits" says of a contract: whatever two results, and two sets of lent things as they are left, meet it on the same
+-- What "no second answer would fit" says of a contract: whatever two results, and two sets of lent things as they are left, meet it on the same
 -- arguments, they are equal. `Post` is the contract as it is generated from the source, so nothing is said here of a copy.
 use mathlib.Core.Path.{_≡_}
 use mathlib.Core.List.{List}

@@ -3,9 +3,11 @@ use Prim.Native.Nat.{ℕ, _+_, _*_, _/_, _%_}
 use mathlib.Core.List.{List, [], _∷_}
 use lib.ListN.{getD}
 
+-- of a number of two bytes, the byte that counts its 256s
 abbrev pub highByte : ℕ → ℕ
 highByte w = w / 256
 
+-- and the byte of what is left
 abbrev pub lowByte : ℕ → ℕ
 lowByte w = w % 256
 
@@ -25,6 +27,6 @@ word high low = high * 256 + low
 abbrev pub byteAt : List ℕ → ℕ → ℕ
 byteAt bytes at = getD bytes at 0
 
--- the number that stands high byte first at a place
+-- "Multi-byte data goes high byte first.": the number that stands so at a place
 abbrev pub wordAt : List ℕ → ℕ → ℕ
 wordAt bytes at = word (byteAt bytes at) (byteAt bytes (at + 1))

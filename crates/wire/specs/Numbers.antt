@@ -9,6 +9,7 @@ pub record Said : Type 0 where
   -- what is named beside the number
   pub values : List ℕ
 
+-- builds one
 abbrev pub says : (number : ℕ) → (values : List ℕ) → Said
 says number values = record { number = number; values = values }
 
@@ -17,6 +18,7 @@ pub record Listed : Type 0 where
   pub said : Said
   pub holds : Bool
 
+-- builds one: this is said where that holds
 infix 20 _when_
 abbrev pub _when_ : Said → Bool → Listed
 said when holds = record { said = said; holds = holds }

@@ -4,7 +4,7 @@ use mathlib.Core.Bool.{Bool, cond}
 use mathlib.Core.List.{List, _++_}
 use lib.ListN.{length, take, drop}
 
--- the room with these bytes over its front, and what lies past them as it stood
+-- "bytes past the reported count stay": the room with these bytes over its front, and what lies past them as it stood
 unfoldable pub over : List ℕ → List ℕ → List ℕ
 over bytes room = bytes ++ drop (length bytes) room
 
@@ -17,6 +17,7 @@ pub record Laid : Type 0 where
   pub count : ℕ
   pub room : List ℕ
 
+-- builds one
 abbrev pub lays : ℕ → List ℕ → Laid
 lays count room = record { count = count; room = room }
 

@@ -7,10 +7,11 @@ use lib.ListN.{length, getD, set, take, drop}
 use Rattle.wire.specs.ByteOrder.{word, highByte, lowByte}
 use Rattle.wire.specs.Room.{laidAt, Laid, laid}
 
--- one word, and the words with one of them set; an address past the end has none
+-- "Registers are addressed by byte, variables by word": one word; past the end there is none, and 0 is read
 unfoldable pub wordAtAddress : List ℕ → ℕ → ℕ
 wordAtAddress words address = getD words address 0
 
+-- the words with one of them set; past the end there is none
 unfoldable pub wordSet : List ℕ → ℕ → ℕ → List ℕ
 wordSet words address word = set words address word
 
@@ -20,16 +21,16 @@ wordsOf [] = []
 wordsOf (high ∷ []) = []
 wordsOf (high ∷ low ∷ bytes) = word high low ∷ wordsOf bytes
 
--- the bytes that carry these words
+-- "Multi-byte data goes high byte first": the bytes that carry these words
 unfoldable pub bytesOf : List ℕ → List ℕ
 bytesOf [] = []
 bytesOf (w ∷ words) = highByte w ∷ lowByte w ∷ bytesOf words
 
--- a run of words
+-- "read variables": a run of n words from an address on
 unfoldable pub wordRun : List ℕ → ℕ → ℕ → List ℕ
 wordRun words address n = take n (drop address words)
 
--- the words with those that the bytes carry from an address on; a run that passes the end leaves them
+-- "write variables": the words with those that the bytes carry from an address on; a run that passes the end leaves them
 unfoldable pub wordsWritten : List ℕ → ℕ → List ℕ → List ℕ
 wordsWritten words address bytes =
     cond (leb (address + length (wordsOf bytes)) (length words)) (laidAt address (wordsOf bytes) words) words
