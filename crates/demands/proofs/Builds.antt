@@ -1,12 +1,10 @@
 -- Our build keeps demands 2 and 3 as specs/Builds says them of any build.
-use mathlib.Core.Path.{_≡_, refl, sym, ap, _∙_}
+use mathlib.Core.Path.{_≡_, refl, ap, _∙_}
 use mathlib.Core.List.{List, [], _∷_, _++_}
-use Prim.Native.Nat.{ℕ}
 use Rattle.frame.specs.Frame.{headerBytes}
 use Rattle.reading.specs.Place.{Report, badCheck, acceptedFrame}
 use Rattle.reading.specs.Demand3.{acceptedOf}
 use Rattle.demands.specs.Calls.{Call, ask, afterAll, handedOverAll, AllTyped, Arises}
-use Rattle.demands.specs.Demand2.{DoesCommands}
 use Rattle.demands.specs.Builds.{Start, first, since, ours, AcceptsThen, AcceptsGoodFrames, DoesEachCommand}
 use Rattle.demands.proofs.Calls.{after-then, handed-then, sequence-arises}
 use Rattle.demands.proofs.Demand2.{does-commands}

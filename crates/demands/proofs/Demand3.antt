@@ -21,7 +21,7 @@ use Rattle.panel.specs.Start.{newPanel}
 use Rattle.panel.specs.Sound.{lineOf}
 use Rattle.panel.specs.Reachable.{by-start}
 use Rattle.panel.proofs.Invariant.{reachable-sound}
-use Rattle.demands.specs.Calls.{Moment, begun, afterAll, handedOverAll}
+use Rattle.demands.specs.Calls.{Moment, begun, afterAll}
 use Rattle.demands.specs.Reports.{reportWaits, rulesOf}
 use Rattle.demands.specs.Demand3.{Ready, OnAnOpenLine, BehindAMark, AfterAMark, ReadyAgain}
 use Rattle.demands.proofs.Calls.{calls-arise, arises-reachable}

@@ -1,29 +1,27 @@
 -- Each idle claim is had by a build of specs/IdleBuilds, and so says something; each of these builds is rejected for its claim, and keeps the demand that the claim does
 -- not concern.
 use mathlib.Core.Path.{_≡_, refl, sym, ap, _∙_}
-use mathlib.Core.Bool.{Bool, true, false, cond, not, _||_}
+use mathlib.Core.Bool.{Bool, true, false, cond, not}
 use mathlib.Core.List.{List, [], _∷_, _++_, map, append-nil}
-use Prim.Native.Nat.{ℕ, suc, _≤_}
+use Prim.Native.Nat.{ℕ, _≤_}
 use native.Mathlib.Omega.{arith}
 use Rattle.wire.specs.ByteOrder.{byteAt}
-use Rattle.reading.specs.Place.{Report, acceptedFrame}
-use Rattle.reading.specs.Line.{Input}
+use Rattle.reading.specs.Place.{Report}
 use Rattle.reading.specs.Line as Line
 use Rattle.reading.specs.Demand3.{joined, acceptedOf}
 use Rattle.reading.proofs.Stable.{never, true-is-not-false}
-use Rattle.demands.specs.Calls.{Moment, Call, ask, after, afterAll, numberGiven, handedOver}
+use Rattle.demands.specs.Calls.{Moment, Call, bytes, ask, after, afterAll, numberGiven, handedOver}
 use Rattle.demands.specs.Demand2.{leaving}
-use Rattle.demands.specs.Given.{givenAll}
 use Rattle.demands.specs.Story.{version, readVersion}
-use Rattle.demands.specs.Builds.{Start, first, since, Build, ours, leftByAsking, AcceptsGoodFrames, DoesEachCommand}
+use Rattle.demands.specs.Builds.{Start, first, since, leftByAsking, AcceptsGoodFrames, DoesEachCommand}
 use Rattle.demands.specs.Idle.{RefusesEveryFrame, ReadsFirstStretchOnly, ReadsFirstFrameOnly, RefusesEveryCommand, StoresNoRegister, StoresNoWord, Reads, dataReplied, Stand, RepliesAlike}
 use Rattle.demands.specs.IdleBuilds.{hasMark, hasSome, hasAccepted, LinePlace, atStart, moved, movedBy, handsOverAt, readingAt, readsNothing, readsFirstStretch, readsFirstFrame, leavesOwn, leavesAll, askedBy, acknowledging, doesNothing, storesNoRegister, storesNoWord, withStood, replyingAlike, repliesAlike}
 use Rattle.demands.proofs.Computed.{computingCalls}
-use Rattle.demands.proofs.Builds.{accepted-then, ours-accepts-good-frames, ours-does-each-command}
+use Rattle.demands.proofs.Builds.{ours-accepts-good-frames, ours-does-each-command}
 use Rattle.demands.proofs.IdlePlaces.{placeAfter, at-then, mark-among, not-closed, past-after, none-past}
 use Rattle.demands.proofs.IdleCounts.{marksLast, stretch-ends, counted, counted-then, beforeAccepted, at-most-one}
 use Rattle.demands.proofs.IdleReading.{storyStart, twoFrames, two-come, two-given, none-waits, refuses-some-only, reads-a-second-frame, reads-a-second-stretch}
-use Rattle.demands.proofs.IdleCommands.{does-a-command, replies-by-registers, replies-by-words, stores-a-register, stores-a-word}
+use Rattle.demands.proofs.IdleCommands.{plain, plainStart, versionFrame, lightFrame, does-a-command, replies-by-registers, replies-by-words, stores-a-register, stores-a-word}
 
 -- a build that reads otherwise does the commands as ours, and one that leaves otherwise accepts the frames that ours accepts
 pub reading-at-does-commands : (here : LinePlace → Bool) → DoesEachCommand (readingAt here)
@@ -156,33 +154,43 @@ module _ (command width : ℕ) (address : List ℕ) where
   unfolding leaving
   stood-alike one other content content′ stands counts = rw (stands .setup, stands .lent, counts)
 
-alike-81 : (s : Start) (calls : List Call) (count : ℕ) (reads : Reads 0x81 1 count s calls)
-    → leftByAsking repliesAlike s calls ≡ withStood 0x81 1 (0x00 ∷ []) (reads .content) (repliesAlike .leaves s calls)
-unfolding replyingAlike
-alike-81 s calls count reads =
-    asked-last (λ now. replyingAlike (numberGiven now ask) (handedOver now ask)) (first s) (first s) calls
-    ∙ rw (reads .handed, reads .done)
+  alike-by : ((s : Start) (calls : List Call) (count : ℕ) (reads : Reads command width count s calls)
+      → leftByAsking repliesAlike s calls ≡ withStood command width address (reads .content) (repliesAlike .leaves s calls))
+      → RepliesAlike command width repliesAlike
+  alike-by replied s calls calls′ count reads reads′ stands =
+      ap (λ (room : List ℕ). dataReplied (s .setup) command width count room)
+      (ap (λ (m : Moment). m .lent .room) (replied s calls count reads)
+      ∙ stood-alike (repliesAlike .leaves s calls) (repliesAlike .leaves s calls′) (reads .content) (reads′ .content) stands (reads .counts ∙ sym (reads′ .counts))
+      ∙ sym (ap (λ (m : Moment). m .lent .room) (replied s calls′ count reads′)))
 
-alike-83 : (s : Start) (calls : List Call) (count : ℕ) (reads : Reads 0x83 2 count s calls)
-    → leftByAsking repliesAlike s calls ≡ withStood 0x83 2 (0x00 ∷ 0x00 ∷ []) (reads .content) (repliesAlike .leaves s calls)
-unfolding replyingAlike
-alike-83 s calls count reads =
-    asked-last (λ now. replyingAlike (numberGiven now ask) (handedOver now ask)) (first s) (first s) calls
-    ∙ rw (reads .handed, reads .done)
+replied-alike : (s : Start) (calls : List Call)
+    → leftByAsking repliesAlike s calls ≡ replyingAlike (numberGiven (since s calls) ask) (handedOver (since s calls) ask) (repliesAlike .leaves s calls)
+replied-alike s calls = asked-last (λ now. replyingAlike (numberGiven now ask) (handedOver now ask)) (first s) (first s) calls
 
 pub replies-alike-to-81-is-had : RepliesAlike 0x81 1 repliesAlike
-replies-alike-to-81-is-had s calls calls′ count reads reads′ stands =
-    ap (λ (room : List ℕ). dataReplied (s .setup) 0x81 1 count room)
-    (ap (λ (m : Moment). m .lent .room) (alike-81 s calls count reads)
-    ∙ stood-alike 0x81 1 (0x00 ∷ []) _ _ (reads .content) (reads′ .content) stands (reads .counts ∙ sym (reads′ .counts))
-    ∙ sym (ap (λ (m : Moment). m .lent .room) (alike-81 s calls′ count reads′)))
+unfolding replyingAlike
+replies-alike-to-81-is-had = alike-by 0x81 1 (0x00 ∷ []) (λ s calls count reads. replied-alike s calls ∙ rw (reads .handed, reads .done))
 
 pub replies-alike-to-83-is-had : RepliesAlike 0x83 2 repliesAlike
-replies-alike-to-83-is-had s calls calls′ count reads reads′ stands =
-    ap (λ (room : List ℕ). dataReplied (s .setup) 0x83 2 count room)
-    (ap (λ (m : Moment). m .lent .room) (alike-83 s calls count reads)
-    ∙ stood-alike 0x83 2 (0x00 ∷ 0x00 ∷ []) _ _ (reads .content) (reads′ .content) stands (reads .counts ∙ sym (reads′ .counts))
-    ∙ sym (ap (λ (m : Moment). m .lent .room) (alike-83 s calls′ count reads′)))
+unfolding replyingAlike
+replies-alike-to-83-is-had = alike-by 0x83 2 (0x00 ∷ 0x00 ∷ []) (λ s calls count reads. replied-alike s calls ∙ rw (reads .handed, reads .done))
+
+-- .. such as the reads of the version and of the backlight by a new panel: what they reply is what stood in the room
+pub version-is-read : Reads 0x81 1 1 plainStart (bytes versionFrame ∷ [])
+unfolding computingCalls
+version-is-read = record { content = 0x00 ∷ 0x01 ∷ []; handed = refl; done = refl; counts = refl }
+
+pub light-is-read : Reads 0x81 1 1 plainStart (bytes lightFrame ∷ [])
+unfolding computingCalls
+light-is-read = record { content = 0x01 ∷ 0x01 ∷ []; handed = refl; done = refl; counts = refl }
+
+pub same-stands : Stand (repliesAlike .leaves plainStart (bytes versionFrame ∷ [])) (repliesAlike .leaves plainStart (bytes lightFrame ∷ []))
+unfolding computingCalls leavesAll leavesOwn
+same-stands = record { setup = refl; registers = refl; lent = refl }
+
+pub light-replied-alike : dataReplied plain 0x81 1 1 (leftByAsking repliesAlike plainStart (bytes lightFrame ∷ []) .lent .room) ≡ 0x00 ∷ []
+unfolding computingCalls leavesAll leavesOwn replyingAlike
+light-replied-alike = refl
 
 pub replies-alike-is-rejected : DoesEachCommand repliesAlike → ⊥
 replies-alike-is-rejected keeps = replies-by-registers repliesAlike keeps replies-alike-to-81-is-had

@@ -19,7 +19,7 @@ use Rattle.demands.specs.Calls.{Moment, Call, bytes, mark, ask, numberGi
 use Rattle.demands.specs.Demand2.{DoesCommands, leaving, afterRead}
 use Rattle.demands.specs.Story.{noise}
 use Rattle.demands.specs.Builds.{Start, since, Build, leftByAsking, DoesEachCommand}
-use Rattle.demands.specs.Idle.{RefusesEveryCommand, Reads, dataReplied, Stand, RepliesAlike, StoresNoRegister, StoresNoWord}
+use Rattle.demands.specs.Idle.{RefusesEveryCommand, dataReplied, Stand, RepliesAlike, StoresNoRegister, StoresNoWord}
 use Rattle.demands.proofs.Computed.{computingStart, computingCalls}
 use Rattle.demands.proofs.Story.{copies-below}
 

@@ -29,6 +29,10 @@ pub record Ready (now : Moment) : Type 0 where
 abbrev pub AllAskedFor : Moment → List Call → Type 0
 AllAskedFor now calls = reportWaits (afterAll now calls .panel) ≡ false
 
+-- "Checking is on, nothing is held or waiting, and damage of any bytes arrives, then good frames end to end, unbroken by a mark. If no place in the damage
+-- begins a run of bytes, in it or reaching past it, that is itself a good frame, then once 257 bytes have followed the damage on a line still open, or a quiet
+-- mark has come right behind a whole good frame, and all reports are asked for, the frames accepted are exactly those good frames that had come whole, in order."
+
 -- What the sentence supposes of a moment, of the calls that are made from then on and of the good frames that these give whole: on a line still open, once
 -- so many bytes have followed the damage. `tail` is what has come of a good frame that has not come whole.
 pub record ComeOnAnOpenLine (figure : ℕ) (now : Moment) (calls : List Call) (frames : List (List ℕ)) : Type 0 where

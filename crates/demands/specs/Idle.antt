@@ -6,7 +6,7 @@
 -- crates/line/must-fail/only_first_frame, only_first_stretch (idle for bytes given one at a time only). Each says in which run it is seen.
 use Prim.Native.Nat.{ℕ, suc, _+_, _*_, _≤_}
 use mathlib.Core.Path.{_≡_}
-use mathlib.Core.Bool.{true, false}
+use mathlib.Core.Bool.{true}
 use mathlib.Core.List.{List, [], _∷_, _++_, map}
 use lib.ListN.{length, take, drop}
 use Rattle.wire.specs.ByteOrder.{byteAt}

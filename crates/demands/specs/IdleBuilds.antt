@@ -16,7 +16,7 @@ use Rattle.demands.specs.Calls.{Moment, Call, lend, byte, bytes, mark, a
 use Rattle.demands.specs.Reports.{reportWaits}
 use Rattle.demands.specs.Given.{given}
 use Rattle.demands.specs.Demand2.{leaving}
-use Rattle.demands.specs.Builds.{Start, first, Build, ours}
+use Rattle.demands.specs.Builds.{first, Build, ours}
 use Rattle.demands.specs.Idle.{dataReplied}
 
 -- The line: ours, but reports are handed over at some places of the line only.
