@@ -37,7 +37,7 @@ use Rattle.panel.specs.declared.Handed.the-variants.{BadCheck, Accepted}
 use Rattle.panel.specs.State.{headerOf, panelRegister}
 use Rattle.demands.specs.Calls.{Moment, Call, ask, contact, lift, after, afterAll, numberGiven, handedOver, AllTyped, Arises, WellLent}
 use Rattle.demands.specs.Reports.{rulesOf}
-use Rattle.demands.specs.Demand2.{NamesWord, NamesRegister, Some, ReadsBack, afterWrite, afterRead, afterStore, afterFetch, afterBadCheck, AskLeaves, afterContact, afterLift}
+use Rattle.demands.specs.Demand2.{NamesWord, NamesRegister, Some, ReadsBack, DoesCommands, afterBadCheck, AskLeaves, afterContact, afterLift}
 use Rattle.demands.specs.Counts.{handedBy, BadCheckCounted, FrameCounted}
 use Rattle.demands.specs.Replied.{Replied}
 use Rattle.demands.specs.Stored.{Stores}
@@ -69,20 +69,16 @@ pub tables-give-eight-steps : (x : ℕ)
     → bitXor (bitXor (x / 2 ^ 8) (getD lowTable (bitAnd x 15) 0)) (getD highTable (bitAnd (x / 2 ^ 4) 15) 0) ≡ bitSteps 8 x
 tables-give-eight-steps = by-tables
 
--- "register and word access .. are those of the .. manuals as condensed in document 01": all that asking leaves, where it hands over a command and is
--- answered 0
-module _ (now : Moment) (arises : Arises now) (content : List ℕ) (done : numberGiven now ask ≡ 0) where
-  pub writes-registers : handedOver now ask ≡ acceptedFrame 0x80 content ∷ [] → after now ask ≡ afterWrite now content
-  writes-registers = Access.writes-registers now (arises-reachable now arises) content done
-
-  pub reads-registers : handedOver now ask ≡ acceptedFrame 0x81 content ∷ [] → after now ask ≡ afterRead now content
-  reads-registers = Access.reads-registers now (arises-reachable now arises) content done
-
-  pub writes-words : handedOver now ask ≡ acceptedFrame 0x82 content ∷ [] → after now ask ≡ afterStore now content
-  writes-words = Access.writes-words now (arises-reachable now arises) content done
-
-  pub reads-words : handedOver now ask ≡ acceptedFrame 0x83 content ∷ [] → after now ask ≡ afterFetch now content
-  reads-words = Access.reads-words now (arises-reachable now arises) content done
+-- "register and word access .. are those of the .. manuals as condensed in document 01"
+pub does-commands : (now : Moment) → Arises now → DoesCommands now (after now ask)
+does-commands now arises =
+    let reached = arises-reachable now arises in
+    record {
+      writes-registers = λ content. Access.writes-registers now reached content;
+      reads-registers = λ content. Access.reads-registers now reached content;
+      writes-words = λ content. Access.writes-words now reached content;
+      reads-words = λ content. Access.reads-words now reached content;
+    }
 
 -- and all that asking can leave at all: nothing is handed over, a bad check, a command that is refused, or one of these four
 pub asking-leaves : (now : Moment) → Arises now → AskLeaves now

@@ -21,7 +21,7 @@ use Rattle.panel.specs.Start.{newPanel}
 use Rattle.panel.specs.Sound.{lineOf}
 use Rattle.panel.specs.Reachable.{by-start}
 use Rattle.panel.proofs.Invariant.{reachable-sound}
-use Rattle.demands.specs.Calls.{Moment, begun, afterAll, handedOverAll}
+use Rattle.demands.specs.Calls.{Moment, begun, afterAll}
 use Rattle.demands.specs.Reports.{reportWaits, rulesOf}
 use Rattle.demands.specs.Demand3.{Ready, OnAnOpenLine, BehindAMark, AfterAMark, ReadyAgain}
 use Rattle.demands.proofs.Calls.{calls-arise, arises-reachable}
@@ -49,32 +49,33 @@ pub figure-is-257 : (now : Moment) → oneLessThanLongest (rulesOf (now .panel) 
 unfolding headerBytes
 figure-is-257 now = refl
 
-pub demand3-open : OnAnOpenLine handedOverAll
+pub demand3-open : OnAnOpenLine
 unfolding run headerBytes
-demand3-open now ready calls typed damage frames tail good cut came begins-none followed none-waits =
+demand3-open now calls frames come =
     let line = lineOf (now .panel .setup) in
     let rules = rulesFor line in
-    let reachable = arises-reachable now (ready .arises) in
-    let new = ready-new now ready in
-    let c = carried line now reachable new calls typed in
-    let whole = damage ++ (joined frames ++ tail) in
-    let are : Bytes whole = bytes-of whole [] (rw (append-nil (map Line.byte whole)) (rw came at (all-given-bytes now calls typed))) in
+    let reachable = arises-reachable now (come .ready .arises) in
+    let new = ready-new now (come .ready) in
+    let c = carried line now reachable new calls (come .typed) in
+    let whole = come .damage ++ (joined frames ++ come .tail) in
+    let are : Bytes whole = bytes-of whole [] (rw (append-nil (map Line.byte whole)) (rw (come .came) at (all-given-bytes now calls (come .typed)))) in
     ap acceptedOf (sym (c .hands))
-    ∙ accepted-open rules [] (c .events) (idle-new rules) (sym (waits-same line now reachable new calls typed) ∙ none-waits) damage frames good tail cut are begins-none
-    (c .gives ∙ came) followed
+    ∙ accepted-open rules [] (c .events) (idle-new rules) (sym (waits-same line now reachable new calls (come .typed)) ∙ come .all-asked) (come .damage) frames (come .good)
+    (come .tail) (come .cut) are (come .begins-none) (c .gives ∙ come .came) (come .followed)
 
-pub demand3-closed : BehindAMark handedOverAll
+pub demand3-closed : BehindAMark
 unfolding run
-demand3-closed now ready calls typed damage frames good came begins-none none-waits =
+demand3-closed now calls frames come =
     let line = lineOf (now .panel .setup) in
     let rules = rulesFor line in
-    let reachable = arises-reachable now (ready .arises) in
-    let new = ready-new now ready in
-    let c = carried line now reachable new calls typed in
-    let whole = damage ++ joined frames in
-    let are : Bytes whole = bytes-of whole (Line.mark ∷ []) (rw came at (all-given-bytes now calls typed)) in
+    let reachable = arises-reachable now (come .ready .arises) in
+    let new = ready-new now (come .ready) in
+    let c = carried line now reachable new calls (come .typed) in
+    let whole = come .damage ++ joined frames in
+    let are : Bytes whole = bytes-of whole (Line.mark ∷ []) (rw (come .came) at (all-given-bytes now calls (come .typed))) in
     ap acceptedOf (sym (c .hands))
-    ∙ accepted-closed rules [] (c .events) (idle-new rules) (sym (waits-same line now reachable new calls typed) ∙ none-waits) damage frames good are begins-none (c .gives ∙ came)
+    ∙ accepted-closed rules [] (c .events) (idle-new rules) (sym (waits-same line now reachable new calls (come .typed)) ∙ come .all-asked) (come .damage) frames (come .good)
+    are (come .begins-none) (c .gives ∙ come .came)
 
 pub demand3-after-mark : AfterAMark
 unfolding newPanel

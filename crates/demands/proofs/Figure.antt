@@ -22,11 +22,11 @@ use Rattle.demands.proofs.Demand3.{demand3-open}
 use Rattle.demands.proofs.Story.{zeros-16-bit}
 
 -- the sentence with 257 is demand 3's
-pub with-257 : OnAnOpenLine handedOverAll → OnceFollowedBy 257 handedOverAll
+pub with-257 : OnAnOpenLine → OnceFollowedBy 257
 unfolding headerBytes
 with-257 sentence = sentence
 
-pub figure-enough : OnceFollowedBy 257 handedOverAll
+pub figure-enough : OnceFollowedBy 257
 figure-enough = with-257 demand3-open
 
 -- a new panel with this header, checking on, is given a single FF and 32 good frames, 256 bytes
@@ -64,11 +64,21 @@ unfolding computingCalls handedOverAll acceptedOf
 none-accepted = refl
 
 -- no smaller figure will do
-pub figure-least : (figure : ℕ) → figure < 257 → OnceFollowedBy figure handedOverAll → ⊥
+pub figure-least : (figure : ℕ) → figure < 257 → OnceFollowedBy figure → ⊥
 unfolding computingStart
 figure-least figure less sentence =
-    let all = sentence new new-ready come come-typed (0xFF ∷ []) frames [] (no-fewer .good) (no-fewer .cut) come-given (no-fewer .begins-none)
-    (omega (arith, no-fewer .followed)) none-waits in
+    let all = sentence new come frames (record {
+      ready = new-ready;
+      typed = come-typed;
+      damage = 0xFF ∷ [];
+      tail = [];
+      good = no-fewer .good;
+      cut = no-fewer .cut;
+      came = come-given;
+      begins-none = no-fewer .begins-none;
+      followed = omega (arith, no-fewer .followed);
+      all-asked = none-waits;
+    }) in
     none-mapped (sym all ∙ none-accepted)
   where
     none-mapped : map (reportOfFrame rules) frames ≡ [] → ⊥

@@ -93,4 +93,15 @@ long-enough = lit≤ tt
 pub no-frame-is-lost : acceptedOf (handedOverAll new story) ≡ replicate 33 readVersion
 unfolding computingReading computingStart
 no-frame-is-lost =
-    demand3-open new new-ready story story-typed noise (replicate 33 version) [] (copies-good 33) nothing-cut story-given noise-begins-none long-enough story-asked
+    demand3-open new story (replicate 33 version) (record {
+      ready = new-ready;
+      typed = story-typed;
+      damage = noise;
+      tail = [];
+      good = copies-good 33;
+      cut = nothing-cut;
+      came = story-given;
+      begins-none = noise-begins-none;
+      followed = long-enough;
+      all-asked = story-asked;
+    })

@@ -126,6 +126,14 @@ fetchReply now content =
 unfoldable pub afterFetch : Moment → List ℕ → Moment
 afterFetch now content = leaving now 0x83 (now .panel .registers) (now .panel .catch) (now .lent) (fetchReply now content)
 
+-- "register and word access .. are those of the .. manuals as condensed in document 01": all that asking leaves, where it hands over one of the four commands
+-- and is answered 0. `now` is the moment at which it is asked, `left` the one that is left; ours is `after now ask`.
+pub record DoesCommands (now left : Moment) : Type 0 where
+  pub writes-registers : (content : List ℕ) → numberGiven now ask ≡ 0 → handedOver now ask ≡ acceptedFrame 0x80 content ∷ [] → left ≡ afterWrite now content
+  pub reads-registers : (content : List ℕ) → numberGiven now ask ≡ 0 → handedOver now ask ≡ acceptedFrame 0x81 content ∷ [] → left ≡ afterRead now content
+  pub writes-words : (content : List ℕ) → numberGiven now ask ≡ 0 → handedOver now ask ≡ acceptedFrame 0x82 content ∷ [] → left ≡ afterStore now content
+  pub reads-words : (content : List ℕ) → numberGiven now ask ≡ 0 → handedOver now ask ≡ acceptedFrame 0x83 content ∷ [] → left ≡ afterFetch now content
+
 -- "each bad check by the same with 0x00"
 unfoldable pub afterBadCheck : Moment → (command : ℕ) → Moment
 afterBadCheck now command =

@@ -19,10 +19,6 @@ use Rattle.demands.specs.Calls.{Moment, Call, begun, afterAll, handedOve
 use Rattle.demands.specs.Reports.{rulesOf, reportWaits}
 use Rattle.demands.specs.Given.{givenAll}
 
--- what a build hands over when these calls are made of it; ours is `handedOverAll`
-abbrev pub HandsOver : Type 0
-HandsOver = Moment → List Call → List Report
-
 -- "Checking is on, nothing is held or waiting": at any moment that calls lead to from a start
 pub record Ready (now : Moment) : Type 0 where
   pub arises : Arises now
@@ -33,28 +29,54 @@ pub record Ready (now : Moment) : Type 0 where
 abbrev pub AllAskedFor : Moment → List Call → Type 0
 AllAskedFor now calls = reportWaits (afterAll now calls .panel) ≡ false
 
--- "damage of any bytes arrives, then good frames end to end, unbroken by a mark. If no place in the damage begins a run of bytes, in it or reaching past
--- it, that is itself a good frame, then once 257 bytes have followed the damage on a line still open .., and all reports are asked for, the frames
--- accepted are exactly those good frames that had come whole, in order." `tail` is what has come of a good frame that has not come whole.
-abbrev pub OnAnOpenLine : HandsOver → Type 0
-OnAnOpenLine handsOver =
-    (now : Moment) → Ready now → (calls : List Call) → AllTyped calls
-    → (damage : List ℕ) (frames : List (List ℕ)) (tail : List ℕ) → GoodFrames (rulesOf (now .panel)) frames → Cut (rulesOf (now .panel)) tail
-    → givenAll now calls ≡ map Line.byte (damage ++ (joined frames ++ tail))
-    → BeginsNone (rulesOf (now .panel)) damage (joined frames ++ tail)
-    → oneLessThanLongest (rulesOf (now .panel) .header) ≤ length (joined frames ++ tail)
-    → AllAskedFor now calls
-    → acceptedOf (handsOver now calls) ≡ map (reportOfFrame (rulesOf (now .panel))) frames
+-- "Checking is on, nothing is held or waiting, and damage of any bytes arrives, then good frames end to end, unbroken by a mark. If no place in the damage
+-- begins a run of bytes, in it or reaching past it, that is itself a good frame, then once 257 bytes have followed the damage on a line still open, or a quiet
+-- mark has come right behind a whole good frame, and all reports are asked for, the frames accepted are exactly those good frames that had come whole, in order."
 
--- ".. or a quiet mark has come right behind a whole good frame, and all reports are asked for, .."
-abbrev pub BehindAMark : HandsOver → Type 0
-BehindAMark handsOver =
-    (now : Moment) → Ready now → (calls : List Call) → AllTyped calls
-    → (damage : List ℕ) (frames : List (List ℕ)) → GoodFrames (rulesOf (now .panel)) frames
-    → givenAll now calls ≡ map Line.byte (damage ++ joined frames) ++ (Line.mark ∷ [])
-    → BeginsNone (rulesOf (now .panel)) damage (joined frames)
-    → AllAskedFor now calls
-    → acceptedOf (handsOver now calls) ≡ map (reportOfFrame (rulesOf (now .panel))) frames
+-- What the sentence supposes of a moment, of the calls that are made from then on and of the good frames that these give whole: on a line still open, once
+-- so many bytes have followed the damage. `tail` is what has come of a good frame that has not come whole.
+pub record ComeOnAnOpenLine (figure : ℕ) (now : Moment) (calls : List Call) (frames : List (List ℕ)) : Type 0 where
+  -- "Checking is on, nothing is held or waiting, .."
+  pub ready : Ready now
+  pub typed : AllTyped calls
+  -- ".. and damage of any bytes arrives, then good frames end to end, unbroken by a mark."
+  pub damage : List ℕ
+  pub tail : List ℕ
+  pub good : GoodFrames (rulesOf (now .panel)) frames
+  pub cut : Cut (rulesOf (now .panel)) tail
+  pub came : givenAll now calls ≡ map Line.byte (damage ++ (joined frames ++ tail))
+  -- "If no place in the damage begins a run of bytes, in it or reaching past it, that is itself a good frame, .."
+  pub begins-none : BeginsNone (rulesOf (now .panel)) damage (joined frames ++ tail)
+  -- ".. then once 257 bytes have followed the damage on a line still open, .."
+  pub followed : figure ≤ length (joined frames ++ tail)
+  -- ".. and all reports are asked for, .."
+  pub all-asked : AllAskedFor now calls
+
+-- The same where ".. a quiet mark has come right behind a whole good frame, and all reports are asked for, .."
+pub record ComeBehindAMark (now : Moment) (calls : List Call) (frames : List (List ℕ)) : Type 0 where
+  pub ready : Ready now
+  pub typed : AllTyped calls
+  pub damage : List ℕ
+  pub good : GoodFrames (rulesOf (now .panel)) frames
+  pub came : givenAll now calls ≡ map Line.byte (damage ++ joined frames) ++ (Line.mark ∷ [])
+  pub begins-none : BeginsNone (rulesOf (now .panel)) damage (joined frames)
+  pub all-asked : AllAskedFor now calls
+
+-- ".. those good frames that had come whole, in order": the reports that they are accepted with
+abbrev pub asAccepted : Moment → List (List ℕ) → List Report
+asAccepted now frames = map (reportOfFrame (rulesOf (now .panel))) frames
+
+-- ".. the frames accepted are exactly those good frames that had come whole, in order."
+abbrev pub OnAnOpenLine : Type 0
+OnAnOpenLine =
+    (now : Moment) (calls : List Call) (frames : List (List ℕ))
+    → ComeOnAnOpenLine (oneLessThanLongest (rulesOf (now .panel) .header)) now calls frames
+    → acceptedOf (handedOverAll now calls) ≡ asAccepted now frames
+
+abbrev pub BehindAMark : Type 0
+BehindAMark =
+    (now : Moment) (calls : List Call) (frames : List (List ℕ)) → ComeBehindAMark now calls frames
+    → acceptedOf (handedOverAll now calls) ≡ asAccepted now frames
 
 -- two panels read alike: whatever calls follow, they take the same inputs and hand over the same reports
 pub record ReadAlike (one other : Moment) : Type 0 where

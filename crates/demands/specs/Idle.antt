@@ -1,83 +1,99 @@
 -- 01: "Four idle builds are to be rejected: refusing every frame (demands 2 and 3), replying alike to all reads (2), taking frames without storing (2),
--- and reading only the first stretch or frame properly (3)." What each of them would do, said of any build. proofs/Idle shows that no build which
--- keeps the demand is idle. The same is tried on the code by must-fail edits: crates/commands/must-fail/every_frame_refused, all_reads_alike,
--- taken_without_storing; crates/words/must-fail/taken_without_storing; crates/panel/must-fail/taken_without_storing, stuck_at_the_first_report;
--- crates/place/must-fail/every_frame_passed_over; crates/line/must-fail/only_first_frame, only_first_stretch. Each says in which run it is seen.
-use Prim.Native.Nat.{ℕ, _≤_}
+-- and reading only the first stretch or frame properly (3)." What each of them would do, said of any build (specs/Builds). proofs/Idle shows that no build which
+-- keeps the demand is idle; specs/IdleBuilds has for each claim a build that is idle in that way. The same is tried on the code by must-fail edits:
+-- crates/commands/must-fail/every_frame_refused, all_reads_alike, taken_without_storing; crates/words/must-fail/taken_without_storing;
+-- crates/panel/must-fail/taken_without_storing, stuck_at_the_first_report; crates/place/must-fail/every_frame_passed_over;
+-- crates/line/must-fail/only_first_frame, only_first_stretch (idle for bytes given one at a time only). Each says in which run it is seen.
+use Prim.Native.Nat.{ℕ, suc, _+_, _*_, _≤_}
 use mathlib.Core.Path.{_≡_}
+use mathlib.Core.Bool.{true}
 use mathlib.Core.List.{List, [], _∷_, _++_, map}
-use lib.ListN.{length}
+use lib.ListN.{length, take, drop}
+use Rattle.wire.specs.ByteOrder.{byteAt}
 use Rattle.reading.specs.Place.{acceptedFrame}
 use Rattle.reading.specs.Line as Line
 use Rattle.reading.specs.Line.{Input}
 use Rattle.reading.specs.Demand3.{acceptedOf}
-use Rattle.demands.specs.Calls.{Moment, Call, ask, after, afterAll, numberGiven, handedOver, Arises}
-use Rattle.demands.specs.Demand2.{leaving, afterWrite, afterRead, afterStore, afterFetch}
+use Rattle.touch.specs.declared.Setup.{Setup}
+use Rattle.panel.specs.State.{headerOf}
+use Rattle.demands.specs.Calls.{Moment, Call, ask, numberGiven, handedOver}
+use Rattle.demands.specs.Reports.{acknowledgementOf}
+use Rattle.demands.specs.Demand2.{leaving}
 use Rattle.demands.specs.Given.{givenAll}
-use Rattle.demands.specs.Demand3.{HandsOver}
+use Rattle.demands.specs.Demand3.{AllAskedFor}
+use Rattle.demands.specs.Builds.{Start, first, since, Build, leftByAsking}
 
--- The line, demand 3. What a build hands over in a sequence of calls; ours is `handedOverAll`.
+-- The line, demand 3.
 
 -- "refusing every frame"
-abbrev pub RefusesEveryFrame : HandsOver → Type 0
-RefusesEveryFrame handsOver = (now : Moment) (calls : List Call) → acceptedOf (handsOver now calls) ≡ []
+abbrev pub RefusesEveryFrame : Build → Type 0
+RefusesEveryFrame build = (s : Start) (calls : List Call) → acceptedOf (build .handsOver s calls) ≡ []
 
--- "reading only the first .. frame properly": of a stretch one frame at most is accepted
-abbrev pub ReadsFirstFrameOnly : HandsOver → Type 0
-ReadsFirstFrameOnly handsOver =
-    (now : Moment) (calls : List Call) (stretch : List ℕ) → givenAll now calls ≡ map Line.byte stretch ++ (Line.mark ∷ [])
-    → length (acceptedOf (handsOver now calls)) ≤ 1
+-- "reading only the first stretch .. properly": once a mark has been given and its reports are asked for, no frame is accepted any more
+abbrev pub ReadsFirstStretchOnly : Build → Type 0
+ReadsFirstStretchOnly build =
+    (s : Start) (earlier : List Call) (before behind : List Input) → givenAll (first s) earlier ≡ before ++ (Line.mark ∷ behind) → AllAskedFor (first s) earlier
+    → (calls : List Call) → acceptedOf (build .handsOver s (earlier ++ calls)) ≡ acceptedOf (build .handsOver s earlier)
 
--- "reading only the first stretch .. properly": once a mark has been given, no frame is accepted any more
-abbrev pub ReadsFirstStretchOnly : HandsOver → Type 0
-ReadsFirstStretchOnly handsOver =
-    (first : Moment) (earlier : List Call) (before behind : List Input) → givenAll first earlier ≡ before ++ (Line.mark ∷ behind)
-    → (calls : List Call) → acceptedOf (handsOver (afterAll first earlier) calls) ≡ []
+-- "reading only the first .. frame properly": of what comes of a stretch one frame at most is accepted
+abbrev pub ReadsFirstFrameOnly : Build → Type 0
+ReadsFirstFrameOnly build =
+    (s : Start) (earlier : List Call) → AllAskedFor (first s) earlier
+    → (calls : List Call) (stretch : List ℕ) → givenAll (since s earlier) calls ≡ map Line.byte stretch ++ (Line.mark ∷ [])
+    → length (acceptedOf (build .handsOver s (earlier ++ calls))) ≤ suc (length (acceptedOf (build .handsOver s earlier)))
 
--- Commands, demand 2. What a build leaves of the panel and of what is lent when a report is asked for; ours is `leftByAsking`.
-abbrev pub LeftByAsking : Type 0
-LeftByAsking = Moment → Moment
-
-abbrev pub leftByAsking : LeftByAsking
-leftByAsking now = after now ask
-
--- demand 2, "register and word access": what a command that is handed over and done leaves
-pub record DoesCommands (left : LeftByAsking) : Type 0 where
-  pub writes : (now : Moment) → Arises now → (content : List ℕ) → numberGiven now ask ≡ 0
-      → handedOver now ask ≡ acceptedFrame 0x80 content ∷ [] → left now ≡ afterWrite now content
-  pub reads : (now : Moment) → Arises now → (content : List ℕ) → numberGiven now ask ≡ 0
-      → handedOver now ask ≡ acceptedFrame 0x81 content ∷ [] → left now ≡ afterRead now content
-  pub stores : (now : Moment) → Arises now → (content : List ℕ) → numberGiven now ask ≡ 0
-      → handedOver now ask ≡ acceptedFrame 0x82 content ∷ [] → left now ≡ afterStore now content
-  pub fetches : (now : Moment) → Arises now → (content : List ℕ) → numberGiven now ask ≡ 0
-      → handedOver now ask ≡ acceptedFrame 0x83 content ∷ [] → left now ≡ afterFetch now content
+-- Commands, demand 2.
 
 -- "refusing every frame": each command is handed over and acknowledged, and does nothing else
-abbrev pub RefusesEveryCommand : LeftByAsking → Type 0
-RefusesEveryCommand left =
-    (now : Moment) (command : ℕ) (content : List ℕ) → handedOver now ask ≡ acceptedFrame command content ∷ []
-    → left now ≡ leaving now command (now .panel .registers) (now .panel .catch) (now .lent) []
-
--- "replying alike to all reads" by this command: the room that is left does not go by what is asked for or by what stands there
-abbrev pub RepliesAlike : (command : ℕ) → LeftByAsking → Type 0
-RepliesAlike command left =
-    (one other : Moment) (content content′ : List ℕ) → handedOver one ask ≡ acceptedFrame command content ∷ []
-    → handedOver other ask ≡ acceptedFrame command content′ ∷ [] → one .lent .room ≡ other .lent .room → left one .lent .room ≡ left other .lent .room
+abbrev pub RefusesEveryCommand : Build → Type 0
+RefusesEveryCommand build =
+    (s : Start) (calls : List Call) (command : ℕ) (content : List ℕ) → handedOver (since s calls) ask ≡ acceptedFrame command content ∷ []
+    → leftByAsking build s calls
+    ≡ leaving (build .leaves s calls) command (build .leaves s calls .panel .registers) (build .leaves s calls .panel .catch) (build .leaves s calls .lent) []
 
 -- "taking frames without storing": asking changes no register; it changes no word
-abbrev pub StoresNoRegister : LeftByAsking → Type 0
-StoresNoRegister left = (now : Moment) → left now .panel .registers ≡ now .panel .registers
+abbrev pub StoresNoRegister : Build → Type 0
+StoresNoRegister build = (s : Start) (calls : List Call) → leftByAsking build s calls .panel .registers ≡ build .leaves s calls .panel .registers
 
-abbrev pub StoresNoWord : LeftByAsking → Type 0
-StoresNoWord left = (now : Moment) → left now .lent .words ≡ now .lent .words
+abbrev pub StoresNoWord : Build → Type 0
+StoresNoWord build = (s : Start) (calls : List Call) → leftByAsking build s calls .lent .words ≡ build .leaves s calls .lent .words
+
+-- A read that is answered 0, behind these calls: "0x81, address (1), count (1)"; "0x83, address (2), count (1)". Its width is 1 or 2: as many bytes has its
+-- address, and as many has each register or word that it reads.
+pub record Reads (command width count : ℕ) (s : Start) (calls : List Call) : Type 0 where
+  pub content : List ℕ
+  pub handed : handedOver (since s calls) ask ≡ acceptedFrame command content ∷ []
+  pub done : numberGiven (since s calls) ask ≡ 0
+  pub counts : byteAt content width ≡ count
+
+-- "Reply 0x81, address, count, bytes."; "Reply 0x83, address, count, words.": where those bytes or words stand in the room, behind the acknowledgement, if
+-- there is one, and the reply's header, length byte, command, address and count
+abbrev pub dataReplied : Setup → (command width count : ℕ) → (room : List ℕ) → List ℕ
+dataReplied setup command width count room =
+    take (width * count) (drop (length (acknowledgementOf setup command true) + (length (headerOf setup) + (3 + width))) room)
+
+-- the same registers, words and room, under one setup
+pub record Stand (one other : Moment) : Type 0 where
+  pub setup : one .panel .setup ≡ other .panel .setup
+  pub registers : one .panel .registers ≡ other .panel .registers
+  pub lent : one .lent ≡ other .lent
+
+-- "replying alike to all reads" by this command: two reads of one count, each answered 0 while the same registers, words and room stand there, have the same
+-- bytes or words in their replies, whichever addresses they name
+abbrev pub RepliesAlike : (command width : ℕ) → Build → Type 0
+RepliesAlike command width build =
+    (s : Start) (calls calls′ : List Call) (count : ℕ) → Reads command width count s calls → Reads command width count s calls′
+    → Stand (build .leaves s calls) (build .leaves s calls′)
+    → dataReplied (s .setup) command width count (leftByAsking build s calls .lent .room)
+    ≡ dataReplied (s .setup) command width count (leftByAsking build s calls′ .lent .room)
 
 -- a build that is none of the four
-pub record NotIdle (handsOver : HandsOver) (left : LeftByAsking) : Type 0 where
-  pub accepts-frames : RefusesEveryFrame handsOver → ⊥
-  pub does-commands : RefusesEveryCommand left → ⊥
-  pub replies-by-registers : RepliesAlike 0x81 left → ⊥
-  pub replies-by-words : RepliesAlike 0x83 left → ⊥
-  pub stores-registers : StoresNoRegister left → ⊥
-  pub stores-words : StoresNoWord left → ⊥
-  pub reads-on-behind-a-frame : ReadsFirstFrameOnly handsOver → ⊥
-  pub reads-on-behind-a-stretch : ReadsFirstStretchOnly handsOver → ⊥
+pub record NotIdle (build : Build) : Type 0 where
+  pub accepts-frames : RefusesEveryFrame build → ⊥
+  pub does-commands : RefusesEveryCommand build → ⊥
+  pub replies-by-registers : RepliesAlike 0x81 1 build → ⊥
+  pub replies-by-words : RepliesAlike 0x83 2 build → ⊥
+  pub stores-registers : StoresNoRegister build → ⊥
+  pub stores-words : StoresNoWord build → ⊥
+  pub reads-on-behind-a-frame : ReadsFirstFrameOnly build → ⊥
+  pub reads-on-behind-a-stretch : ReadsFirstStretchOnly build → ⊥
