@@ -73,6 +73,8 @@ STRANGE = [
     (USUAL, "F 81 0\nO 5A A5 06 81 00 01 11 28 44\nE 0000\n", 1, "not the program's: check wrong: 28 44, right is E9 84; reply to 81"),
     (USUAL, "F 81 0\nO 5A A5 04 81 00 01 10\nE 0000\n", 1, "not the program's: check wrong: 01 10, right is 61 E0; without check bytes it would be"),
     (PLAIN, "F 81 0\nO 5A A5 06 81 00 01 10 28 44\nE 0000\n", 1, "not the program's: 81 00 01 10 28 44 is no reply to 81"),
+    (PLAIN, "F 81 0\nO 5A A5 05 81 FF 02 00 00\nE 0000\n", 1, "not the program's: address FF and count 2 go past the end"),
+    (PLAIN, "F 83 0\nO 5A A5 06 83 70 00 01 00 00\nE 0000\n", 1, "not the program's: address 7000 and count 1 go past the end"),
     (PLAIN, "B 81\nE 0000\n", 0, "not the program's: without checking there is no bad check"),
     (USUAL, "F 83 0\nO 5A A5 06 81 00 01 10 28 44\nE 0000\n", 1, "not the program's: 81 00 01 10 is no reply to 83, read words"),
     (USUAL, "F 81 0\nE 0000\n", 1, "not whole: reply of 81 should stand above; end: page 0 is shown"),

@@ -21,13 +21,11 @@ MISTAKES = [
     ("# a comment\n\nline", "line 3: line: bytes are missing: " + BYTE),
     ("line 5", "line 1: line: '5': " + BYTE),
     ("line 5A G0", "line 1: line: 'G0': " + BYTE),
-    ("line 5A \x0c5", "line 1: line: '5': " + BYTE),
-    ("line 5A\x0bline 00\nlin", "line 1: line: 'line': " + BYTE),
     (SETUP + "record 00 01", "line 2: record: 2 bytes: allowed are 32"),
     (SETUP + "contact 1", "line 2: contact: 1 values: allowed are two, X and Y, each a number"),
     (SETUP + "contact 1 65536", "line 2: contact: '65536': " + WORD),
     (SETUP + "quiet 1", "line 2: quiet: '1': allowed is nothing behind"),
-    ("lift \x1b[31m", r"line 1: lift: '\x1b[31m': allowed is nothing behind"),
+    ("lift \x85\u202e\u00e4", r"line 1: lift: '\u202eä': allowed is nothing behind"),
     ("lift " + "1" * 1000, f"line 1: lift: '{'1' * 40}...': allowed is nothing behind"),
     # Fields
     ("setup header=5A A5 pages=2 width=800", "line 1: setup: height: is missing: " + WORD),
@@ -72,13 +70,17 @@ MISTAKES = [
 GARBAGE = [
     (b"\xff\xfes\0e\0t\0u\0p\0", "garbage, line 1: byte FF is no text: allowed is UTF-8"),
     (b"lift\nlift # \xe4\n", "garbage, line 2: byte E4 is no text: allowed is UTF-8"),
-    (bytes(range(128)), r"garbage, line 1: '\x00\x01\x02\x03\x04\x05\x06\x07\x08' is no statement: allowed is setup"),
+    (bytes(range(128)), "garbage, line 1: byte 00 is a control character: allowed are tabs, and line feeds"),
+    (b"lift\nlift \x1b[31m\n", "garbage, line 2: byte 1B is a control character"),
+    (b"\r\n# a comment\rlift\rlift\r", "garbage, line 2: byte 0D is a control character"),
+    (b"# a comment\x0blift\n", "garbage, line 1: byte 0B is a control character"),
 ]
 
 # Texts that two readings could be thought of, and the bytes of the one that is meant.
 MEANT = [
     ("\ufeffquiet\r\nlift\r\n", "02 04"),
-    ("lift # checking\x0blift\n", "04"),
+    ("lift\t# twice\r\n\tlift", "04 04"),
+    ("lift # first\u2028lift\n", "04"),
     (SLIDER + " begin=0x9C40 end=-1", "05 0000 0000 0000 0009 0009 FF00 FF00 FE03 FE 0010 00 0000 0000 0009 0009 9C40 FFFF"),
     (KEY + " next=none code=1", "05 0000 0000 0000 0009 0009 FF00 FF00 FE05 FE 0010 00 0001" + "00" * 10),
     (KEY + " next=0xFF12 code=1", "05 0000 0000 0000 0009 0009 FF12 FF00 FE05 FE 0010 00 0001" + "00" * 10),
@@ -95,7 +97,7 @@ def said(make):
 
 def troubles():
     for text, words in MISTAKES:
-        if not (found := said(lambda: trace_of(text, "text"))).startswith("text, " + words):
+        if not (found := said(lambda: trace_of(decoded(text.encode(), "text"), "text"))).startswith("text, " + words):
             yield f"{text[:200]!r}: {found[:300]}; expected {words}"
     for data, words in GARBAGE:
         if not (found := said(lambda: trace_of(decoded(data, "garbage"), "garbage"))).startswith(words):

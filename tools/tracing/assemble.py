@@ -1,5 +1,5 @@
 """A whole text into the bytes of a trace, or the first mistake in it."""
-import io
+import re
 
 from . import layout
 from .statements import STATEMENTS, setup
@@ -10,6 +10,9 @@ TIMES = number(1, 1 << 24)
 REPEAT = {"repeat": TIMES}
 MOST_BYTES = 1 << 28        # of a trace: it is all held before any of it is written
 MOST_KNOWN = 1 << 16        # lines
+BLOCK = 1 << 20
+CONTROL = re.compile(rb"\r(?!\n)|[\x00-\x08\x0B\x0C\x0E-\x1F\x7F]")
+PLAIN = bytes(byte for byte in range(256) if byte >= 32 and byte != 127 or byte in b"\t\n")     # in most texts there is nothing else
 
 
 def words_of(line):
@@ -103,11 +106,20 @@ class Assembler:
         return frame
 
 
+def lines_of(text):
+    """A block at a time: all lines at once would take several times the room of the text."""
+    at = 0
+    while at < len(text):
+        end = text.find("\n", at + BLOCK) + 1 or len(text)
+        yield from text[at:end].removesuffix("\n").split("\n")
+        at = end
+
+
 def trace_of(text, source="text", tick=lambda lines: None):
     """The bytes of a text. A mistake is told with the source's name and the line's number; `tick` hears now and then how many lines are done."""
     assembler, trace = Assembler(), bytearray()
     known = assembler.known
-    for at, line in enumerate(io.StringIO(text, newline="\n"), 1):
+    for at, line in enumerate(lines_of(text), 1):
         try:
             trace += known.get(line) or assembler.assemble(line)
             if len(trace) > MOST_BYTES:
@@ -119,10 +131,16 @@ def trace_of(text, source="text", tick=lambda lines: None):
     return bytes(trace)
 
 
+def refuse(data, at, source, reason):
+    raise Mistake(f"{source}, line {data.count(10, 0, at) + 1}: byte {data[at]:02X} {reason}")
+
+
 def decoded(data, source):
-    """UTF-8, with or without a byte order mark."""
+    """UTF-8, with or without a byte order mark. A control character would hide in a comment what an editor shows on a line of its own."""
     try:
-        return data.decode("utf-8-sig")
+        text = data.decode("utf-8-sig")
     except UnicodeDecodeError as wrong:
-        line = data.count(b"\n", 0, wrong.start) + 1
-        raise Mistake(f"{source}, line {line}: byte {data[wrong.start]:02X} is no text: allowed is UTF-8") from None
+        refuse(data, wrong.start, source, "is no text: allowed is UTF-8")
+    if data.translate(None, PLAIN) and (found := CONTROL.search(data)):
+        refuse(data, found.start(), source, "is a control character: allowed are tabs, and line feeds with or without a carriage return before each")
+    return text

@@ -18,9 +18,10 @@ something could not be read or written. A pipe that is no longer read ends the t
 
 THE TEXT
 
-UTF-8. One statement to a line; what follows # is a comment. `=`, `,` and `..` separate as blanks do. A byte is two hex digits. A number is
-decimal, or hex after 0x; it must fit its field, and is not held against 01, so that wrong traces can be written. What stands in [ ] may be
-left out. The fields of a statement may come in any order, each once; those of `frame` stand before the command.
+UTF-8 without control characters. One statement to a line; what follows # is a comment. `=`, `,` and `..` separate as blanks do. A byte is
+two hex digits. A number is decimal, or hex after 0x; it must fit its field, and is not held against 01, so that wrong traces can be
+written. What stands in [ ] may be left out. The fields of a statement may come in any order, each once; those of `frame` stand before the
+command.
 
   setup header=5A A5 [checking] [acknowledging] pages=2 width=800 height=480
   setup header=5A A5 flags=07 pages=2 width=800 height=480
@@ -38,7 +39,8 @@ left out. The fields of a statement may come in any order, each once; those of `
                               decimal -32768 to 32767; or hex, 0x0000 to 0xFFFF, the two bytes themselves
   record B0 B1 .. B31         a touch record, its 32 bytes
   line BB BB ..               line bytes
-  frame CC DD DD ..           line bytes: a whole frame of the command CC and data, enclosed as the last setup before it says
+  frame CC DD DD ..           line bytes: a whole frame of the command CC and data, enclosed as the last setup before it says; at most 252
+                              bytes of data with checking, 254 without
   frame badly CC DD ..        the same with a wrong check value; with checking only, and not beside cut
   frame cut=2 CC DD ..        the same without its last bytes, 1 or more
   frame length=9 CC DD ..     the same with another length byte, 0 to 255
@@ -46,7 +48,7 @@ left out. The fields of a statement may come in any order, each once; those of `
   contact 11 11               X and Y, each 0 to 65535
   lift
   bytes BB BB ..              bytes of the trace as they stand, for traces that are wrong
-  repeat 3 STATEMENT          a statement, 1 to 16777216 times
+  repeat 3 STATEMENT          a statement, 1 to 16777216 times; the whole trace has at most 268435456 bytes
 
 THE OUTPUT
 

@@ -3,6 +3,9 @@ from . import numbers
 from .layout import spelled, two_checks
 
 
+ENDS = {0x81: 256, 0x83: 28672}
+
+
 class NotOurs(Exception):
     """Why the program cannot have printed a line."""
 
@@ -51,4 +54,6 @@ def reply_text(content, command):
     if not parts or content[0] != command:
         raise NotOurs(f"{spelled(content)} is no reply to {numbers.command_text(command)}")
     address, count, data = parts
+    if int(address, 16) + count > ENDS[command]:
+        raise NotOurs(f"address {address} and count {count} go past the end, which is refused with 4")
     return f"reply to {numbers.command_text(command)}: address {address}, count {count}, " + (f"data {data}" if data else "no data")
