@@ -53,7 +53,7 @@ CALLS = [
     Call(("write",), 0, given=b"\xef\xbb\xbflift\n", printed=b"\x04"),
     # Lines that are not the program's
     Call(("explain",), 0, given=b"E 0000\n", printed=b"E 0000                                # end: page 0 is shown\n"),
-    Call(("explain",), 1, b"trace: standard input: 1 times a line is not the program's", b"\x1b[2J\nE 0000\n",
+    Call(("explain",), 1, b"trace: standard input: this is not what the program prints: see the 1 marked above", b"\x1b[2J\nE 0000\n",
          b"\\x1b[2J                               # not the program's: no line of the program has this form\n"
          b"E 0000                                # end: page 0 is shown\n"),
     Call(("explain", "--trace", str(FIRST), str(FIRST.with_suffix(".out"))), 0, printed=EXPLAINED),
@@ -72,6 +72,8 @@ CALLS = [
     Call(("explain", "--trace", str(FIRST), "--no-checking"), 2, b"trace: --trace says header and checking"),
     Call(("help",), 0, printed=help.HELP.encode()),
     Call(("--help",), 0, printed=help.HELP.encode()),
+    Call(("write", "-h"), 0, printed=help.HELP.encode()),
+    Call(("write", ""), 2, b"trace: a file without a name: No such file or directory\n"),
     # What cannot be read or written
     Call(("write", "{folder}/none"), 2, b"trace: {folder}/none: No such file or directory\n"),
     Call(("show", "{folder}"), 2, b"trace: {folder}: Is a directory\n"),

@@ -70,6 +70,7 @@ MISTAKES = [
 GARBAGE = [
     (b"\xff\xfes\0e\0t\0u\0p\0", "garbage, line 1: byte FF is no text: allowed is UTF-8"),
     (b"lift\nlift # \xe4\n", "garbage, line 2: byte E4 is no text: allowed is UTF-8"),
+    (b"\xef\xbb\xbflift\nlift # \xe4\n", "garbage, line 2: byte E4 is no text: allowed is UTF-8"),
     (bytes(range(128)), "garbage, line 1: byte 00 is a control character: allowed are tabs, and line feeds"),
     (b"lift\nlift \x1b[31m\n", "garbage, line 2: byte 1B is a control character"),
     (b"\r\n# a comment\rlift\rlift\r", "garbage, line 2: byte 0D is a control character"),

@@ -9,7 +9,7 @@ FRAME_FIELDS = {"badly": FLAG, "cut": number(1, 257), "length": number(0, 255)}
 TIMES = number(1, 1 << 24)
 REPEAT = {"repeat": TIMES}
 MOST_BYTES = 1 << 28        # of a trace: it is all held before any of it is written
-MOST_KNOWN = 1 << 16        # lines
+MOST_KNOWN, LONGEST_KNOWN = 1 << 16, 1 << 10        # lines that are remembered
 BLOCK = 1 << 20
 CONTROL = re.compile(rb"\r(?!\n)|[\x00-\x08\x0B\x0C\x0E-\x1F\x7F]")
 PLAIN = bytes(byte for byte in range(256) if byte >= 32 and byte != 127 or byte in b"\t\n")     # in most texts there is nothing else
@@ -54,7 +54,7 @@ class Assembler:
         if words[0] == "repeat":
             return self.repeated(*without_repeats(words))
         found = self.statement(words[0], words[1:])
-        if len(self.known) < MOST_KNOWN:
+        if len(self.known) < MOST_KNOWN and len(line) < LONGEST_KNOWN:
             self.known[line] = found
         return found
 
@@ -140,7 +140,7 @@ def decoded(data, source):
     try:
         text = data.decode("utf-8-sig")
     except UnicodeDecodeError as wrong:
-        refuse(data, wrong.start, source, "is no text: allowed is UTF-8")
+        refuse(wrong.object, wrong.start, source, "is no text: allowed is UTF-8")
     if data.translate(None, PLAIN) and (found := CONTROL.search(data)):
         refuse(data, found.start(), source, "is a control character: allowed are tabs, and line feeds with or without a carriage return before each")
     return text

@@ -37,7 +37,7 @@ def parsed(arguments):
             command.add_argument("--trace", metavar="TRACE")
             command.add_argument("--header", nargs=2, type=hex_byte, metavar=("H1", "H2"))
             command.add_argument("--no-checking", action="store_true")
-    return parser.parse_args(["help" if word in ("-h", "--help") else word for word in arguments[:1]] + arguments[1:])
+    return parser.parse_args(["help"] if "-h" in arguments or "--help" in arguments else arguments)
 
 
 # ---- The commands
@@ -71,7 +71,7 @@ def explain(options):
         streams.write("".join(explainer.explained(line) for line in lines).encode())
     streams.write(explainer.finished().encode())
     if explainer.strange:
-        raise Mistake(f"{streams.name_of(options.file)}: {explainer.strange} times a line is not the program's, or one is missing")
+        raise Mistake(f"{streams.name_of(options.file)}: this is not what the program prints: see the {explainer.strange} marked above with 'not'")
     return 0
 
 

@@ -10,7 +10,7 @@ from . import numbers
 from .layout import CONTACT_KIND, LIFT_KIND, RECORD_KIND, SETUP_KIND, setup_of, split
 from .records import record_text
 from .replies import NotOurs, acknowledgement_text, content_of, is_acknowledgement, reply_text
-from .show import contact_lines
+from .show import contact_text
 
 COLUMN = 36
 LONGEST_STRANGER = 60
@@ -49,7 +49,7 @@ def known_of(trace):
     if not events or events[0][0] != SETUP_KIND:
         return None
     setup = setup_of(events[0][1])
-    touches = ["lift" if kind == LIFT_KIND else contact_lines(bytes([kind]) + body)[:-1] for kind, body in events if kind in (CONTACT_KIND, LIFT_KIND)]
+    touches = ["lift" if kind == LIFT_KIND else contact_text(body) for kind, body in events if kind in (CONTACT_KIND, LIFT_KIND)]
     records = [record_text(body) for kind, body in events if kind == RECORD_KIND]
     return Known(setup.header, setup.checking, setup.checking and setup.acknowledging, setup.pages, touches, records)
 

@@ -8,6 +8,7 @@ from .records import record_text
 
 LINE_WIDTH = 16
 SHORT = 64
+CONTACT = "contact %d %d"
 HOW = {0x0000: "", 0x4000: "badly "}      # by what is turned over of the check value
 
 
@@ -25,8 +26,13 @@ def record_lines(run):
     return "".join(record_text(body) + "\n" for body in bodies(RECORD_KIND, run))
 
 
+def contact_text(body):
+    return CONTACT % struct.unpack(">HH", body)
+
+
 def contact_lines(run):
-    return "".join(["contact %d %d\n" % point for point in struct.iter_unpack(">xHH", run)])
+    line = CONTACT + "\n"
+    return "".join([line % point for point in struct.iter_unpack(">xHH", run)])
 
 
 def plain_lines(word):

@@ -19,13 +19,13 @@ def failed(name, error):
 
 
 def name_of(path):
-    return path or "standard input"
+    return "standard input" if path is None else path or "a file without a name"
 
 
 def pieces(path):
     """A file, or standard input where none is named, as it comes."""
     try:
-        source = os.open(path, os.O_RDONLY) if path else INPUT
+        source = INPUT if path is None else os.open(path, os.O_RDONLY)
         while True:
             try:
                 piece = os.read(source, PIECE)
