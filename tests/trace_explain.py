@@ -70,6 +70,10 @@ STRANGE = [
     (USUAL, "F 82 0\nO 5A A5 06 81 00 01 10 28 44\nE 0000\n", 1, "not the program's: no frame is due here"),
     (USUAL, "F 81 0\nO 12 34 06 81 00 01 10 28 44\nE 0000\n", 1, "not the program's: its header is 12 34, not 5A A5"),
     (USUAL, "F 81 0\nO 5A A5 07 81 00 01 10 28 44\nE 0000\n", 1, "not the program's: its length byte does not say the 6 bytes"),
+    (USUAL, "F 81 0\nO 5A A5\nE 0000\n", 1, "not the program's: its length byte does not say the 0 bytes"),
+    (USUAL, "F 81 0\nO 5A A5 02 81 00\nE 0000\n", 1, "not the program's: it is too short for a command and two check bytes"),
+    (USUAL, "F 81 0\nO 5A A5 03 81 00 00\nE 0000\n", 1, "not the program's: check wrong: 00 00, right is"),
+    (PLAIN, "F 81 0\nO 5A A5 00\nE 0000\n", 1, "not the program's: nothing is no reply to 81, read registers"),
     (USUAL, "F 81 0\nO 5A A5 06 81 00 01 11 28 44\nE 0000\n", 1, "not the program's: check wrong: 28 44, right is E9 84; reply to 81"),
     (USUAL, "F 81 0\nO 5A A5 04 81 00 01 10\nE 0000\n", 1, "not the program's: check wrong: 01 10, right is 61 E0; without check bytes it would be"),
     (PLAIN, "F 81 0\nO 5A A5 06 81 00 01 10 28 44\nE 0000\n", 1, "not the program's: 81 00 01 10 28 44 is no reply to 81"),
@@ -80,6 +84,8 @@ STRANGE = [
     (USUAL, "F 81 0\nE 0000\n", 1, "not whole: reply of 81 should stand above; end: page 0 is shown"),
     (USUAL, "B 81\nO 5A A5 04 81 FF 21 A0\nE 0000\n", 1, "not the program's: the acknowledgement of the line above is 81 00, not 81 FF"),
     (USUAL, ACKNOWLEDGED + "F 82 0\nE 0000\n", 4, "not whole: acknowledgement of 82 should stand above"),
+    (USUAL, ACKNOWLEDGED + ACKNOWLEDGED.replace("O 5A A5 04 81 FF 21 A0\n", "") + "E 0000\n", 4,
+     "not the program's: the acknowledgement of the line above is 81 FF, not 81 00 01 10"),
     (USUAL, "F 82 0\n" + ACKNOWLEDGED + "E 0000\n", 2, "not the program's: 81 FF is no reply to 81"),
 ]
 

@@ -52,7 +52,7 @@ def reply_parts(content):
 def reply_text(content, command):
     parts = reply_parts(content)
     if not parts or content[0] != command:
-        raise NotOurs(f"{spelled(content)} is no reply to {numbers.command_text(command)}")
+        raise NotOurs(f"{spelled(content) or 'nothing'} is no reply to {numbers.command_text(command)}")
     address, count, data = parts
     if int(address, 16) + count > ENDS[command]:
         raise NotOurs(f"address {address} and count {count} go past the end, which is refused with 4")
