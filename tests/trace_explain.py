@@ -38,6 +38,10 @@ RIGHT = [
         "accepted: 83, read words: done", "reply to 83, read words: address 0010, count 2, data 03E3 FFFB",
         "accepted: 83, read words: done", "reply to 83, read words: address 7000, count 0, no data",
         "stopped, 15: the trace is wrong: a cut or unknown record, none or two setups, a touch record behind an event"]),
+    (USUAL, "F 80 0\nF 80 5\nB 83\nF FF 2\nX 15\n", [
+        "accepted: 80, write registers: done", "accepted: 80, write registers: refused, 5: a register that may not be written, or one half of the page",
+        "bad check: 83, read words: nothing is done", "accepted: FF: refused, 2: no such command: there are 80 to 83",
+        f"stopped, 15: {numbers.MEANINGS[15]}"]),
     (USUAL, "X 13 2\n", ["stopped, 13: a touch record is wrong: record 2, counted from 0"]),
     (FIRST, "X 13 0\n", ["stopped, 13: a touch record is wrong: record 0, counted from 0: step page=0 area=10,10..100,50 word=0x0010 "
                          "mode=word up stop by=5 least=0 greatest=100"]),
@@ -133,7 +137,8 @@ def case_troubles():
 def readme_troubles():
     readme = (program.TOP / "README.md").read_text()
     rows = {int(number): (words, where) for number, words, where in re.findall(r"^\| (\d+) \| (.*?) \| (.*?) \|$", readme, re.MULTILINE)}
-    for number, words in numbers.MEANINGS.items():
+    for number in range(16):
+        words = numbers.MEANINGS[number]
         row = words, ", ".join(f"`{letter}`" for letter, given in numbers.OF_LINE.items() if number in given) or "none"
         if rows.get(number) != row:
             yield f"README's table has {rows.get(number)} for {number}; tools/tracing/numbers.py has {row}"
