@@ -1,0 +1,85 @@
+#!/usr/bin/env python3
+"""trace_speed.py: lets tools/trace show and write 10 MB of each kind of trace, says the seconds, and fails where one takes 5 or more.
+
+Seconds of the processor, since other work may run on the machine. Not a part of tests/run: making the traces takes longer than the rest.
+"""
+import pathlib
+import random
+import resource
+import struct
+import subprocess
+import sys
+import tempfile
+
+import model
+import program
+from panel_model import key, slider, step
+from trace_draw import drawn, table_events
+from trace_text import SETUP_KIND, on_line, setup_bytes, split
+
+SIZE, SECONDS = 10_000_000, 5
+SETUP = model.Setup(0x5A, 0xA5, 1, 2, 800, 480)
+OPENING = bytes([SETUP_KIND]) + setup_bytes(SETUP)
+
+
+def filled(piece_of):
+    """The opening, and pieces until the size is reached."""
+    trace = bytearray(OPENING)
+    while len(trace) < SIZE:
+        trace += piece_of()
+    return bytes(trace)
+
+
+def some_frame(r):
+    return on_line(model.frame(SETUP, 0x82, r.randbytes(2 + 2 * r.randrange(1, 20))))
+
+
+def some_record(r):
+    x, y = r.randrange(700), r.randrange(400)
+    make = r.choice((key, step, slider))
+    return table_events(make(area=(x, y, x + 80, y + 60), address=r.randrange(0x7000)))
+
+
+def kinds(r):
+    frames, records = [some_frame(r) for _ in range(5000)], [some_record(r) for _ in range(5000)]
+    yield "noise", OPENING + on_line(r.randbytes(SIZE // 2))
+    yield "header pairs, each claiming 255 bytes", OPENING + on_line(b"\x5A\xA5\xFF" * (SIZE // 6))
+    yield "frames", filled(lambda: r.choice(frames))
+    yield "contacts", filled(lambda: b"\x03" + struct.pack(">HH", r.randrange(800), r.randrange(480)))
+    yield "touch records", filled(lambda: r.choice(records))
+    yield "frames and touches in turn", filled(lambda: r.choice(frames) + b"\x03" + r.randbytes(4) + b"\x04")
+    yield "lifts", OPENING + b"\x04" * SIZE
+    yield "short reads, each with a mark", filled(lambda: on_line(model.frame(SETUP, 0x83, r.randbytes(3))) + b"\x02")
+    sessions = [trace for trace in (drawn(seed)[0] for seed in range(100)) if all(kind is not None for kind, _ in split(trace))]
+    yield "drawn sessions, one behind the other", filled(lambda: r.choice(sessions))
+
+
+def spent():
+    used = resource.getrusage(resource.RUSAGE_CHILDREN)
+    return used.ru_utime + used.ru_stime
+
+
+def seconds(command, given, printed):
+    before = spent()
+    with open(printed, "wb") as output:
+        subprocess.run([sys.executable, program.TOP / "tools" / "trace", command, given], stdout=output, stderr=subprocess.DEVNULL, check=True)
+    return spent() - before
+
+
+def main():
+    late = 0
+    with tempfile.TemporaryDirectory() as folder:
+        trace, text, again = (pathlib.Path(folder, name) for name in ("trace", "text", "again"))
+        for name, given in kinds(random.Random(1)):
+            trace.write_bytes(given)
+            shown, written = seconds("show", trace, text), seconds("write", text, again)
+            if again.read_bytes() != given:
+                sys.exit(f"{name}: the text does not assemble to the trace")
+            late += shown >= SECONDS or written >= SECONDS
+            size = text.stat().st_size / 1e6
+            print(f"{name}: {len(given) / 1e6:.1f} MB shown in {shown:.1f} s, {size:.1f} MB of text written in {written:.1f} s", flush=True)
+    return 1 if late else 0
+
+
+if __name__ == "__main__":
+    sys.exit(main())

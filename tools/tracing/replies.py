@@ -1,0 +1,59 @@
+"""A frame that the program wrote, taken apart: an acknowledgement, or a reply with address, count and data."""
+from . import numbers
+from .layout import spelled, two_checks
+
+
+ENDS = {0x81: 256, 0x83: 28672}
+
+
+class NotOurs(Exception):
+    """Why the program cannot have printed a line."""
+
+
+def content_of(frame, header, checking):
+    """Command and data, and what is wrong with the check; nothing is, where it is empty."""
+    if frame[:2] != header:
+        raise NotOurs(f"its header is {spelled(frame[:2])}, not {spelled(header)}; --header or --trace says another")
+    if len(frame) < 3 or frame[2] != len(frame) - 3:
+        raise NotOurs(f"its length byte does not say the {max(0, len(frame) - 3)} bytes that follow it")
+    if not checking:
+        return frame[3:], ""
+    content, check = frame[3:-2], frame[-2:]
+    if len(frame) < 6:
+        raise NotOurs("it is too short for a command and two check bytes" + hint(frame))
+    right = two_checks(content)
+    return content, "" if check == right else f"check wrong: {spelled(check)}, right is {spelled(right)}{hint(frame)}"
+
+
+def hint(frame):
+    """Where check bytes were looked for in a reply that has none."""
+    return "; without check bytes it would be a reply: --no-checking or --trace says so" if reply_parts(frame[3:]) else ""
+
+
+def is_acknowledgement(content):
+    return len(content) == 2
+
+
+def acknowledgement_text(content, command, accepted):
+    if content[0] != command or content[1] != (0xFF if accepted else 0x00):
+        raise NotOurs(f"the acknowledgement of the line above is {command:02X} {'FF' if accepted else '00'}, not {spelled(content)}")
+    return f"acknowledgement of {command:02X}: {'accepted (FF)' if accepted else 'bad check (00)'}"
+
+
+def reply_parts(content):
+    """Address and count as they are spelled, and the data; None for what is no reply."""
+    if content[:1] == b"\x81" and len(content) >= 3 and len(content) == 3 + content[2]:
+        return content[1:2].hex().upper(), content[2], spelled(content[3:])
+    if content[:1] == b"\x83" and len(content) >= 4 and len(content) == 4 + 2 * content[3]:
+        return content[1:3].hex().upper(), content[3], content[4:].hex(" ", 2).upper()
+    return None
+
+
+def reply_text(content, command):
+    parts = reply_parts(content)
+    if not parts or content[0] != command:
+        raise NotOurs(f"{spelled(content) or 'nothing'} is no reply to {numbers.command_text(command)}")
+    address, count, data = parts
+    if int(address, 16) + count > ENDS[command]:
+        raise NotOurs(f"address {address} and count {count} go past the end, which is refused with 4")
+    return f"reply to {numbers.command_text(command)}: address {address}, count {count}, " + (f"data {data}" if data else "no data")
