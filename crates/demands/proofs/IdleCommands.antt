@@ -23,10 +23,11 @@ use Rattle.demands.specs.Idle.{RefusesEveryCommand, dataReplied, Stand, 
 use Rattle.demands.proofs.Computed.{computingStart, computingCalls}
 use Rattle.demands.proofs.Story.{copies-below}
 
--- a panel with checking off, lent words of which the first is 1 and all others are 0
+-- a panel with checking off
 abbrev pub plain : Setup
 plain = record { h1 = 0x5A; h2 = 0xA5; flags = 0; pages = 2; width = 800; height = 480 }
 
+-- what it is lent: words of which the first is 1 and all others are 0
 abbrev pub words : List ℕ
 words = 1 ∷ replicate 28671 0
 

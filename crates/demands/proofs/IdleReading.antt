@@ -29,6 +29,7 @@ pub story-taken : started storySetup [] .answer ≡ start.Started
 unfolding computingStart
 story-taken = refl
 
+-- its start, with an empty table, lent what it must be
 abbrev pub storyStart : Start
 storyStart =
     record {
@@ -41,10 +42,11 @@ storyStart =
       taken = story-taken;
     }
 
--- one frame and two, each asked for, and a mark behind them
+-- one frame, asked for, and a mark behind it
 abbrev pub oneFrame : List Call
 oneFrame = bytes version ∷ ask ∷ mark ∷ []
 
+-- two frames, each asked for, and a mark behind them
 abbrev pub twoFrames : List Call
 twoFrames = bytes version ∷ ask ∷ bytes version ∷ ask ∷ mark ∷ []
 

@@ -24,6 +24,7 @@ pub record Start : Type 0 where
   pub words : Halfwords (lent .words)
   pub taken : started setup table .answer ≡ start.Started
 
+-- the moment right behind a start
 abbrev pub first : Start → Moment
 first s = begun (s .setup) (s .table) (s .lent)
 
@@ -31,12 +32,14 @@ first s = begun (s .setup) (s .table) (s .lent)
 abbrev pub since : Start → List Call → Moment
 since s calls = afterAll (first s) calls
 
+-- a build: what it does from a start on, in any calls
 pub record Build : Type 0 where
   -- the reports that it hands over in these calls, from a start on
   pub handsOver : Start → List Call → List Report
   -- the panel, the variable words and the reply room as these calls leave them
   pub leaves : Start → List Call → Moment
 
+-- the one that is proved here
 abbrev pub ours : Build
 ours = record { handsOver = λ s. handedOverAll (first s); leaves = since }
 

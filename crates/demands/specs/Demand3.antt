@@ -73,6 +73,7 @@ OnAnOpenLine =
     → ComeOnAnOpenLine (oneLessThanLongest (rulesOf (now .panel) .header)) now calls frames
     → acceptedOf (handedOverAll now calls) ≡ asAccepted now frames
 
+-- the same, ".. or a quiet mark has come right behind a whole good frame, and all reports are asked for"
 abbrev pub BehindAMark : Type 0
 BehindAMark =
     (now : Moment) (calls : List Call) (frames : List (List ℕ)) → ComeBehindAMark now calls frames
@@ -90,6 +91,7 @@ pub record AsNew (setup : Setup) (table : List ℕ) (now : Moment) : Type 0 wher
   pub new-reader : now .panel .reader ≡ newPanel setup .reader
   pub reads-as-new : ReadAlike now (begun setup table (now .lent))
 
+-- "After a quiet mark and its reports, with checking on or off, reading goes on as from a new panel, and no premise is needed.": from every start, in any calls
 abbrev pub AfterAMark : Type 0
 AfterAMark =
     (setup : Setup) (table : List ℕ) (lent : Lent) → started setup table .answer ≡ start.Started

@@ -51,10 +51,11 @@ RefusesEveryCommand build =
     → leftByAsking build s calls
     ≡ leaving (build .leaves s calls) command (build .leaves s calls .panel .registers) (build .leaves s calls .panel .catch) (build .leaves s calls .lent) []
 
--- "taking frames without storing": asking changes no register; it changes no word
+-- "taking frames without storing": asking changes no register
 abbrev pub StoresNoRegister : Build → Type 0
 StoresNoRegister build = (s : Start) (calls : List Call) → leftByAsking build s calls .panel .registers ≡ build .leaves s calls .panel .registers
 
+-- "taking frames without storing": asking changes no word
 abbrev pub StoresNoWord : Build → Type 0
 StoresNoWord build = (s : Start) (calls : List Call) → leftByAsking build s calls .lent .words ≡ build .leaves s calls .lent .words
 

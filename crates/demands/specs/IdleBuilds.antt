@@ -21,15 +21,18 @@ use Rattle.demands.specs.Idle.{dataReplied}
 
 -- The line: ours, but reports are handed over at some places of the line only.
 
+-- whether one of these inputs is a mark
 unfoldable pub hasMark : List Input → Bool
 hasMark [] = false
 hasMark (Line.byte b ∷ inputs) = hasMark inputs
 hasMark (Line.mark ∷ inputs) = true
 
+-- whether there is an input
 unfoldable pub hasSome : List Input → Bool
 hasSome [] = false
 hasSome (input ∷ inputs) = true
 
+-- whether one of these reports is of an accepted frame
 unfoldable pub hasAccepted : List Report → Bool
 hasAccepted [] = false
 hasAccepted (badCheck command ∷ reports) = hasAccepted reports
@@ -43,9 +46,11 @@ pub record LinePlace : Type 0 where
   pub closed : Bool
   pub accepted : Bool
 
+-- before any input
 abbrev pub atStart : LinePlace
 atStart = record { past-first = false; entered = false; closed = false; accepted = false }
 
+-- behind a stretch that is over, before the next one has an input
 abbrev pub betweenStretches : LinePlace
 betweenStretches = record { past-first = true; entered = false; closed = false; accepted = false }
 
@@ -56,13 +61,16 @@ moved at inputs reports waits =
     cond (closed && not waits) betweenStretches
     (record { past-first = at .past-first; entered = at .entered || hasSome inputs; closed = closed; accepted = at .accepted || hasAccepted reports })
 
+-- the same by the call itself, at the moment when it is made
 abbrev pub movedBy : Moment → LinePlace → Call → LinePlace
 movedBy now at call = moved at (given now call) (handedOver now call) (reportWaits (after now call .panel))
 
+-- what our panel hands over, but only where the test holds of the place on the line
 unfoldable pub handsOverAt : (LinePlace → Bool) → Moment → LinePlace → List Call → List Report
 handsOverAt here now at [] = []
 handsOverAt here now at (call ∷ calls) = cond (here at) (handedOver now call) [] ++ handsOverAt here (after now call) (movedBy now at call) calls
 
+-- ours, but that it hands reports over at those places only
 abbrev pub readingAt : (LinePlace → Bool) → Build
 readingAt here = record { handsOver = λ s. handsOverAt here (first s) atStart; leaves = ours .leaves }
 
@@ -88,10 +96,12 @@ leavesOwn asks now own ask = asks now own
 leavesOwn asks now own (contact c) = after own (contact c)
 leavesOwn asks now own lift = after own lift
 
+-- what a whole list of calls leaves so
 unfoldable pub leavesAll : (Moment → Moment → Moment) → (now own : Moment) → List Call → Moment
 leavesAll asks now own [] = own
 leavesAll asks now own (call ∷ calls) = leavesAll asks (after now call) (leavesOwn asks now own call) calls
 
+-- ours, but that asking leaves what this says
 abbrev pub askedBy : (Moment → Moment → Moment) → Build
 askedBy asks = record { handsOver = ours .handsOver; leaves = λ s. leavesAll asks (first s) (first s) }
 
@@ -101,6 +111,7 @@ acknowledging [] own = after own ask
 acknowledging (badCheck command ∷ later) own = after own ask
 acknowledging (acceptedFrame command content ∷ later) own = leaving own command (own .panel .registers) (own .panel .catch) (own .lent) []
 
+-- "refusing every frame": nothing is left of a command but its acknowledgement
 abbrev pub doesNothing : Build
 doesNothing = askedBy (λ now. acknowledging (handedOver now ask))
 
@@ -114,6 +125,7 @@ storesNoRegister =
       lent = left .lent;
     })
 
+-- "taking frames without storing": the words stay
 abbrev pub storesNoWord : Build
 storesNoWord = askedBy (λ now own. record { panel = after own ask .panel; lent = withWords (after own ask .lent) (own .lent .words) })
 
@@ -126,6 +138,7 @@ withStood command width address content own =
     leaving own command (own .panel .registers) (own .panel .catch) (own .lent)
     (frameOf (checkingOf setup) (headerOf setup) command (address ++ (count ∷ dataReplied setup command width count (own .lent .room))))
 
+-- what asking leaves so, by the number given and the report handed over
 unfoldable pub replyingAlike : (number : ℕ) → List Report → Moment → Moment
 replyingAlike number [] own = after own ask
 replyingAlike number (badCheck command ∷ later) own = after own ask
@@ -134,5 +147,6 @@ replyingAlike number (acceptedFrame command content ∷ later) own =
     (cond (eqb number 0 && eqb command 0x83) (withStood 0x83 2 (0x00 ∷ 0x00 ∷ []) content own)
     (after own ask))
 
+-- "replying alike to all reads"
 abbrev pub repliesAlike : Build
 repliesAlike = askedBy (λ now. replyingAlike (numberGiven now ask) (handedOver now ask))
