@@ -13,6 +13,7 @@ text: what stands in quotation marks, part by part between ".." or [our own word
 its columns, or with : behind its number.
 """
 import argparse
+import collections
 import dataclasses
 import functools
 import pathlib
@@ -35,12 +36,20 @@ COMPUTES = {"abbrev", "unfoldable", "data", "record"}
 
 @dataclasses.dataclass(frozen=True)
 class Declaration:
+    crate: str
     file: pathlib.Path
     name: str
+    # Which of `pub`, `abbrev`, `unfoldable`, `data`, `record` stand before the name.
     words: frozenset
-    # The comment lines right above it, and what it says: of a definition all of it, of a theorem what is proved, with the parameters of the modules around it.
+    # The comment right above it, and where its text, without that, begins and ends in the file.
     comment: str
+    begin: int
+    end: int
+    # What it says, comments left out: of a definition all, of a theorem what is proved; and the parameters of the modules around it.
     says: str
+
+    def text(self):
+        return self.file.read_text()[self.begin:self.end]
 
     def told(self):
         return f"{self.file.relative_to(TOP)}: {self.name}"
@@ -51,7 +60,8 @@ class Declaration:
 
 
 def without_comments(text):
-    return re.sub(r"--(?=\s|$)[^\n]*", "", text)
+    """The text with comments as spaces, each other character at its place."""
+    return re.sub(r"--(?=\s|$)[^\n]*", lambda found: " " * len(found.group()), text)
 
 
 def comment_above(lines, at):
@@ -66,7 +76,7 @@ def comment_above(lines, at):
 
 
 def outlined(lines):
-    """Each declaration of a file: the line that it begins at, its lines, and the parameters of the modules around it."""
+    """Each declaration of a file: its first line's number and the one behind its last line, and the parameters of the modules around it."""
     modules, found, at = [], [], 0
     while at < len(lines):
         first, body = at, lines[at].lstrip()
@@ -82,28 +92,31 @@ def outlined(lines):
                 at += 1
             modules.append((depth, " ".join(lines[first:at])))
         elif top and DECLARES.match(body):
-            found.append((first, [body], [parameters for _, parameters in modules]))
+            found.append([first, at, [parameters for _, parameters in modules]])
         elif found:
-            found[-1][1].append(body if top else lines[first])
+            found[-1][1] = at
     return found
 
 
-def statement(body):
-    """The lines of a theorem up to the first that proves it."""
-    for count, line in enumerate(body):
-        if line.startswith("unfolding ") or count and re.match(r"\S", line):
-            return body[:count]
-    return body
+def statement(lines):
+    """The lines of a theorem before those that prove it, which stand as far to the right as its first."""
+    depth = len(lines[0]) - len(lines[0].lstrip())
+    count = next((n for n, line in enumerate(lines) if n and line[depth:depth + 1].strip()), len(lines))
+    return lines[:count]
 
 
-def declarations_in(file, side):
-    lines = file.read_text().split("\n")
-    for at, body, parameters in outlined(lines):
-        form = DECLARES.match(body[0])
+def declarations_in(crate, side, file):
+    text = file.read_text()
+    lines = text.split("\n")
+    begins = [0]
+    for line in lines:
+        begins.append(begins[-1] + len(line) + 1)
+    for first, behind, parameters in outlined(lines):
+        form = DECLARES.match(lines[first].lstrip())
         words = frozenset(filter(None, [*form.group(1).split(), form.group(2)]))
-        name = form.group(3) or form.group(4)
-        says = body if side == "specs" or words & COMPUTES else statement(body)
-        yield Declaration(file, name, words, comment_above(lines, at), without_comments("\n".join([*parameters, *says])))
+        body = lines[first:behind]
+        says = without_comments("\n".join([*parameters, *(body if side == "specs" or words & COMPUTES else statement(body))]))
+        yield Declaration(crate, file, form.group(3) or form.group(4), words, comment_above(lines, first), begins[first], min(begins[behind], len(text)), says)
 
 
 @functools.cache
@@ -115,13 +128,13 @@ def declarations():
             folder = TOP / "crates" / crate / side
             for file in sorted(folder.rglob("*.antt")):
                 module = ".".join(file.relative_to(folder).with_suffix("").parts)
-                for each in declarations_in(file, side):
+                for each in declarations_in(crate, side, file):
                     key = crate, side, module, each.name
                     found[key] = each.beside(found.get(key))
     return found
 
 
-def definitions(side):
+def definitions(side="specs"):
     """What specs/ declares, or what proofs/ declares and does not prove."""
     return {key: each for key, each in declarations().items() if key[1] == side and (side == "specs" or each.words & COMPUTES)}
 
@@ -176,33 +189,47 @@ def cites(key):
 
 
 def promised():
-    """What the promises of public functions speak of, each with such a function."""
+    """What the promises of public functions speak of, each with those functions."""
+    found = collections.defaultdict(set)
     for crate in source.crates():
         for function in source.functions(crate):
             if function.public:
                 for key in spoken_of(function.contract, function.file):
-                    yield key, f"the promise of {crate}::{function.name}"
+                    found[key].add(f"the promise of {crate}::{function.name}")
+    return found
 
 
 def claimed():
-    """The theorems and definitions that docs/CLAIMS.md names."""
-    named = set(re.findall(r"`([^`\s]+)`", (TOP / "docs" / "CLAIMS.md").read_text()))
+    """The theorems and definitions that docs/CLAIMS.md names. Of crates that share a name those are meant that the section speaks of, where there are such."""
+    named = collections.defaultdict(list)
     for key, each in declarations().items():
-        if "pub" in each.words and each.name in named:
-            yield key, f"the claim {key[0]} {each.name}"
+        if "pub" in each.words:
+            named[each.name].append(key)
+    found = collections.defaultdict(set)
+    for section in re.split(r"^## ", (TOP / "docs" / "CLAIMS.md").read_text(), flags=re.M):
+        crates = {crate for crate in source.crates() if re.search(rf"(?<![\w/]){crate}/|[Cc]rates? `?{crate}\b", section)}
+        for name in re.findall(r"`([^`\s]+)`", section):
+            for key in [key for key in named[name] if key[0] in crates] or named[name]:
+                found[key].add(f"the claim {key[0]} {name}")
+    return found
+
+
+def reached_from(causes):
+    """Each declaration that is spoken of, by a cause or by another that is, with what first led to it."""
+    reached = {key: min(each) for key, each in sorted(causes.items())}
+    todo = list(reached)
+    while todo:
+        key = todo.pop()
+        for other in sorted(cites(key) - reached.keys()):
+            reached[other] = reached[key]
+            todo.append(other)
+    return reached
 
 
 @functools.cache
 def believed():
-    """Each declaration that a promise or a claim speaks of, with the first that does."""
-    reached = dict(sorted([*promised(), *claimed()], reverse=True))
-    todo = list(reached)
-    while todo:
-        key = todo.pop()
-        for other in cites(key) - reached.keys():
-            reached[other] = reached[key]
-            todo.append(other)
-    return reached
+    """Each declaration that has to be believed, with what first led to it."""
+    return reached_from({**claimed(), **promised()})
 
 
 # ---- Quotations

@@ -60,7 +60,7 @@ heldDown setup pad words x y =
     let registers = withPlace (withStatus (pad .registers) 0x03) x y in
     touching (padWith registers (pad .catch)) (dragging setup (pad .catch) words x y)
 
--- "Contact while up"; "Contact while down"
+-- "Contact while up" or "Contact while down", as the status says
 unfoldable pub touched : Setup → Pad → List ℕ → List ℕ → (x y : ℕ) → Touching
 touched setup pad table words x y = cond (isDown (pad .registers)) (heldDown setup pad words x y) (pressed setup pad table words x y)
 

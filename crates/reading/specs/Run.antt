@@ -43,7 +43,7 @@ run rules kept (offer input ∷ events) =
     cond (waiting rules kept) (run rules kept events) (giving input (run rules (withInput rules kept input) events))
 run rules kept (ask ∷ events) = handing (handed rules kept) (run rules (afterReport rules kept) events)
 
--- "A quiet mark .. closes a stretch.": the line behind one that a mark has closed, or not
+-- "A quiet mark .. closes a stretch.": the line with that mark in front, where it has been given
 unfoldable pub closing : Bool → List Input → List Input
 closing true line = mark ∷ line
 closing false line = line

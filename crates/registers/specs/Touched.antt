@@ -17,7 +17,8 @@ pageOf registers = word (registerAt registers 0x03) (registerAt registers 0x04)
 unfoldable pub withPage : Registers → ℕ → Registers
 withPage registers page = holding (laidAt 0x03 (highFirst page) (registers .bytes))
 
--- "06 | touch status": 01 and 03 while down, 02 once lifted, 00 before the first contact
+-- "Contact while up: status 01", "Contact while down: status 03": down while one of the two stands in "06 | touch status"; 02 once lifted, 00 before the
+-- first contact
 unfoldable pub isDown : Registers → Bool
 isDown registers = eqb (registerAt registers 0x06) 0x01 || eqb (registerAt registers 0x06) 0x03
 
