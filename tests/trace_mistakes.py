@@ -1,11 +1,13 @@
 #!/usr/bin/env python3
-"""Texts that tools/trace must not assemble, and what it says to each: the line, the field, the value and what is allowed.
+"""Texts that tools/trace must not assemble, and what it says to each: the line, the field, the value and what is allowed; and what right
+ones mean and are shown as.
 
 How the tool is called, and what comes of its pipes and files, is tried in trace_calls.py.
 """
+import itertools
 import sys
 
-from trace_text import Mistake, decoded, trace_of
+from trace_text import Mistake, decoded, text_of, trace_of
 
 SETUP = "setup header=5A A5 checking pages=2 width=800 height=480\n"
 BARE = SETUP.replace("checking ", "")
@@ -64,6 +66,7 @@ MISTAKES = [
     (SETUP + "frame cut=8 81 00 01", "line 2: frame: cut: '8': allowed is less than the frame's 8 bytes"),
     (SETUP + "frame badly cut=1 81 00 01", "line 2: frame: badly: stands beside cut: allowed is one of the two"),
     (SETUP + "frame 82" + " 00" * 253, "line 2: frame: 253 bytes of data: allowed are 252 by the setup before it"),
+    (BARE + "frame 82" + " 00" * 255, "line 2: frame: 255 bytes of data: allowed are 254 by the setup before it"),
     (BARE + "frame badly 81 00 01", "line 2: frame: badly: the setup before it is without checking"),
     # Repeats
     (SETUP + "repeat 3", "line 2: repeat: a number or a statement is missing"),
@@ -97,6 +100,12 @@ MEANT = [
     (KEY + " next=0xFF12 code=1", "05 0000 0000 0000 0009 0009 FF12 FF00 FE05 FE 0010 00 0001" + "00" * 10),
     (KEY + " next=0 code=65535", "05 0000 0000 0000 0009 0009 0000 FF00 FE05 FE 0010 00 FFFF" + "00" * 10),
     (KEY.replace("mode=word", "mode=255") + " next=65535 code=0", "05 0000 0000 0000 0009 0009 FFFF FF00 FE05 FE 0010 FF 0000" + "00" * 10),
+    (KEY.replace("=word", "=high") + " code=1", "05 0000 0000 0000 0009 0009 FF00 FF00 FE05 FE 0010 01 0001" + "00" * 10),
+    (STEP.replace("=word", "=low") + " least=-2 greatest=300", "05 0000 0000 0000 0009 0009 FF00 FF00 FE02 FE 0010 02 01 00 0001 FFFE 012C 01 000000"),
+    ("step down round by=65535 least=0 greatest=0" + FIELDS, "05 0000 0000 0000 0009 0009 FF00 FF00 FE02 FE 0010 00 00 01 FFFF 0000 0000 01 000000"),
+    (SLIDER.replace("word across", "high down") + " begin=1 end=2", SLIDER_BYTES.replace("0010 00", "0010 11") + "0001 0002"),
+    (SLIDER.replace("word across", "low across") + " begin=1 end=2", SLIDER_BYTES.replace("0010 00", "0010 20") + "0001 0002"),
+    (BARE + "frame 82" + " 00" * 254, "00 5A A5 00 0002 0320 01E0 015A 01A5 01FF 0182" + "0100" * 254),
     ("contact 65535 0", "03 FFFF 0000"),
     (SETUP + "frame length=255 cut=7 81 00 01", "00 5A A5 01 0002 0320 01E0 015A"),
     (SETUP + "frame length=0 81", "00 5A A5 01 0002 0320 01E0 015A 01A5 0100 0181 017F 0120"),
@@ -104,6 +113,47 @@ MEANT = [
     ("repeat 3 setup header=00 FF pages=0 width=0 height=1\nframe 00", "00 00FF 00 0000 0000 0001" * 3 + "0100 01FF 0101 0100"),
     ("repeat 2 repeat 2 lift", "04 04 04 04"),
 ]
+
+# Texts that `show` prints as they stand, each line behind those before it.
+SHOWN = """\
+line 00 01
+setup header=5A A5 flags=07 pages=0 width=65535 height=1
+setup header=5A A5 pages=2 width=800 height=480
+frame 82 00 10 00
+line 5A A5 00 82
+setup header=5A A5 checking acknowledging pages=2 width=800 height=480
+frame 81 00 01
+frame badly 81 00 01
+line 5A A5 05 81 00 01 E0 29 5A A5 02 81 00 5A A5 03
+line 81 00
+key page=0 area=0,0..9,9 word=0x7000 mode=high code=0x00FF
+key page=65535 area=65535,0..9,9 next=65279 word=0xFFFF mode=3 code=0x0000
+key page=0 area=0,0..9,9 next=0xFF01 word=0x0000 mode=255 code=0x0000
+step page=0 area=0,0..9,9 next=0 word=0x0010 mode=low down round by=65535 least=-32768 greatest=32767
+step page=0 area=0,0..9,9 next=1 word=0x0010 mode=16 up stop by=0 least=0 greatest=-1
+slider page=0 area=0,1..2,3 word=0x0010 mode=word across begin=0 end=255
+slider page=0 area=0,1..2,3 word=0x0010 mode=low down begin=-1 end=1
+slider page=0 area=0,1..2,3 word=0x0010 mode=2 begin=0 end=0
+slider page=0 area=0,1..2,3 word=0x0010 mode=48 begin=0 end=0
+record 00 00 00 00 00 00 00 09 00 09 FF 00 FF 00 FE 05 FE 00 10 00 00 01 00 00 00 00 00 00 00 00 00 01
+record 00 00 00 00 00 00 00 09 00 09 FF 00 FF 01 FE 05 FE 00 10 00 00 01 00 00 00 00 00 00 00 00 00 00
+record 00 00 00 00 00 00 00 09 00 09 FF 00 FF 00 FE 05 FF 00 10 00 00 01 00 00 00 00 00 00 00 00 00 00
+record 00 00 00 00 00 00 00 09 00 09 FF 00 FF 00 FE 04 FE 00 10 00 00 01 00 00 00 00 00 00 00 00 00 00
+record 00 00 00 00 00 00 00 09 00 09 FF 00 FF 00 FE 02 FE 00 10 00 02 00 00 01 00 00 00 09 01 00 00 00
+record 00 00 00 00 00 00 00 09 00 09 FF 00 FF 00 FE 02 FE 00 10 00 01 02 00 01 00 00 00 09 01 00 00 00
+record 00 00 00 00 00 00 00 09 00 09 FF 00 FF 00 FE 02 FE 00 10 00 01 00 00 01 00 00 00 09 02 00 00 00
+record 00 00 00 00 00 00 00 09 00 09 FF 00 FF 00 FE 03 FE 00 10 00 00 00 00 00 00 09 00 08 00 00 00 00
+frame 81
+quiet
+line 5A A5 02 FF FF
+contact 65535 0
+setup header=5A 5A flags=04 pages=2 width=800 height=480
+line 5A
+frame 81 00 01
+lift
+bytes 06 04 04 04 04 04 04 04 04 04 04 04 04 04 04 04
+bytes 04
+"""
 
 
 def said(make):
@@ -123,6 +173,9 @@ def troubles():
     for text, meant in MEANT:
         if (found := trace_of(decoded(text.encode(), "text"))) != bytes.fromhex(meant):
             yield f"{text!r} gives {found.hex(' ')}, meant is {meant}"
+    for line, shown in itertools.zip_longest(SHOWN.splitlines(), text_of(trace_of(SHOWN)).splitlines()):
+        if line != shown:
+            yield f"{line} is shown as {shown}"
 
 
 def main():

@@ -16,6 +16,7 @@ import program
 from panel_model import key, slider, step
 from trace_draw import drawn, table_events
 from trace_text import SETUP_KIND, on_line, setup_bytes, split
+from tracing.layout import frame
 
 SIZE, SECONDS = 10_000_000, 5
 SETUP = model.Setup(0x5A, 0xA5, 1, 2, 800, 480)
@@ -30,8 +31,12 @@ def filled(piece_of):
     return bytes(trace)
 
 
-def some_frame(r):
-    return on_line(model.frame(SETUP, 0x82, r.randbytes(2 + 2 * r.randrange(1, 20))))
+def some_write(r):
+    return on_line(frame(SETUP, b"\x82" + r.randbytes(2 + 2 * r.randrange(1, 20))))
+
+
+def some_read(r):
+    return on_line(frame(SETUP, b"\x83" + r.randbytes(3)))
 
 
 def some_record(r):
@@ -41,15 +46,14 @@ def some_record(r):
 
 
 def kinds(r):
-    frames, records = [some_frame(r) for _ in range(5000)], [some_record(r) for _ in range(5000)]
     yield "noise", OPENING + on_line(r.randbytes(SIZE // 2))
     yield "header pairs, each claiming 255 bytes", OPENING + on_line(b"\x5A\xA5\xFF" * (SIZE // 6))
-    yield "frames", filled(lambda: r.choice(frames))
+    yield "frames", filled(lambda: some_write(r))
     yield "contacts", filled(lambda: b"\x03" + struct.pack(">HH", r.randrange(800), r.randrange(480)))
-    yield "touch records", filled(lambda: r.choice(records))
-    yield "frames and touches in turn", filled(lambda: r.choice(frames) + b"\x03" + r.randbytes(4) + b"\x04")
+    yield "touch records", filled(lambda: some_record(r))
+    yield "frames and touches in turn", filled(lambda: some_write(r) + b"\x03" + r.randbytes(4) + b"\x04")
     yield "lifts", OPENING + b"\x04" * SIZE
-    yield "short reads, each with a mark", filled(lambda: on_line(model.frame(SETUP, 0x83, r.randbytes(3))) + b"\x02")
+    yield "short reads, each with a mark", filled(lambda: some_read(r) + b"\x02")
     sessions = [trace for trace in (drawn(seed)[0] for seed in range(100)) if all(kind is not None for kind, _ in split(trace))]
     yield "drawn sessions, one behind the other", filled(lambda: r.choice(sessions))
 

@@ -2,7 +2,7 @@
 import functools
 import struct
 
-from .checks import Checks
+from .checks import Checks, check_value
 from .layout import BODIES, BYTE_KIND, CONTACT_KIND, LIFT_KIND, QUIET_KIND, RECORD_KIND, SETUP_KIND, bodies, runs, setup_of, spelled
 from .records import record_text
 
@@ -49,6 +49,11 @@ def byte_lines(name, given):
 
 # ---- Line bytes
 
+def checks_of(line):
+    """The check value of a piece; in a short stretch nothing is gained by working out all of them at once."""
+    return Checks(line).of if len(line) > SHORT else lambda begin, end: check_value(line[begin:end])
+
+
 def frames(setup, line):
     """The frames that a `frame` statement of few words gives: where each begins and ends, and its text."""
     header, ending, size = setup.header, 2 if setup.checking else 0, len(line)
@@ -58,7 +63,7 @@ def frames(setup, line):
         end = p + 3 + length
         if length > ending and end <= size:
             if ending:
-                check_of = check_of or Checks(line).of
+                check_of = check_of or checks_of(line)
                 how = HOW.get(check_of(p + 3, end - 2) ^ line[end - 2] ^ line[end - 1] << 8)
             else:
                 how = ""
@@ -75,9 +80,13 @@ def line_lines(setup, line):
         return byte_lines("line", line)
     texts, begun = [], 0
     for begin, end, text in frames(setup, line):
-        texts += (byte_lines("line", line[begun:begin]), text)
+        if begun < begin:
+            texts.append(byte_lines("line", line[begun:begin]))
+        texts.append(text)
         begun = end
-    return "".join(texts) + byte_lines("line", line[begun:])
+    if begun < len(line):
+        texts.append(byte_lines("line", line[begun:]))
+    return "".join(texts)
 
 
 @functools.lru_cache(1 << 14)
