@@ -106,15 +106,15 @@ fails held text = shows (withTrace held (stopped (held .trace))) text
 
 -- ---- What is asked of a trace
 
--- a report waits
-abbrev pub waits : Trace → Bool
-waits trace = busy (trace .panel .reader)
-
 unfoldable pub isStarted : Stage → Bool
 isStarted Bare = false
 isStarted Ready = false
 isStarted Started = true
 isStarted Over = false
+
+-- a report waits: there is none before a start, and none after an X
+abbrev pub waits : Trace → Bool
+waits trace = isStarted (trace .stage) && busy (trace .panel .reader)
 
 unfoldable pub isOver : Stage → Bool
 isOver Bare = false

@@ -110,7 +110,11 @@ impl Trace {
         ensures { λ r. ⌜ r ≡ waits self ⌝ }
     {
         let panel = self.panel;
-        panel.is_waiting()
+        if panel.is_waiting() {
+            let stage = self.stage;
+            return stages::is_started(stage);
+        }
+        false
     }
 
     // Whether the trace has failed, so that nothing more is printed.
