@@ -5,6 +5,7 @@ use mathlib.Core.List.{List}
 use Prim.Native.Nat.{ℕ, _<_}
 use Rattle.frame.specs.Writer as Writer
 use Rattle.frame.specs.Writer.{writing}
+use Rattle.commands.specs.Lent.{Lent}
 use Rattle.touch.specs.declared.Setup.{Setup}
 use Rattle.panel.specs.declared.StartAnswer.the-variants as start
 use Rattle.panel.specs.declared.ContactAnswer.the-variants as contact-answer
@@ -14,8 +15,9 @@ use Rattle.panel.specs.Contacts.{contacting, Contact}
 use Rattle.panel.specs.Sound.{Sound}
 use Rattle.panel.proofs.Invariant.{reachable-sound}
 use Rattle.panel.proofs.Refusals.{refused-start-gives-none}
-use Rattle.demands.specs.Calls.{Moment, Call, numberGiven, Typed, Arises}
+use Rattle.demands.specs.Calls.{Moment, Call, begun, numberGiven, Typed, Arises}
 use Rattle.demands.specs.Demand1.{firstNumber, GivenUnder, printed, printedStart, printedWriter, NamesFirstWrong, RefusalLeaves}
+use Rattle.demands.specs.NoPanel.{Inert}
 use Rattle.demands.proofs.Calls.{arises-reachable}
 use Rattle.demands.specs.Done.{DoneExactly}
 use Rattle.demands.proofs.Done.{done-exactly, printed-above, start-above, writer-above}
@@ -24,6 +26,7 @@ use Rattle.demands.proofs.TableNumbers as TableNumbers
 use Rattle.demands.proofs.FirstNumber as FirstNumber
 use Rattle.demands.proofs.Refusals.{call-refused}
 use Rattle.demands.proofs.WriterRefused.{refused-writer-room}
+use Rattle.demands.proofs.NoPanel.{no-panel-inert}
 
 -- "No sequence of line bytes, quiet marks, contacts, lifts, tables or lent buffers can put the panel into an undefined act or an unending one.": the
 -- checker takes no function that it has not proved to be safe and to end on every input. What every panel keeps besides, whatever the sequence:
@@ -86,6 +89,11 @@ refusal-leaves-all-else now arises call fits = call-refused now (arises-reachabl
 -- "A refused start gives no panel."
 pub refused-start-gives-no-panel : (setup : Setup) (table : List ℕ) → 0 < startNumber (started setup table .answer) → started setup table .panel ≡ noPanel
 refused-start-gives-no-panel = refused-start-gives-none
+
+-- and what stands in its place is inert, whatever is lent and called
+pub refused-start-is-inert : (setup : Setup) (table : List ℕ) → 0 < startNumber (started setup table .answer)
+    → (lent : Lent) (calls : List Call) → Inert (begun setup table lent) calls
+refused-start-is-inert setup table above lent calls = rw (refused-start-gives-none setup table above) (no-panel-inert lent calls)
 
 -- frame writer: "it refuses with 14, then 3", and "a refusal changes nothing": the room is left as it was lent
 pub refused-writer-leaves-its-room : (checking : Bool) (header : List ℕ) (command : ℕ) (payload room : List ℕ)

@@ -3,6 +3,8 @@ use mathlib.Core.Path.{sym, _∙_}
 use Rattle.wire.proofs.OneAnswer.{OneAnswer}
 use Rattle.line.proofs.Reader.new.Reads as new
 use Rattle.line.proofs.Reader.new.Kinds as new-kinds
+use Rattle.line.proofs.Reader.none.Reads as none
+use Rattle.line.proofs.Reader.none.Kinds as none-kinds
 use Rattle.line.proofs.Reader.is_waiting.Reads as is-waiting
 use Rattle.line.proofs.Reader.is_waiting.Kinds as is-waiting-kinds
 use Rattle.line.proofs.Reader.give_byte.Reads as give-byte
@@ -16,6 +18,9 @@ use Rattle.line.proofs.Reader.give_bytes.Kinds as give-bytes-kinds
 
 pub new-determined : OneAnswer 0 new-kinds.ps new-kinds.r new.Post
 new-determined κs a x y s t p q = p ∙ sym q
+
+pub none-determined : OneAnswer 0 none-kinds.ps none-kinds.r none.Post
+none-determined κs a x y s t p q = p ∙ sym q
 
 pub is-waiting-determined : OneAnswer 0 is-waiting-kinds.ps is-waiting-kinds.r is-waiting.Post
 is-waiting-determined κs a x y s t p q = p ∙ sym q

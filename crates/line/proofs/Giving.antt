@@ -19,7 +19,7 @@ use Rattle.place.proofs.Stops.{look-nothing}
 use Rattle.line.specs.declared.Line.{Line}
 use Rattle.line.specs.declared.Reader.{Reader}
 use Rattle.line.specs.declared.Answer.the-variants.{Done, Waits}
-use Rattle.line.specs.State.{rulesFor, padded, readerOf, settledReader}
+use Rattle.line.specs.State.{rulesFor, padded, readerOf, settledReader, noReader}
 use Rattle.line.specs.Methods.{isAnswer, takes, busy, gives, givenByte, givenMark}
 use Rattle.line.proofs.Truths.{and-left}
 
@@ -53,6 +53,12 @@ module _ (n : ℕ) (head : Look) (r : Bool) (is : r ≡ takes n head) (free : r 
 pub new-is : (line : Line) (held : List ℕ) → held ≡ padded longestFrame []
     → _≡_ {A = Reader} (record { line = line; held = held; len = 0; closed = false; head = Wait }) (readerOf line fresh)
 new-is line held empty = rw (empty, look-nothing (rulesFor line))
+
+-- what stands where there is none
+pub none-is : (held : List ℕ) → held ≡ padded longestFrame []
+    → _≡_ {A = Reader} (record { line = record { header = record { h1 = 0; h2 = 0 }; checking = false }; held = held; len = longestFrame; closed = false; head = Wait }) noReader
+unfolding noReader
+none-is held empty = rw empty
 
 pub waits-if : (reader : Reader) (r : Bool) → r ≡ takes (reader .len) (reader .head) → not r ≡ busy reader
 waits-if reader r is = ap not is

@@ -1,4 +1,4 @@
-// A new reader, and the inputs that it is given: bytes, one or many, and quiet marks.
+// A new reader, none, and the inputs that one is given: bytes, one or many, and quiet marks.
 use crate::Answer;
 use crate::Gave;
 use crate::Given;
@@ -9,10 +9,11 @@ use crate::feed;
 use crate::head;
 use crate::settle;
 use frame::Header;
+use frame::LONGEST_FRAME;
 use place::Look;
 ghost use mathlib.Core.Path.{_≡_};
 ghost use Rattle.reading.specs.Moves.{fresh};
-ghost use Rattle.line.specs.State.{readerOf};
+ghost use Rattle.line.specs.State.{readerOf, noReader};
 ghost use Rattle.line.specs.Methods.{busy, answerSaid, inputSaid, givenByte, givenMark, givenBytes};
 
 impl Reader {
@@ -28,6 +29,23 @@ impl Reader {
             },
             held: held,
             len: 0,
+            closed: false,
+            head: Look::Wait,
+        }
+    }
+
+    // What stands where there is no reader: full without a report, it takes nothing and hands nothing over.
+    pub fn none() -> Reader
+        ensures { λ r. ⌜ r ≡ noReader ⌝ }
+    {
+        let held = arrays::no_bytes();
+        Reader {
+            line: Line {
+                header: Header { h1: 0, h2: 0 },
+                checking: false,
+            },
+            held: held,
+            len: LONGEST_FRAME,
             closed: false,
             head: Look::Wait,
         }

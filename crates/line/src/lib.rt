@@ -1,7 +1,7 @@
 // The line reader of 01, "Reading the line": bytes and quiet marks are given, reports are asked for.
 // A reader is a value: a method takes it and hands back the next one.
 
-// Reader: new, is_waiting, give_byte, give_bytes, give_mark.
+// Reader: new, none, is_waiting, give_byte, give_bytes, give_mark.
 mod inputs;
 // Reader: ask.
 mod ask;

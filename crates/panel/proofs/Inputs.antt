@@ -7,7 +7,7 @@ use Rattle.frame.specs.declared.Header.{Header}
 use Rattle.line.specs.declared.Reader.{Reader}
 use Rattle.line.specs.declared.Given.{Given}
 use Rattle.line.specs.declared.Gave.{Gave}
-use Rattle.line.specs.State.{readerOf}
+use Rattle.line.specs.State.{readerOf, noReader}
 use Rattle.line.specs.Methods.{givenByte, givenMark, givenBytes}
 use Rattle.reading.specs.Moves.{fresh}
 use Rattle.registers.specs.declared.Registers.{Registers}
@@ -33,9 +33,10 @@ pub new-made : (setup : Setup) (c k : Bool) (header : Header) (registers : Regis
 unfolding newPanel
 new-made setup c k header registers reader is-c is-k is-h is-registers is-reader = rw (is-registers, is-reader, is-h, is-c, is-k)
 
-pub none-made : (panel : Panel) → panel ≡ newPanel (record { h1 = 0; h2 = 0; flags = 0; pages = 0; width = 0; height = 0 }) → panel ≡ noPanel
+pub none-made : (panel : Panel) (reader : Reader) → panel ≡ newPanel (record { h1 = 0; h2 = 0; flags = 0; pages = 0; width = 0; height = 0 }) → reader ≡ noReader
+    → withReader panel reader ≡ noPanel
 unfolding noPanel
-none-made panel is = is
+none-made panel reader is none = ap (λ (p : Panel). withReader p reader) is ∙ ap (λ (r : Reader). withReader (newPanel (record { h1 = 0; h2 = 0; flags = 0; pages = 0; width = 0; height = 0 })) r) none
 
 module _ (setup : Setup) (table : List ℕ) (good : Bool) (is-good : good ≡ goodSetup setup) where
   pub setup-refused : (panel : Panel) → good ≡ false → panel ≡ noPanel → _≡_ {A = Start} (record { answer = start.WrongSetup; panel = panel }) (started setup table)

@@ -2,7 +2,7 @@
 use Prim.Native.Nat.{ℕ}
 use mathlib.Core.Bool.{cond, not}
 use mathlib.Core.List.{List}
-use Rattle.line.specs.State.{readerOf}
+use Rattle.line.specs.State.{readerOf, noReader}
 use Rattle.reading.specs.Moves.{fresh}
 use Rattle.registers.specs.Table.{startRegisters}
 use Rattle.touch.specs.declared.Setup.{Setup}
@@ -15,7 +15,7 @@ use Rattle.panel.specs.declared.Panel.{Panel}
 use Rattle.panel.specs.declared.StartAnswer.{StartAnswer}
 use Rattle.panel.specs.declared.StartAnswer.the-variants as start
 use Rattle.panel.specs.declared.Start.{Start}
-use Rattle.panel.specs.State.{headerFor}
+use Rattle.panel.specs.State.{headerFor, withReader}
 
 -- "a new panel": the registers' starts, nothing caught, nothing held
 unfoldable pub newPanel : Setup → Panel
@@ -27,9 +27,9 @@ newPanel setup =
       reader = readerOf (record { header = headerFor setup; checking = checkingOf setup }) fresh;
     }
 
--- "A refused start gives no panel.": what stands in its place, a panel of no page and no screen
+-- "A refused start gives no panel.": what stands in its place has no page and no screen, and its reader takes nothing and hands nothing over
 unfoldable pub noPanel : Panel
-noPanel = newPanel (record { h1 = 0; h2 = 0; flags = 0; pages = 0; width = 0; height = 0 })
+noPanel = withReader (newPanel (record { h1 = 0; h2 = 0; flags = 0; pages = 0; width = 0; height = 0 })) noReader
 
 -- "A refused start gives no panel."
 abbrev pub refuses : StartAnswer → Start

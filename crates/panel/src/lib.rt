@@ -29,7 +29,7 @@ pub enum StartAnswer {
     WrongRecord(usize),
 }
 
-// Where the start is refused there is no panel: what stands beside the answer is none that was started.
+// Where the start is refused there is no panel: what stands beside the answer takes nothing and hands nothing over.
 pub struct Start {
     pub answer: StartAnswer,
     pub panel: Panel,

@@ -37,17 +37,23 @@ fn new_panel(setup: Setup) -> Panel
     }
 }
 
+// What stands in the panel's place where the start is refused.
 fn no_panel() -> Panel
     ensures { λ r. ⌜ r ≡ noPanel ⌝ }
 {
-    new_panel(Setup {
+    let panel = new_panel(Setup {
         h1: 0,
         h2: 0,
         flags: 0,
         pages: 0,
         width: 0,
         height: 0,
-    })
+    });
+    let reader = Reader::none();
+    Panel {
+        reader: reader,
+        ..panel
+    }
 }
 
 impl Panel {

@@ -1,11 +1,10 @@
 -- Laws of `allReports`: each report leaves fewer of the bytes kept, at most as many as the longest frame has, so asking more often changes nothing.
 use mathlib.Core.Path.{_≡_, refl, sym, ap, _∙_}
-use mathlib.Core.Bool.{Bool, true, false, not, _&&_}
+use mathlib.Core.Bool.{Bool, true, false, cond}
 use mathlib.Core.List.{[]}
 use Prim.Native.Nat.{ℕ, zero, suc, _-_, _≤_, _<_}
 use native.Mathlib.Omega.{arith}
-use borrow.Author.Tests.{eq-eqb, ltb-true, not-false}
-use lib.Dec.{ltb}
+use borrow.Author.Tests.{eq-eqb}
 use lib.ListN.{length}
 use Rattle.wire.specs.Addresses.{wordCount}
 use Rattle.frame.specs.Frame.{longestFrame}
@@ -15,9 +14,9 @@ use Rattle.line.specs.declared.Line.{Line}
 use Rattle.line.specs.declared.Reader.{Reader}
 use Rattle.line.specs.declared.Asked.{Asked}
 use Rattle.line.specs.State.{rulesFor, readerOf}
-use Rattle.line.specs.Methods.{busy, isAnswer, asked}
+use Rattle.line.specs.Methods.{busy, asked}
 use Rattle.line.proofs.Carried.{waiting-is, ask-carried}
-use Rattle.line.proofs.Truths.{and-left}
+use Rattle.line.proofs.Truths.{and-right}
 use Rattle.panel.specs.declared.Panel.{Panel}
 use Rattle.panel.specs.Reporting.{enough as lengths-lent, wellLent, handing, reporting}
 use Rattle.panel.specs.Sound.{lineOf, Sound}
@@ -26,6 +25,7 @@ use Rattle.telling.specs.Events.{replyRoom, askedOnce}
 use Rattle.trace.specs.State.{Held, Shown, shows, following, waits, isStarted}
 use Rattle.trace.specs.Events.{reportShown}
 use Rattle.trace.specs.Output.{allReports}
+use Rattle.printing.proofs.ByTest.{by-test}
 use Rattle.printing.proofs.HeldSound.{HeldSound, waits-started, report-held-sound}
 
 -- ---- A report that waits is handed over, and leaves fewer bytes
@@ -62,27 +62,26 @@ module _ (panel : Panel) (memory : Memory) (sound : Sound panel) (is-busy : busy
 
 -- ---- Asking again and again
 
--- how many bytes the reader keeps
+-- how many bytes the reader of a panel keeps that is started
 abbrev pub keptBy : Held → ℕ
-keptBy held = held .trace .panel .reader .len
+keptBy held = cond (isStarted (held .trace .stage)) (held .trace .panel .reader .len) 0
 
 pub report-fewer : (held : Held) → HeldSound held → waits (held .trace) ≡ true → keptBy (reportShown held .held) < keptBy held
+unfolding isStarted
 report-fewer held sound is =
-    report-less (held .trace .panel) (held .memory) (sound .panel (waits-started held sound is)) is (sound .memory)
+    let begun : isStarted (held .trace .stage) ≡ true = waits-started held sound is in
+    let full : busy (held .trace .panel .reader) ≡ true = and-right (isStarted (held .trace .stage)) (busy (held .trace .panel .reader)) is in
+    rw begun (report-less (held .trace .panel) (held .memory) (sound .panel begun) full (sound .memory))
 
 -- never more bytes are kept than the longest frame has
 pub kept-at-most : (held : Held) → HeldSound held → keptBy held ≤ longestFrame
-kept-at-most held sound = go (isStarted (held .trace .stage)) refl
-  where
-    go : (b : Bool) → isStarted (held .trace .stage) ≡ b → keptBy held ≤ longestFrame
-    go true is =
-        let reads = sound .panel is .reads in
-        let long : keptBy held ≡ length (reads .kept .bytes) = ap (λ (r : Reader). r .len) (reads .is) in
-        omega (arith, reads .reached .few)
-    go false is =
-        let room = ltb (keptBy held) longestFrame in
-        let free : (room && not (isAnswer (held .trace .panel .reader .head))) ≡ true = not-false _ (sound .quiet is) in
-        omega (arith, ltb-true (keptBy held) longestFrame (and-left room (not (isAnswer (held .trace .panel .reader .head))) free))
+kept-at-most held sound =
+    by-test (λ (n : ℕ). n ≤ longestFrame) (isStarted (held .trace .stage)) _ _
+    (λ is.
+    let reads = sound .panel is .reads in
+    let long : held .trace .panel .reader .len ≡ length (reads .kept .bytes) = ap (λ (r : Reader). r .len) (reads .is) in
+    omega (arith, reads .reached .few))
+    (λ none. omega arith)
 
 pub none-reported : (n : ℕ) (held : Held) → waits (held .trace) ≡ false → allReports n held ≡ shows held []
 unfolding allReports

@@ -14,10 +14,9 @@ use Rattle.wire.specs.Addresses.{wordCount}
 use Rattle.wire.proofs.Over.{take-over}
 use Rattle.reading.proofs.ByteLists.{bytes-nil, bytes-cons, bytes-append, bytes-drop}
 use Rattle.line.proofs.Truths.{never, or-left, or-right}
-use Rattle.panel.specs.Start.{newPanel, noPanel}
 use Rattle.telling.specs.Told.{leastText}
 use Rattle.trace.specs.declared.Answer.the-variants.{Done}
-use Rattle.trace.specs.State.{Held, newTrace, tableBytes, waits, lentTo, isLent}
+use Rattle.trace.specs.State.{Held, newTrace, isStarted, tableBytes, waits, lentTo, isLent}
 use Rattle.trace.specs.Steps.{step, Stepping, stepping}
 use Rattle.trace.specs.Output.{endText, Ending, ending, newHeld, traceOutput}
 use Rattle.printing.specs.Feeding.{stepCalled, heldAfter, endCalled, Fed, by-step, by-end, by-stop, Caller, calls, callsEach}
@@ -86,7 +85,7 @@ unfolding newHeld traceOutput
 feeding-prints input text are fed = fed-prints newHeld input text new-held-sound are fed ∙ quiet-output newHeld input new-quiet
 
 new-keeps-none : keptBy newHeld ≡ 0
-unfolding newHeld newTrace noPanel newPanel
+unfolding newHeld newTrace isStarted
 new-keeps-none = refl
 
 -- ---- Every caller comes to the end

@@ -11,15 +11,13 @@ use Rattle.wire.specs.Bytes.{Bytes}
 use Rattle.wire.specs.ByteOrder.{byteAt, wordAt}
 use Rattle.wire.specs.Addresses.{wordCount}
 use Rattle.wire.proofs.LaidAt.{length-laidAt}
-use Rattle.frame.specs.Frame.{headerBytes}
-use Rattle.reading.specs.Place.{look, behind, cutShort}
+use Rattle.line.specs.Methods.{busy}
 use Rattle.line.proofs.Truths.{never, and-left}
 use Rattle.touch.specs.Table.{recordBytes}
 use Rattle.panel.specs.declared.Panel.{Panel}
 use Rattle.panel.specs.declared.Start.{Start}
 use Rattle.panel.specs.declared.StartAnswer.{StartAnswer}
 use Rattle.panel.specs.declared.StartAnswer.the-variants as start
-use Rattle.panel.specs.Start.{newPanel, noPanel}
 use Rattle.panel.specs.Inputs.{fedBytes}
 use Rattle.panel.specs.Sound.{Sound}
 use Rattle.panel.proofs.Soundness.{byte-sound, mark-sound, bytes-sound, report-sound, contact-sound, lift-sound}
@@ -44,9 +42,8 @@ pub record ItemSound (trace : Trace) : Type 0 where
 
 -- what is known of all that is held, from the first byte of the input on
 pub record HeldSound (held : Held) : Type 0 where
-  -- the panel is sound once it is started; before that, and after an X, no report waits
+  -- the panel is sound once it is started
   pub panel : isStarted (held .trace .stage) ≡ true → Sound (held .trace .panel)
-  pub quiet : isStarted (held .trace .stage) ≡ false → waits (held .trace) ≡ false
   -- after an X no item is gathered
   pub over : isOver (held .trace .stage) ≡ true → held .trace .have ≡ 0
   pub item : ItemSound (held .trace)
@@ -72,7 +69,7 @@ no-item-sound trace = record { long = length-replicate {A = ℕ} itemBytes 0; ar
 -- ---- A new trace
 
 pub new-quiet : waits newTrace ≡ false
-unfolding newTrace noPanel newPanel look behind cutShort headerBytes
+unfolding newTrace isStarted
 new-quiet = refl
 
 new-whole : Whole newMemory
@@ -84,7 +81,6 @@ unfolding newHeld newTrace isStarted isOver
 new-held-sound =
     record {
       panel = λ is. never (cc);
-      quiet = λ is. new-quiet;
       over = λ is. never (cc);
       item = no-item-sound newTrace;
       table = omega (arith, length-replicate {A = ℕ} tableBytes 0);
@@ -139,20 +135,18 @@ module _ (held : Held) (item : ItemSound (held .trace)) (lent : tableBytes ≤ l
   told-sound told sound =
       record {
         panel = λ is. sound .panel;
-        quiet = λ is. never (cc);
         over = λ is. never (cc);
         item = record { long = item .long; are-bytes = item .are-bytes; none = item .none };
         table = lent;
         memory = sound .memory;
       }
 
-  module _ (whole : Whole (held .memory)) (none-waits : waits (held .trace) ≡ false) (between : held .trace .have ≡ 0) where
+  module _ (whole : Whole (held .memory)) (between : held .trace .have ≡ 0) where
     stopped-sound : HeldSound (withTrace held (stopped (held .trace)))
     unfolding isStarted
     stopped-sound =
         record {
           panel = λ is. never (cc);
-          quiet = λ is. none-waits;
           over = λ is. between;
           item = record { long = item .long; are-bytes = item .are-bytes; none = item .none };
           table = lent;
@@ -186,14 +180,13 @@ put-table records gathered table long lent =
 
 -- ---- One byte
 
-item-sound : (held : Held) (gathered : List ℕ) → HeldSound held → waits (held .trace) ≡ false → held .trace .have ≡ 0 → length gathered ≡ itemBytes → Bytes gathered
+item-sound : (held : Held) (gathered : List ℕ) → HeldSound held → held .trace .have ≡ 0 → length gathered ≡ itemBytes → Bytes gathered
     → HeldSound (itemDone held gathered .held)
 unfolding itemDone isStarted isOver
-item-sound held gathered sound none-waits between long are =
+item-sound held gathered sound between long are =
     by-test (λ (s : Shown). HeldSound (s .held)) (eqb (byteAt gathered 0) 0) _ _
     (λ is. record {
       panel = λ no. never (cc);
-      quiet = λ no. none-waits;
       over = λ no. never (cc);
       item = record { long = sound .item .long; are-bytes = sound .item .are-bytes; none = sound .item .none };
       table = sound .table;
@@ -202,15 +195,14 @@ item-sound held gathered sound none-waits between long are =
     (λ not-0. by-test (λ (s : Shown). HeldSound (s .held)) (eqb (byteAt gathered 0) 5) _ _
     (λ is. record {
       panel = sound .panel;
-      quiet = sound .quiet;
       over = sound .over;
       item = record { long = sound .item .long; are-bytes = sound .item .are-bytes; none = sound .item .none };
       table = put-table (held .trace .records) gathered (held .table) long (sound .table);
       memory = sound .memory;
     })
-    (λ not-5. event-done-sound held (sound .item) (sound .table) (sound .memory) none-waits between (sound .panel) gathered are))
+    (λ not-5. event-done-sound held (sound .item) (sound .table) (sound .memory) between (sound .panel) gathered are))
 
-module _ (held : Held) (b : ℕ) (byte : b < 256) (sound : HeldSound held) (none-waits : waits (held .trace) ≡ false) where
+module _ (held : Held) (b : ℕ) (byte : b < 256) (sound : HeldSound held) where
   grown-sound : isOver (held .trace .stage) ≡ false → HeldSound (grown held b .held)
   unfolding grown
   grown-sound going =
@@ -220,10 +212,9 @@ module _ (held : Held) (b : ℕ) (byte : b < 256) (sound : HeldSound held) (none
       let are : Bytes gathered = bytes-set (trace .item) (trace .have) b byte (sound .item .are-bytes) in
       by-test (λ (s : Shown). HeldSound (s .held)) (leb (bodyLength (byteAt gathered 0)) (trace .have)) _ _
       (λ whole. item-sound (withTrace held (idle trace)) gathered
-      (record { panel = sound .panel; quiet = sound .quiet; over = λ is. refl; item = no-item-sound trace; table = sound .table; memory = sound .memory }) none-waits refl long are)
+      (record { panel = sound .panel; over = λ is. refl; item = no-item-sound trace; table = sound .table; memory = sound .memory }) refl long are)
       (λ more. record {
         panel = sound .panel;
-        quiet = sound .quiet;
         over = λ is. (let z : _≡_ {A = Bool} true false = sym is ∙ going in never (cc));
         item = record { long = long; are-bytes = are; none = λ is. absurd (omega arith) };
         table = sound .table;
@@ -237,7 +228,7 @@ module _ (held : Held) (b : ℕ) (byte : b < 256) (sound : HeldSound held) (none
       let other = not (mayCome (held .trace .stage) b) in
       by-test (λ (s : Shown). HeldSound (s .held)) (isOver (held .trace .stage)) _ _ (λ over. sound)
       (λ going. by-test (λ (s : Shown). HeldSound (s .held)) (none && other) _ _
-      (λ wrong. stopped-sound held (sound .item) (sound .table) (sound .memory) none-waits (eqb-true (held .trace .have) 0 (and-left none other wrong)))
+      (λ wrong. stopped-sound held (sound .item) (sound .table) (sound .memory) (eqb-true (held .trace .have) 0 (and-left none other wrong)))
       (λ right. grown-sound going))
 
 -- ---- A report, and a run
@@ -245,11 +236,7 @@ module _ (held : Held) (b : ℕ) (byte : b < 256) (sound : HeldSound held) (none
 module _ (held : Held) (sound : HeldSound held) where
   -- a report waits only in a panel that is started
   pub waits-started : waits (held .trace) ≡ true → isStarted (held .trace .stage) ≡ true
-  waits-started is = go (isStarted (held .trace .stage)) refl
-    where
-      go : (b : Bool) → isStarted (held .trace .stage) ≡ b → b ≡ true
-      go true so = refl
-      go false so = let z : _≡_ {A = Bool} true false = sym is ∙ sound .quiet so in never (cc)
+  waits-started is = and-left (isStarted (held .trace .stage)) (busy (held .trace .panel .reader)) is
 
   pub report-held-sound : waits (held .trace) ≡ true → HeldSound (reportShown held .held)
   report-held-sound is =

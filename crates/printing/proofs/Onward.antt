@@ -44,7 +44,7 @@ one-onward held [] rest sound are quiet = record { sound = sound; within = omega
     some (inl is) = let z : _≡_ {A = Bool} true false = sym is ∙ quiet in never (cc)
     some (inr less) = absurd (omega arith)
 one-onward held (b ∷ chunk) rest sound are quiet =
-    let next = byte-held-sound held b (are 0) sound quiet in
+    let next = byte-held-sound held b (are 0) sound in
     record { sound = next; within = omega arith; prints = byte-output held b (chunk ++ rest) quiet; nearer = λ some. omega (arith, kept-at-most _ next) }
 
 -- a run is given one byte at least
@@ -118,11 +118,12 @@ run-onward : (held : Held) (chunk rest : List ℕ) (n : ℕ) → HeldSound held 
 unfolding ranBytes
 run-onward held chunk rest n sound are quiet is-started is-none some =
     let next = run-held-sound held sound (lineRun n chunk) is-started (bytes-run n chunk are) in
+    let free : busy (held .trace .panel .reader) ≡ false = rw is-started at quiet in
     record {
       sound = next;
       within = run-within (held .trace .panel) n chunk;
       prints = ran-output (held .trace) (held .table) (held .memory) is-started is-none (sound .item .none is-none) n chunk rest;
-      nearer = λ more. nearer more (kept-at-most _ next) (some-used (held .trace .panel) (lineRun n chunk) quiet some);
+      nearer = λ more. nearer more (kept-at-most _ next) (some-used (held .trace .panel) (lineRun n chunk) free some);
     }
   where
     nearer : (waits (held .trace) ≡ true) ⊎ (0 < length chunk) → {k u : ℕ} → k ≤ longestFrame → 1 ≤ u → length (drop (u * 2) chunk) * callsEach + k < length chunk * callsEach + keptBy held

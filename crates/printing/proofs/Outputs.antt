@@ -1,6 +1,6 @@
 -- Laws of what is printed from some point on: of a report, of a byte, and of a run of line bytes.
 use mathlib.Core.Path.{_≡_, refl, ap, _∙_}
-use mathlib.Core.Bool.{Bool, true, false, cond}
+use mathlib.Core.Bool.{Bool, true, false, cond, _&&_}
 use mathlib.Core.List.{List, [], _∷_, _++_, append-assoc}
 use Prim.Native.Nat.{ℕ, zero, suc, _+_, _*_}
 use native.Mathlib.Omega.{arith}
@@ -58,9 +58,9 @@ over-is Ready is = never (cc)
 over-is Started is = never (cc)
 over-is Over is = refl
 
-over-quiet : (held : Held) → HeldSound held → isOver (held .trace .stage) ≡ true → waits (held .trace) ≡ false
+over-quiet : (held : Held) → isOver (held .trace .stage) ≡ true → waits (held .trace) ≡ false
 unfolding isStarted
-over-quiet held sound is = sound .quiet (ap isStarted (over-is (held .trace .stage) is))
+over-quiet held is = ap (λ (stage : Stage). isStarted stage && busy (held .trace .panel .reader)) (over-is (held .trace .stage) is)
 
 over-ends : (held : Held) → HeldSound held → isOver (held .trace .stage) ≡ true → endText (held .trace) (held .table) ≡ []
 unfolding endText endAt
@@ -77,9 +77,9 @@ end-output held quiet = quiet-output held [] quiet
 
 -- "and the program stops"
 pub over-output : (held : Held) (input : List ℕ) → HeldSound held → isOver (held .trace .stage) ≡ true → outputFrom held input ≡ []
-over-output held [] sound is = end-output held (over-quiet held sound is) ∙ over-ends held sound is
+over-output held [] sound is = end-output held (over-quiet held is) ∙ over-ends held sound is
 over-output held (b ∷ input) sound is =
-    byte-output held b input (over-quiet held sound is)
+    byte-output held b input (over-quiet held is)
     ∙ ap (λ (s : Shown). s .text ++ outputFrom (s .held) input) (over-takes held b is)
     ∙ over-output held input sound is
 
@@ -116,6 +116,7 @@ module _ (setup : Setup) (records : ℕ) (table : List ℕ) (memory : Memory) wh
 
   line-byte-output : (panel : Panel) (b : ℕ) (input : List ℕ) → busy (panel .reader) ≡ false
       → outputFrom (lined panel) (1 ∷ b ∷ input) ≡ outputFrom (lined (fedByte panel b .panel)) input
+  unfolding isStarted
   line-byte-output panel b input quiet =
       byte-output (lined panel) 1 (b ∷ input) quiet
       ∙ ap (λ (s : Shown). s .text ++ outputFrom (s .held) (b ∷ input)) (kind-taken panel)

@@ -11,6 +11,7 @@ use lib.ListN.{length, take, getD}
 use lib.Seq.{length-take-le}
 use Rattle.wire.specs.Addresses.{wordCount}
 use Rattle.wire.proofs.Over.{over-nil}
+use Rattle.line.specs.Methods.{busy}
 use Rattle.line.proofs.Truths.{and-left, and-right}
 use Rattle.telling.specs.Memory.{Memory}
 use Rattle.telling.specs.Told.{leastText}
@@ -42,6 +43,21 @@ module _ (trace : Trace) (table : List ℕ) (memory : Memory) (room : List ℕ) 
       ap (λ (l : ByteLeft). leavesStep (record { trace = l .printed .trace; used = 1; count = l .printed .count }) (l .table) (l .memory) (l .room)) e
 
 -- ---- A step
+
+module _ (trace : Trace) (w : Bool) (is-w : w ≡ busy (trace .panel .reader)) where
+  pub waits-once-started : (b : Bool) → w ≡ true → b ≡ isStarted (trace .stage) → b ≡ waits trace
+  waits-once-started b is is-b = is-b ∙ sym (go (isStarted (trace .stage)) (busy (trace .panel .reader)) (sym is-w ∙ is))
+    where
+      go : (a c : Bool) → c ≡ true → (a && c) ≡ a
+      go true c so = so
+      go false c so = refl
+
+  pub none-waits : w ≡ false → false ≡ waits trace
+  none-waits is = sym (go (isStarted (trace .stage)) (busy (trace .panel .reader)) (sym is-w ∙ is))
+    where
+      go : (a c : Bool) → c ≡ false → (a && c) ≡ false
+      go true c so = so
+      go false c so = refl
 
 module _ (trace : Trace) (table : List ℕ) (memory : Memory) (room input run : List ℕ) (n : ℕ) (is-run : take n run ≡ lineRun longestRun input) where
   pub no-lines : (took : Took) (table′ : List ℕ) (memory′ : Memory) (left : List ℕ) → n ≡ 0

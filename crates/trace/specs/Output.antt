@@ -1,9 +1,10 @@
 -- What the trace program prints for an input.
 use Prim.Native.Nat.{ℕ, zero, suc}
-use mathlib.Core.Bool.{cond, _&&_}
+use mathlib.Core.Bool.{cond, not, _&&_}
 use mathlib.Core.List.{List, [], _∷_, _++_}
 use lib.Dec.{eqb, leb}
 use lib.ListN.{length, replicate}
+use Rattle.wire.specs.Numbers.{Said, says, _when_, firstSaid}
 use Rattle.wire.specs.Room.{over}
 use Rattle.frame.specs.Frame.{longestFrame}
 use Rattle.registers.specs.Touched.{pageOf}
@@ -18,10 +19,12 @@ use Rattle.trace.specs.declared.Stage.{Stage}
 use Rattle.trace.specs.declared.Stage.the-variants.{Bare, Ready, Started, Over}
 use Rattle.trace.specs.declared.Trace.{Trace}
 use Rattle.trace.specs.declared.Ended.{Ended}
+use Rattle.trace.specs.declared.Answer.{Answer}
 use Rattle.trace.specs.declared.Answer.the-variants.{Done, NotLent}
 use Rattle.trace.specs.State.{Held, holds, Shown, shows, following, newTrace, tableBytes, tableOf, waits}
 use Rattle.trace.specs.Lines.{refusalText, wrongText}
 use Rattle.trace.specs.Events.{startedBy, tookByte, reportShown}
+use Rattle.trace.specs.Steps.{numberOfStep}
 
 -- "Reports are asked for after each event until 'nothing'." Each leaves fewer of the at most 258 bytes kept, so 258 are enough.
 unfoldable pub allReports : ℕ → Held → Shown
@@ -69,6 +72,16 @@ ending trace table room =
     let text = endText trace table in
     cond (leb tableBytes (length table) && leb leastText (length room)) (ends (record { answer = Done; count = length text }) (over text room))
     (ends (record { answer = NotLent; count = 0 }) room)
+
+-- "0: done", "14: words lent aren't 28,672 ..": the number of what the end answers, and beside 0 how many bytes of text were written
+unfoldable pub endSaid : Answer → (count : ℕ) → Said
+endSaid Done count = says (numberOfStep Done) (count ∷ [])
+endSaid NotLent count = says (numberOfStep NotLent) []
+
+-- "The first number in order whose condition holds is given", 14 or else 0: of the end of the input
+unfoldable pub saidOfEnd : Trace → List ℕ → List ℕ → Said
+saidOfEnd trace table room =
+    firstSaid ((says 14 [] when not (leb tableBytes (length table) && leb leastText (length room))) ∷ []) (says 0 (length (endText trace table) ∷ []))
 
 -- "Reports are asked for after each event until 'nothing'."; "at the end `E pppp` the page": the text for what is left of the input. They are asked for after
 -- each byte: where no event ends with it, none waits

@@ -115,16 +115,16 @@ fails held text = shows (withTrace held (stopped (held .trace))) text
 
 -- ---- What is asked of a trace
 
--- "a report waits"
-abbrev pub waits : Trace → Bool
-waits trace = busy (trace .panel .reader)
-
 -- "Start is made": whether it has been
 unfoldable pub isStarted : Stage → Bool
 isStarted Bare = false
 isStarted Ready = false
 isStarted Started = true
 isStarted Over = false
+
+-- "a report waits": there is none before a start, and none after an X
+abbrev pub waits : Trace → Bool
+waits trace = isStarted (trace .stage) && busy (trace .panel .reader)
 
 -- "and the program stops": whether it has
 unfoldable pub isOver : Stage → Bool

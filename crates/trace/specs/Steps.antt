@@ -1,9 +1,10 @@
 -- What one step of the library does, on every trace: it hands over one report, or takes a run of line bytes, or takes one byte.
 use Prim.Native.Nat.{ℕ, zero, suc, _*_}
-use mathlib.Core.Bool.{cond, _&&_}
+use mathlib.Core.Bool.{cond, not, _&&_}
 use mathlib.Core.List.{List, [], _∷_}
 use lib.Dec.{eqb}
 use lib.ListN.{length}
+use Rattle.wire.specs.Numbers.{Said, says, _when_, firstSaid}
 use Rattle.wire.specs.Room.{over}
 use Rattle.panel.specs.Inputs.{fedBytes}
 use Rattle.telling.specs.Memory.{Memory}
@@ -19,6 +20,11 @@ use Rattle.trace.specs.Events.{tookByte, reportShown}
 unfoldable pub numberOfStep : Answer → ℕ
 numberOfStep Done = 0
 numberOfStep NotLent = 14
+
+-- and what is named beside it: how much of the input was taken, and how many bytes of text were written
+unfoldable pub stepSaid : Answer → (used count : ℕ) → Said
+stepSaid Done used count = says (numberOfStep Done) (used ∷ count ∷ [])
+stepSaid NotLent used count = says (numberOfStep NotLent) []
 
 -- "01 a line byte": the bytes of the whole items of this kind at the front, at most so many
 unfoldable pub lineRun : ℕ → List ℕ → List ℕ
@@ -90,3 +96,9 @@ unfoldable pub stepping : Held → List ℕ → List ℕ → Stepping
 stepping held input room =
     cond (isLent held room) (stepDone (step held input) room)
     (steps (record { answer = NotLent; used = 0; count = 0; trace = held .trace }) (held .table) (held .memory) room)
+
+-- "14: words lent aren't 28,672, or reply .. room below 265"; the table and the lines of a report are lent here too
+unfoldable pub saidOfStep : Held → List ℕ → List ℕ → Said
+saidOfStep held input room =
+    let s = step held input in
+    firstSaid ((says 14 [] when not (isLent held room)) ∷ []) (says 0 (s .used ∷ length (s .shown .text) ∷ []))

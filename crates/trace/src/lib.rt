@@ -2,8 +2,8 @@
 ghost use mathlib.Core.Path.{_≡_};
 ghost use Rattle.telling.specs.Memory.{remembering};
 ghost use Rattle.trace.specs.State.{newTrace, waits, isOver, holds};
-ghost use Rattle.trace.specs.Steps.{steps, stepping};
-ghost use Rattle.trace.specs.Output.{ends, ending};
+ghost use Rattle.trace.specs.Steps.{steps, stepping, stepSaid, saidOfStep};
+ghost use Rattle.trace.specs.Output.{ends, ending, endSaid, saidOfEnd};
 use panel::Panel;
 use telling::ITEM_BYTES;
 use touch::MOST_RECORDS;
@@ -110,7 +110,11 @@ impl Trace {
         ensures { λ r. ⌜ r ≡ waits self ⌝ }
     {
         let panel = self.panel;
-        panel.is_waiting()
+        if panel.is_waiting() {
+            let stage = self.stage;
+            return stages::is_started(stage);
+        }
+        false
     }
 
     // Whether the trace has failed, so that nothing more is printed.
@@ -124,6 +128,7 @@ impl Trace {
     // Hands over one report, or takes some of the input; writes the lines of it over the front of the room.
     pub fn step(self, input: &[u8], table: &mut [u8], words: &mut [u16], room: &mut [u8]) -> Stepped
         ensures { λ r. ⌜ steps r (now (table .exit)) (remembering (now (words .exit))) (now (room .exit)) ≡ stepping (holds self (now (table .entry)) (remembering (now (words .entry)))) (now (input .entry)) (now (room .entry)) ⌝ }
+        ensures { λ r. ⌜ stepSaid (r .answer) (r .used) (r .count) ≡ saidOfStep (holds self (now (table .entry)) (remembering (now (words .entry)))) (now (input .entry)) (now (room .entry)) ⌝ }
     {
         if step::is_lent(table.len(), words.len(), room.len()) {
             let took = step::take_step(self, input, table, words, room);
@@ -146,6 +151,7 @@ impl Trace {
     // The input has ended: writes the last line.
     pub fn end(self, table: &[u8], room: &mut [u8]) -> Ended
         ensures { λ r. ⌜ ends r (now (room .exit)) ≡ ending self (now (table .entry)) (now (room .entry)) ⌝ }
+        ensures { λ r. ⌜ endSaid (r .answer) (r .count) ≡ saidOfEnd self (now (table .entry)) (now (room .entry)) ⌝ }
     {
         if (TABLE_BYTES <= table.len()) & (LEAST_TEXT <= room.len()) {
             return Ended {

@@ -9,4 +9,5 @@ no-panel-spec =
     tie.close
     (tie.spec
     (λ c κs. search needs)
+    (λ c κs. search needs)
     (λ c. search none-made))

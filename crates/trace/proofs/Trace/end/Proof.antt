@@ -1,6 +1,7 @@
 -- `trace::Trace::end` meets its contract.
 use borrow.Author.Needs.{needs}
 use Rattle.trace.proofs.Ending.{table-long, room-long, lent-ends, not-lent-ends}
+use Rattle.trace.proofs.Said.{end-said}
 use Rattle.trace.proofs.Trace.end.Statement.{statement}
 use Rattle.trace.proofs.Trace.end.Tie as tie
 
@@ -10,5 +11,5 @@ end-spec =
     (tie.spec
     (λ c κs. search (needs, table-long, room-long))
     (λ c. search needs)
-    (λ c. search lent-ends)
-    (λ c. search not-lent-ends))
+    (λ c. end-said _ _ _ _ _ (search lent-ends))
+    (λ c. end-said _ _ _ _ _ (search not-lent-ends)))

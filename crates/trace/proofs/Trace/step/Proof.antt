@@ -1,6 +1,7 @@
 -- `trace::Trace::step` meets its contract.
 use borrow.Author.Needs.{needs}
 use Rattle.trace.proofs.Steps.{table-lent, room-lent, lent-steps, not-lent-steps}
+use Rattle.trace.proofs.Said.{step-said}
 use Rattle.trace.proofs.Trace.step.Statement.{statement}
 use Rattle.trace.proofs.Trace.step.Tie as tie
 
@@ -13,5 +14,5 @@ step-spec =
     (λ c. search needs)
     (λ c. search needs)
     (λ c. search needs)
-    (λ c. search lent-steps)
-    (λ c. search not-lent-steps))
+    (λ c. step-said _ _ _ _ _ _ _ (search lent-steps))
+    (λ c. step-said _ _ _ _ _ _ _ (search not-lent-steps)))

@@ -1,0 +1,146 @@
+-- What stands where a start was refused is inert, over any calls.
+use mathlib.Core.Path.{_≡_, refl, ap, _∙_}
+use mathlib.Core.Bool.{Bool, true, false, cond, not}
+use mathlib.Core.List.{List, [], _∷_}
+use Prim.Native.Nat.{ℕ}
+use lib.Dec.{eqb}
+use lib.ListN.{length}
+use Rattle.wire.specs.Addresses.{wordCount}
+use Rattle.line.specs.declared.Report.the-variants as line
+use Rattle.line.specs.State.{noReader}
+use Rattle.line.specs.Methods.{busy, numberOfAnswer, asked}
+use Rattle.line.proofs.Truths.{never}
+use Rattle.touch.specs.Judge.{judged}
+use Rattle.commands.specs.Lent.{Lent}
+use Rattle.panel.specs.declared.ContactAnswer.the-variants as contact-answer
+use Rattle.panel.specs.declared.Fed.{Fed}
+use Rattle.panel.specs.declared.FedBytes.{FedBytes}
+use Rattle.panel.specs.declared.Lifted.{Lifted}
+use Rattle.panel.specs.declared.LiftAnswer.the-variants as lift-answer
+use Rattle.panel.specs.Numbers.{reportNumber, contactNumber, liftNumber}
+use Rattle.panel.specs.Start.{noPanel}
+use Rattle.panel.specs.Reporting.{wellLent, Reporting, reports, refused, handingOver, handing, reporting}
+use Rattle.panel.specs.Contacts.{Contact, Contacting, contacts, contactJudged, contacting, lifting}
+use Rattle.panel.proofs.Refusals.{refused-byte-changes-nothing, refused-mark-changes-nothing, refused-bytes-change-nothing, nothing-changes-nothing}
+use Rattle.demands.specs.Calls.{Moment, Call, lend, byte, bytes, mark, ask, contact, lift, withPanel, after, afterAll, numberGiven, reportHanded, handedOver, handedOverAll}
+use Rattle.demands.specs.Given.{unlessRefused, given, givenAll}
+use Rattle.demands.specs.NoPanel.{lentBy, lentLast, refusedWith, Inert}
+
+-- "no panel", with what the caller has lent
+abbrev pub noneWith : Lent → Moment
+noneWith lent = record { panel = noPanel; lent = lent }
+
+-- ---- The reader is full and has no report
+
+none-busy : busy (noPanel .reader) ≡ true
+unfolding noPanel noReader
+none-busy = refl
+
+none-reports : asked (noPanel .reader) .report ≡ line.Nothing
+unfolding noPanel noReader asked
+none-reports = refl
+
+-- ---- One call
+
+contact-none : (c : Contact) (lent : Lent)
+    → contacting noPanel c lent ≡ contacts (cond (eqb (length (lent .words)) wordCount) contact-answer.Waits contact-answer.NotLent) noPanel lent
+unfolding contacting
+contact-none c lent =
+    go (eqb (length (lent .words)) wordCount) (busy (noPanel .reader)) none-busy (contactJudged (judged (noPanel .setup) (c .table)) noPanel c lent)
+  where
+    go : (b w : Bool) → w ≡ true → (other : Contacting)
+        → cond (not b) (contacts contact-answer.NotLent noPanel lent) (cond w (contacts contact-answer.Waits noPanel lent) other)
+        ≡ contacts (cond b contact-answer.Waits contact-answer.NotLent) noPanel lent
+    go true true is other = refl
+    go true false is other = never (cc)
+    go false w is other = refl
+
+lift-none : lifting noPanel ≡ record { answer = lift-answer.Waits; panel = noPanel }
+unfolding lifting
+lift-none = rw none-busy
+
+call-stays : (lent : Lent) (call : Call) → after (noneWith lent) call ≡ noneWith (lentBy lent call)
+unfolding after lentBy
+call-stays lent (lend other) = refl
+call-stays lent (byte b) = ap (λ (f : Fed). withPanel (noneWith lent) (f .panel)) (refused-byte-changes-nothing noPanel none-busy b)
+call-stays lent (bytes bs) = ap (λ (f : FedBytes). withPanel (noneWith lent) (f .panel)) (refused-bytes-change-nothing noPanel none-busy bs)
+call-stays lent mark = ap (λ (f : Fed). withPanel (noneWith lent) (f .panel)) (refused-mark-changes-nothing noPanel none-busy)
+call-stays lent ask =
+    let all = nothing-changes-nothing noPanel lent none-reports in
+    rw (all .0, all .1)
+call-stays lent (contact c) = ap (λ (d : Contacting). record { panel = d .contacted .panel; lent = d .lent }) (contact-none c lent)
+call-stays lent lift = ap (λ (l : Lifted). withPanel (noneWith lent) (l .panel)) lift-none
+
+call-takes-nothing : (lent : Lent) (call : Call) → given (noneWith lent) call ≡ []
+unfolding given unlessRefused
+call-takes-nothing lent (lend other) = refl
+call-takes-nothing lent (byte b) = rw (refused-byte-changes-nothing noPanel none-busy b)
+call-takes-nothing lent (bytes bs) = rw (refused-bytes-change-nothing noPanel none-busy bs)
+call-takes-nothing lent mark = rw (refused-mark-changes-nothing noPanel none-busy)
+call-takes-nothing lent ask = refl
+call-takes-nothing lent (contact c) = refl
+call-takes-nothing lent lift = refl
+
+call-hands-nothing : (lent : Lent) (call : Call) → handedOver (noneWith lent) call ≡ []
+unfolding handedOver reporting reportHanded handing handingOver noPanel noReader asked
+call-hands-nothing lent (lend other) = refl
+call-hands-nothing lent (byte b) = refl
+call-hands-nothing lent (bytes bs) = refl
+call-hands-nothing lent mark = refl
+call-hands-nothing lent ask = go (wellLent lent)
+  where
+    go : (w : Bool)
+        → reportHanded (cond w (handing (asked noReader) line.Nothing noPanel lent) (reports (refused noPanel) lent) .reported .handed)
+        (cond w (handing (asked noReader) line.Nothing noPanel lent) (reports (refused noPanel) lent) .reported .payload) ≡ []
+    go true = refl
+    go false = refl
+call-hands-nothing lent (contact c) = refl
+call-hands-nothing lent lift = refl
+
+contact-number : (b : Bool) → contactNumber (cond b contact-answer.Waits contact-answer.NotLent) ≡ cond b 1 14
+unfolding contactNumber
+contact-number true = refl
+contact-number false = refl
+
+ask-number : (lent : Lent) (w : Bool)
+    → reportNumber (cond w (handing (asked (noPanel .reader)) (asked (noPanel .reader) .report) noPanel lent) (reports (refused noPanel) lent) .reported .handed) ≡ cond w 0 14
+unfolding handing handingOver noPanel noReader asked reportNumber
+ask-number lent true = refl
+ask-number lent false = refl
+
+call-refused : (lent : Lent) (call : Call) → numberGiven (noneWith lent) call ≡ refusedWith lent call
+unfolding numberGiven refusedWith numberOfAnswer liftNumber reporting
+call-refused lent (lend other) = refl
+call-refused lent (byte b) = rw (refused-byte-changes-nothing noPanel none-busy b)
+call-refused lent (bytes bs) = rw (refused-bytes-change-nothing noPanel none-busy bs)
+call-refused lent mark = rw (refused-mark-changes-nothing noPanel none-busy)
+call-refused lent ask = ask-number lent (wellLent lent)
+call-refused lent (contact c) =
+    ap (λ (d : Contacting). contactNumber (d .contacted .answer)) (contact-none c lent) ∙ contact-number (eqb (length (lent .words)) wordCount)
+call-refused lent lift = rw lift-none
+
+-- ---- Any calls
+
+all-stay : (lent : Lent) (calls : List Call) → afterAll (noneWith lent) calls ≡ noneWith (lentLast lent calls)
+unfolding afterAll lentLast
+all-stay lent [] = refl
+all-stay lent (call ∷ calls) = ap (λ (m : Moment). afterAll m calls) (call-stays lent call) ∙ all-stay (lentBy lent call) calls
+
+all-take-nothing : (lent : Lent) (calls : List Call) → givenAll (noneWith lent) calls ≡ []
+unfolding givenAll
+all-take-nothing lent [] = refl
+all-take-nothing lent (call ∷ calls) = rw (call-takes-nothing lent call, call-stays lent call) (all-take-nothing (lentBy lent call) calls)
+
+all-hand-nothing : (lent : Lent) (calls : List Call) → handedOverAll (noneWith lent) calls ≡ []
+unfolding handedOverAll
+all-hand-nothing lent [] = refl
+all-hand-nothing lent (call ∷ calls) = rw (call-hands-nothing lent call, call-stays lent call) (all-hand-nothing (lentBy lent call) calls)
+
+pub no-panel-inert : (lent : Lent) (calls : List Call) → Inert (noneWith lent) calls
+no-panel-inert lent calls =
+    record {
+      stays = all-stay lent calls;
+      takes-nothing = all-take-nothing lent calls;
+      hands-nothing = all-hand-nothing lent calls;
+      refuses = λ call. ap (λ (m : Moment). numberGiven m call) (all-stay lent calls) ∙ call-refused (lentLast lent calls) call;
+    }
