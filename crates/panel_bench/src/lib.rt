@@ -1,12 +1,23 @@
 // The panel for bench/panel: a stream of line bytes given 4,096 at a time, all reports asked for, and a sum over them that shows that
 // the work was done.
-ghost use Prim.Native.Nat.{_≤_};
+ghost use mathlib.Core.Path.{_≡_};
+ghost use Prim.Native.Nat.{min};
+ghost use lib.ListN.{getD};
+ghost use Rattle.commands.specs.Lent.{lending};
+ghost use Rattle.panel.specs.Reporting.{enough};
+ghost use Rattle.wire.specs.Bytes.{Bytes};
+ghost use Rattle.panel_bench.specs.Stream.{wrapped, weightOf, runs, benchSetup, sums, endOf, streamed};
+ghost use Rattle.panel_bench.specs.Inner.{Ready, flow};
+use frame::LEAST_ROOM;
 use panel::Handed;
 use panel::Panel;
 use touch::Setup;
+use wire::WORD_COUNT;
 
 // What one report adds to the sum.
-fn weight(handed: Handed) -> u64 {
+fn weight(handed: Handed) -> u64
+    ensures { λ r. ⌜ r ≡ wrapped (weightOf handed) ⌝ }
+{
     match handed {
         Handed::NotLent => 0,
         Handed::Nothing => 0,
@@ -24,14 +35,17 @@ fn weight(handed: Handed) -> u64 {
     }
 }
 
+// The smaller of two.
 fn least(a: usize, b: usize) -> usize
-    ensures { λ r. ⌜ r ≤ b ⌝ }
+    ensures { λ r. ⌜ r ≡ min a b ⌝ }
 {
     if a < b { a } else { b }
 }
 
 // Header 5A A5 and checking on; the rest is as small as it may be.
-fn checking_setup() -> Setup {
+fn bench_setup() -> Setup
+    ensures { λ r. ⌜ r ≡ benchSetup ⌝ }
+{
     Setup {
         h1: 0x5A,
         h2: 0xA5,
@@ -42,37 +56,57 @@ fn checking_setup() -> Setup {
     }
 }
 
-#[no_mangle]
-pub extern "C" fn panel_bench_stream(input: &[u8], words: &mut [u16], room: &mut [u8]) -> u64 {
-    let started = Panel::start(checking_setup(), &input[0..0]);
-    let mut panel = started.panel;
+// Words and room are what the panel asks for; otherwise no report is ever handed over.
+fn is_lent(words: usize, room: usize) -> bool
+    ensures { λ r. ⌜ r ≡ enough words room ⌝ }
+{
+    (words == WORD_COUNT) & (LEAST_ROOM <= room)
+}
+
+// The first byte, 0 where there is none. It is read for what the prover is told of a slice that is read: that all in it are bytes.
+fn first_of(s: &[u8]) -> u8
+    ensures { λ r. ⌜ (r ≡ getD (now (s .entry)) 0 0) × Bytes (now (s .entry)) ⌝ }
+{
+    if 0 < s.len() { s[0] } else { 0 }
+}
+
+// Gives the bytes to the panel and asks for each report as soon as it waits.
+fn stream_on(input: &[u8], started: Panel, words: &mut [u16], room: &mut [u8]) -> u64
+    requires { ⌜ Ready (runs started (lending (now words) (now room)) 0) × Bytes (now input) ⌝ }
+    ensures { λ r. ⌜ sums r (lending (now (words .exit)) (now (room .exit))) ≡ endOf (flow (runs started (lending (now (words .entry)) (now (room .entry))) 0) (now (input .entry))) ⌝ }
+{
+    let mut panel = started;
     let mut sum = 0u64;
     let mut i = 0usize;
-    let mut turns = u64::MAX;
-    while turns > 0 {
+    loop {
         if panel.is_waiting() {
             let reported = panel.report(words, room);
             let handed = reported.handed;
             sum = std::num::wrapping_add_u64(sum, weight(handed));
             let next = reported.panel;
             panel = next;
-            turns -= 1;
         } else {
             let left = input.len() - i;
             if left == 0 {
                 return sum;
             }
-            let k = least(4096, left);
-            let fed = panel.give_bytes(&input[i..i + k]);
-            let used = fed.used;
-            if left < used {
-                return sum;
-            }
-            i += used;
+            let fed = panel.give_bytes(&input[i..i + least(4096, left)]);
             let next = fed.panel;
             panel = next;
-            turns -= 1;
+            i += fed.used;
         }
     }
-    sum
+}
+
+#[no_mangle]
+pub extern "C" fn panel_bench_stream(input: &[u8], words: &mut [u16], room: &mut [u8]) -> u64
+    ensures { λ r. ⌜ sums r (lending (now (words .exit)) (now (room .exit))) ≡ streamed (now (input .entry)) (lending (now (words .entry)) (now (room .entry))) ⌝ }
+{
+    if !is_lent(words.len(), room.len()) {
+        return 0;
+    }
+    first_of(input);
+    let start = Panel::start(bench_setup(), &input[0..0]);
+    let panel = start.panel;
+    stream_on(input, panel, words, room)
 }

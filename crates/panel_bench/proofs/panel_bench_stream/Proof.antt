@@ -1,54 +1,45 @@
--- `panel_bench::panel_bench_stream` is safe and ends.
-use native.Mathlib.Omega.{arith}
+-- `panel_bench::panel_bench_stream` meets its contract.
 use borrow.Author.Needs.{needs}
-use Prim.Native.Nat.{_≤_}
-use mathlib.Core.Path.{_≡_}
-use lib.ListN.{length}
+use Rattle.panel_bench.proofs.Streaming.{none-streamed, ready-new, all-streamed}
 use Rattle.panel_bench.proofs.panel_bench_stream.Statement.{statement}
 use Rattle.panel_bench.proofs.panel_bench_stream.Tie as tie
 
-abbrev Inv-loop : tie.InvT-loop
-Inv-loop input words₀ room₀ panel₀ sum₀ i₀ turns₀ words room panel sum i turns = (i ≤ length input) × (length words ≡ length words₀) × (length room ≡ length room₀)
+returns : tie.Need-returns
+returns c = search none-streamed
 
-abbrev μ-loop : tie.MeasureT-loop
-μ-loop input words₀ room₀ panel₀ sum₀ i₀ turns₀ words room panel sum i turns = turns
+-- with the paths written out: a panel leaves more facts than a search looks at
+stream-on-requires : tie.Need-stream-on-requires
+stream-on-requires c κs =
+    let entry = c .before .before .before .before .before .before .before .before .before .before .before .before .args in
+    let lent = c .before .before .before .before .before .before .before .before .is-lent in
+    let setup = c .before .before .before .before .before .bench-setup in
+    let begun = c .before .before .before .start in (
+      ready-new (entry .input .now) (entry .words .now) (entry .room .now) (setup .result) (begun .result) (setup .ensures) (begun .ensures .0)
+          (lent .result) (lent .ensures) (c .before .before .before .before .before .before .before .if1 .left),
+      c .before .before .before .before .before .before .first-of .ensures .1,
+    )
+
+returns-2 : tie.Need-returns-2
+returns-2 c =
+    let entry = c .before .before .before .before .before .before .before .before .before .before .before .before .before .before .before .before .before .args in
+    let setup = c .before .before .before .before .before .before .before .before .before .before .bench-setup in
+    let begun = c .before .before .before .before .before .before .before .before .start in
+    all-streamed (entry .input .now) (entry .words .now) (entry .room .now) (setup .result) (begun .result) (setup .ensures) (begun .ensures .0)
+    (c .before .before .before .before .stream-on .result) _ (c .before .before .before .before .stream-on .ensures)
 
 pub panel-bench-stream-spec : {M : Type 1} → statement M
 panel-bench-stream-spec =
     tie.close
     (tie.spec
-    Inv-loop
-    μ-loop
     (λ c κs. search needs)
-    (λ c. search needs)
-    (λ c. search needs)
-    (λ c. search needs)
-    (λ c κs. search needs)
-    (λ c. search needs)
-    (λ c κs. search needs)
-    (λ c κs. search needs)
+    returns
     (λ c κs. search needs)
     (λ c κs. search needs)
     (λ c. search needs)
     (λ c. search needs)
     (λ c. search needs)
-    (λ c. search needs)
-    (λ c. search needs)
-    (λ c. search needs)
-    (λ c. search needs)
     (λ c κs. search needs)
+    stream-on-requires
     (λ c. search needs)
     (λ c. search needs)
-    (λ c. search needs)
-    (λ c. search needs)
-    (λ c κs. search needs)
-    (λ c. search needs)
-    (λ c. search needs)
-    (λ c. search needs)
-    (λ c. omega (arith, c .if3 .left, c .before .before .before .before .before .before .before .before .loop .inv .0, c .before .before .before .before .before .before .before .before .before .before .before .before .before .before .before .before .good .0 .0))
-    (λ c. search needs)
-    (λ c. search needs)
-    (λ c. search needs)
-    (λ c. search needs)
-    (λ c. search needs)
-    (λ c. search needs))
+    returns-2)

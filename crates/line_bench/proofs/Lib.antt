@@ -1,0 +1,3 @@
+pub mod Weights
+pub mod Summing
+pub mod Determined
