@@ -1,4 +1,4 @@
--- What the private functions of the code are held against; no public contract cites any of this.
+-- No public promise cites this file: what private functions of the code are held against.
 use Prim.Native.Nat.{ℕ, _+_}
 use Rattle.line.specs.declared.Report.{Report}
 use Rattle.line.specs.declared.Report.the-variants.{Accepted, BadCheck, Nothing}

@@ -14,6 +14,7 @@ unfoldable pub weightOf : Report → ℕ
 weightOf (badCheck command) = command
 weightOf (acceptedFrame command content) = 65536 + command + length content + getD content 0 0
 
+-- what all these reports add
 unfoldable pub sumOf : List Report → ℕ
 sumOf [] = 0
 sumOf (report ∷ later) = weightOf report + sumOf later

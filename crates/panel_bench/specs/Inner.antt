@@ -1,4 +1,4 @@
--- What the private functions of the code are held against; no public contract cites any of this.
+-- No public promise cites this file: what private functions of the code are held against.
 use mathlib.Core.Path.{_≡_}
 use mathlib.Core.Bool.{true}
 use mathlib.Core.List.{List}

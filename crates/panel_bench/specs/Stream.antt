@@ -30,6 +30,7 @@ pub record Running : Type 0 where
   pub lent : Lent
   pub sum : ℕ
 
+-- builds one
 abbrev pub runs : Panel → Lent → ℕ → Running
 runs panel lent sum = record { panel = panel; lent = lent; sum = sum }
 
@@ -59,9 +60,11 @@ pub record Streamed : Type 0 where
   pub sum : ℕ
   pub lent : Lent
 
+-- builds one
 abbrev pub sums : ℕ → Lent → Streamed
 sums sum lent = record { sum = sum; lent = lent }
 
+-- what is answered and left of it in the end
 abbrev pub endOf : Running → Streamed
 endOf now = sums (now .sum) (now .lent)
 
