@@ -1,5 +1,5 @@
 -- One answer fits the public function.
-use Rattle.wire.proofs.OneAnswer.{OneAnswer}
+use Rattle.wire.specs.OneAnswer.{OneAnswer}
 use Rattle.check_bench.proofs.panel_check_value.Reads as panel-check-value
 use Rattle.check_bench.proofs.panel_check_value.Kinds as panel-check-value-kinds
 

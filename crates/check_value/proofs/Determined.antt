@@ -1,5 +1,5 @@
 -- One answer fits each public function.
-use Rattle.wire.proofs.OneAnswer.{OneAnswer}
+use Rattle.wire.specs.OneAnswer.{OneAnswer}
 use Rattle.check_value.proofs.check_from.Reads as check-from
 use Rattle.check_value.proofs.check_from.Kinds as check-from-kinds
 use Rattle.check_value.proofs.check_value.Reads as check-value

@@ -3,7 +3,7 @@ use mathlib.Core.Path.{sym, ap, _∙_}
 use mathlib.Core.List.{List}
 use Prim.Native.Nat.{ℕ}
 use denote.Ref.{now}
-use Rattle.wire.proofs.OneAnswer.{OneAnswer, OneAnswerLeft}
+use Rattle.wire.specs.OneAnswer.{OneAnswer, OneAnswerLeft}
 use Rattle.commands.specs.Perform.{Performance}
 use Rattle.commands.proofs.on_registers.registers_left.Reads as registers-left
 use Rattle.commands.proofs.on_registers.registers_left.Kinds as registers-left-kinds

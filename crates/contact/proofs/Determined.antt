@@ -1,7 +1,7 @@
 -- One answer fits each public function.
 use mathlib.Core.Path.{sym, ap, _∙_}
 use denote.Ref.{now}
-use Rattle.wire.proofs.OneAnswer.{OneAnswer, OneAnswerLeft}
+use Rattle.wire.specs.OneAnswer.{OneAnswer, OneAnswerLeft}
 use Rattle.contact.specs.Contact.{Touching}
 use Rattle.contact.proofs.touch_down.Reads as touch-down
 use Rattle.contact.proofs.touch_down.Kinds as touch-down-kinds

@@ -6,7 +6,7 @@ use Rattle.reading.specs.Stretch.{reports}
 use Rattle.reading.specs.Line.{lineReports}
 use Rattle.reading.specs.Moves.{Kept, fresh, waiting}
 use Rattle.reading.specs.Run.{run, lineHeld}
-use Rattle.reading.proofs.Run.{handed-first, handed-all, kept-is-held, waits-while-left}
+use Rattle.reading.proofs.Run.{handed-first, handed-all, kept-is-held, none-waits-after-all}
 use Rattle.line.specs.declared.Line as Declared
 use Rattle.line.specs.declared.Reader.{Reader}
 use Rattle.line.specs.State.{rulesFor, keptOf}
@@ -45,7 +45,7 @@ module _ (setup : Setup) (now : Moment) (calls : List Call)
             ∙ ap (λ (l : List Report). l ++ reports rules (kept .closed) (kept .bytes)) (c .hands)
             ∙ ap (λ (k : Kept). handedOverAll now calls ++ reports rules (k .closed) (k .bytes)) (sym same);
         while-left = λ none-waits. sym (c .hands) ∙ handed-all rules (c .events) (sym waits ∙ none-waits) ∙ ap (lineReports rules) (c .gives);
-        no-longer = λ all. waits ∙ waits-while-left rules (c .events) (c .hands ∙ all ∙ ap (lineReports rules) (sym (c .gives)));
+        no-longer = λ all. waits ∙ none-waits-after-all rules (c .events) (c .hands ∙ all ∙ ap (lineReports rules) (sym (c .gives)));
         held = λ none-waits.
             ap (λ (k : Kept). k .bytes) (same ∙ kept-is-held rules (c .events) (sym waits ∙ none-waits)) ∙ ap (lineHeld rules) (c .gives);
         at-most-257 = λ none-waits. rw (ap (λ (k : Kept). k .bytes) same) (held-below-longest line kept (c .reached) (sym waits ∙ none-waits));

@@ -1,7 +1,7 @@
 -- One answer fits each public function.
 use mathlib.Core.Path.{sym, ap, _∙_}
 use denote.Ref.{now}
-use Rattle.wire.proofs.OneAnswer.{OneAnswer, OneAnswerLeft}
+use Rattle.wire.specs.OneAnswer.{OneAnswer, OneAnswerLeft}
 use Rattle.wire.specs.Room.{Laid}
 use Rattle.frame.specs.Writer.{Writing}
 use Rattle.frame.proofs.Header.length.Reads as length

@@ -1,6 +1,6 @@
 -- One answer fits each public function.
 use mathlib.Core.Path.{sym, _∙_}
-use Rattle.wire.proofs.OneAnswer.{OneAnswer}
+use Rattle.wire.specs.OneAnswer.{OneAnswer}
 use Rattle.line.proofs.Reader.new.Reads as new
 use Rattle.line.proofs.Reader.new.Kinds as new-kinds
 use Rattle.line.proofs.Reader.none.Reads as none

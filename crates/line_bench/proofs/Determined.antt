@@ -1,6 +1,6 @@
 -- One answer fits each public function.
 use mathlib.Core.Path.{sym, _∙_}
-use Rattle.wire.proofs.OneAnswer.{OneAnswer}
+use Rattle.wire.specs.OneAnswer.{OneAnswer}
 use Rattle.line_bench.proofs.line_bench_chunks.Reads as line-bench-chunks
 use Rattle.line_bench.proofs.line_bench_chunks.Kinds as line-bench-chunks-kinds
 use Rattle.line_bench.proofs.line_bench_single.Reads as line-bench-single

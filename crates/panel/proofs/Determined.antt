@@ -3,7 +3,7 @@ use mathlib.Core.Path.{sym, ap, _∙_}
 use mathlib.Core.List.{List, []}
 use Prim.Native.Nat.{ℕ}
 use denote.Ref.{now}
-use Rattle.wire.proofs.OneAnswer.{OneAnswer, OneAnswerLeft}
+use Rattle.wire.specs.OneAnswer.{OneAnswer, OneAnswerLeft}
 use Rattle.panel.specs.Reporting.{Reporting}
 use Rattle.panel.specs.Contacts.{Contacting}
 use Rattle.panel.proofs.Panel.report.Reads as report

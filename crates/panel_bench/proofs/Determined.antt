@@ -3,7 +3,7 @@ use mathlib.Core.Path.{sym, ap, _∙_}
 use mathlib.Core.List.{List}
 use Prim.Native.Nat.{ℕ}
 use denote.Ref.{now}
-use Rattle.wire.proofs.OneAnswer.{OneAnswerLeft}
+use Rattle.wire.specs.OneAnswer.{OneAnswerLeft}
 use Rattle.panel_bench.specs.Stream.{Streamed}
 use Rattle.panel_bench.proofs.panel_bench_stream.Reads as panel-bench-stream
 use Rattle.panel_bench.proofs.panel_bench_stream.Kinds as panel-bench-stream-kinds

@@ -1,5 +1,5 @@
 -- One answer fits each public function.
-use Rattle.wire.proofs.OneAnswer.{OneAnswer}
+use Rattle.wire.specs.OneAnswer.{OneAnswer}
 use Rattle.place.proofs.look_at.Reads as look-at
 use Rattle.place.proofs.look_at.Kinds as look-at-kinds
 use Rattle.place.proofs.first_stop.Reads as first-stop

@@ -92,7 +92,7 @@ module _ (rules : Rules) (events : List Event) where
   handed-first = ap (lineReports rules) (sym (append-nil (ran .given))) ∙ reads-on [] ∙ ap (λ (l : List Report). ran .handedOver ++ l) (waiting-reports rules (ran .kept))
 
   module _ (quiet : waiting rules (ran .kept) ≡ false) where
-    -- all of them, once no report waits
+    -- "While one of them is left, a report waits": once none waits, all of them have been handed over
     pub handed-all : ran .handedOver ≡ lineReports rules (ran .given)
     handed-all = sym (
         ap (lineReports rules) (sym (append-nil (ran .given)))
@@ -112,9 +112,9 @@ module _ (rules : Rules) (events : List Event) where
         ) in
         λ i. record { closed = is-open i; bytes = held i }
 
-  -- "While one of them is left, a report waits"
-  pub waits-while-left : ran .handedOver ≡ lineReports rules (ran .given) → waiting rules (ran .kept) ≡ false
-  waits-while-left all =
+  -- and none waits once all of them have been handed over
+  pub none-waits-after-all : ran .handedOver ≡ lineReports rules (ran .given) → waiting rules (ran .kept) ≡ false
+  none-waits-after-all all =
       no-reports-quiet rules (ran .kept)
       (append-cancel-left (ran .handedOver) (reports rules (ran .kept .closed) (ran .kept .bytes)) [] (sym handed-first ∙ sym all ∙ sym (append-nil (ran .handedOver))))
 

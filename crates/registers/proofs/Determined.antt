@@ -2,7 +2,7 @@
 use mathlib.Core.Path.{sym, ap, _∙_}
 use denote.Ref.{now}
 use Rattle.wire.specs.Room.{Laid}
-use Rattle.wire.proofs.OneAnswer.{OneAnswer, OneAnswerLeft}
+use Rattle.wire.specs.OneAnswer.{OneAnswer, OneAnswerLeft}
 use Rattle.registers.proofs.is_unwritable.Reads as is-unwritable
 use Rattle.registers.proofs.is_unwritable.Kinds as is-unwritable-kinds
 use Rattle.registers.proofs.is_wrong_value.Reads as is-wrong-value

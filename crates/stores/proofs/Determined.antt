@@ -1,5 +1,5 @@
 -- One answer fits each public function.
-use Rattle.wire.proofs.OneAnswer.{OneAnswer}
+use Rattle.wire.specs.OneAnswer.{OneAnswer}
 use Rattle.stores.proofs.at_most.Reads as at-most
 use Rattle.stores.proofs.at_most.Kinds as at-most-kinds
 use Rattle.stores.proofs.key_stores.Reads as key-stores

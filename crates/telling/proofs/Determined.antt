@@ -3,7 +3,7 @@ use mathlib.Core.Path.{sym, ap, _∙_}
 use mathlib.Core.List.{List}
 use Prim.Native.Nat.{ℕ}
 use denote.Ref.{now}
-use Rattle.wire.proofs.OneAnswer.{OneAnswerLeft}
+use Rattle.wire.specs.OneAnswer.{OneAnswerLeft}
 use Rattle.telling.specs.Told.{PanelLeft}
 use Rattle.telling.proofs.tell_report.Reads as tell-report
 use Rattle.telling.proofs.tell_report.Kinds as tell-report-kinds

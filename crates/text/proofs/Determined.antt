@@ -2,7 +2,7 @@
 use mathlib.Core.Path.{sym, ap, _∙_}
 use denote.Ref.{now}
 use Rattle.wire.specs.Room.{Laid}
-use Rattle.wire.proofs.OneAnswer.{OneAnswerLeft}
+use Rattle.wire.specs.OneAnswer.{OneAnswerLeft}
 use Rattle.text.proofs.put_line.Reads as put-line
 use Rattle.text.proofs.put_line.Kinds as put-line-kinds
 use Rattle.text.proofs.put_written.Reads as put-written

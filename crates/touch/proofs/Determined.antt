@@ -1,6 +1,6 @@
 -- One answer fits each public function.
 use mathlib.Core.Path.{sym, _∙_}
-use Rattle.wire.proofs.OneAnswer.{OneAnswer}
+use Rattle.wire.specs.OneAnswer.{OneAnswer}
 use Rattle.touch.proofs.setups.good_setup.Reads as good-setup
 use Rattle.touch.proofs.setups.good_setup.Kinds as good-setup-kinds
 use Rattle.touch.proofs.setups.checking.Reads as checking

@@ -3,7 +3,7 @@ use mathlib.Core.Path.{sym, ap, _∙_}
 use mathlib.Core.List.{List}
 use Prim.Native.Nat.{ℕ}
 use denote.Ref.{now}
-use Rattle.wire.proofs.OneAnswer.{OneAnswer, OneAnswerLeft}
+use Rattle.wire.specs.OneAnswer.{OneAnswer, OneAnswerLeft}
 use Rattle.trace.specs.Steps.{Stepping}
 use Rattle.trace.specs.Output.{Ending}
 use Rattle.trace.proofs.Trace.new.Reads as new

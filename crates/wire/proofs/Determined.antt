@@ -1,5 +1,5 @@
 -- One answer fits each public function.
-use Rattle.wire.proofs.OneAnswer.{OneAnswer}
+use Rattle.wire.specs.OneAnswer.{OneAnswer}
 use Rattle.wire.proofs.wide.Reads as wide
 use Rattle.wire.proofs.wide.Kinds as wide-kinds
 use Rattle.wire.proofs.count.Reads as count

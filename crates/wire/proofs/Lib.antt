@@ -2,5 +2,4 @@ pub mod PastEnd
 pub mod Parts
 pub mod Over
 pub mod LaidAt
-pub mod OneAnswer
 pub mod Determined

@@ -3,3 +3,4 @@ pub mod ByteOrder
 pub mod Room
 pub mod Addresses
 pub mod Numbers
+pub mod OneAnswer

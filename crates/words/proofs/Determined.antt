@@ -2,7 +2,7 @@
 use mathlib.Core.Path.{refl, sym, ap, _∙_}
 use denote.Ref.{now}
 use Rattle.wire.specs.Room.{Laid}
-use Rattle.wire.proofs.OneAnswer.{OneAnswer, OneAnswerLeft}
+use Rattle.wire.specs.OneAnswer.{OneAnswer, OneAnswerLeft}
 use Rattle.words.proofs.WordAddress.passes_end.Reads as passes-end
 use Rattle.words.proofs.WordAddress.passes_end.Kinds as passes-end-kinds
 use Rattle.words.proofs.at.Reads as at
