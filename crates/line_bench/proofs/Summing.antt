@@ -2,7 +2,7 @@
 use mathlib.Core.Path.{_≡_, refl, sym, ap, subst, _∙_}
 use mathlib.Core.Bool.{Bool, true, false, cond}
 use mathlib.Core.List.{List, [], _∷_, _++_, map}
-use Prim.Native.Nat.{ℕ, zero, suc, _+_, _-_, _*_, _^_, _≤_, _<_, min}
+use Prim.Native.Nat.{ℕ, suc, _+_, _-_, _*_, _^_, _≤_, _<_, min}
 use native.Mathlib.Nat.{zero-add, add-zero, mod-mod}
 use native.Mathlib.Omega.{arith}
 use lib.ListN.{length, getD, take, drop, take-append-drop, length-take, length-drop, drop-of-length-le}
@@ -15,7 +15,7 @@ use Rattle.reading.specs.Line.{byte, lineReports}
 use Rattle.reading.specs.Moves.{Kept, fresh, waiting, withByte, handed, afterReport}
 use Rattle.reading.specs.Run.{closing, withInput, readOn}
 use Rattle.reading.proofs.Stable.{true-is-not-false}
-use Rattle.reading.proofs.ByteLists.{bytes-nil, bytes-cons, bytes-drop}
+use Rattle.reading.proofs.ByteLists.{bytes-drop, bytes-take}
 use Rattle.reading.proofs.Lines.{open-line}
 use Rattle.reading.proofs.Moves.{input-settled, input-onward, report-settled, report-onward, report-shorter}
 use Rattle.reading.proofs.Settling.{Settled, fresh-settled, quiet-no-report}
@@ -61,11 +61,6 @@ told-weighs rules (accepted body) =
     ap (λ (first : ℕ). 65536 + getD body 0 0 + length content + first) (first-padded content) ∙ sym (add-zero _)
 
 -- ---- On the way through the input
-
-bytes-take : (n : ℕ) (xs : List ℕ) → Bytes xs → Bytes (take n xs)
-bytes-take zero xs are = bytes-nil
-bytes-take (suc n) [] are = bytes-nil
-bytes-take (suc n) (x ∷ xs) are = bytes-cons x (take n xs) (are 0) (bytes-take n xs (λ i. are (suc i)))
 
 -- a reader that keeps what a reading keeps
 pub record Standing (line : Line) (kept : Kept) (reader : Reader) : Type 0 where

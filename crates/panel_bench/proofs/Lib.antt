@@ -1,3 +1,4 @@
 pub mod Weights
+pub mod Asks
 pub mod Streaming
 pub mod Determined

@@ -98,6 +98,7 @@ fn stream_on(input: &[u8], started: Panel, words: &mut [u16], room: &mut [u8]) -
     }
 }
 
+// The whole stream through a new panel. Where words or room are not what they must be, no report is handed over and both stay.
 #[no_mangle]
 pub extern "C" fn panel_bench_stream(input: &[u8], words: &mut [u16], room: &mut [u8]) -> u64
     ensures { λ r. ⌜ sums r (lending (now (words .exit)) (now (room .exit))) ≡ streamed (now (input .entry)) (lending (now (words .entry)) (now (room .entry))) ⌝ }

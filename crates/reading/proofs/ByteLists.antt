@@ -6,7 +6,7 @@ use Prim.Native.Nat.{ℕ, zero, suc, _+_, _<_}
 use native.Mathlib.Omega.{arith}
 use borrow.Author.Tests.{ltb-true}
 use lib.Dec.{ltb}
-use lib.ListN.{getD, drop}
+use lib.ListN.{getD, take, drop}
 use lib.Seq.{getD-drop}
 use Rattle.wire.specs.Bytes.{Bytes}
 use Rattle.reading.proofs.Stable.{true-is-not-false}
@@ -25,6 +25,11 @@ bytes-append (x ∷ xs) ys left right (suc i) = bytes-append xs ys (λ j. left (
 
 pub bytes-drop : (n : ℕ) (xs : List ℕ) → Bytes xs → Bytes (drop n xs)
 bytes-drop n xs are i = rw (getD-drop n xs i 0) (are (n + i))
+
+pub bytes-take : (n : ℕ) (xs : List ℕ) → Bytes xs → Bytes (take n xs)
+bytes-take zero xs are = bytes-nil
+bytes-take (suc n) [] are = bytes-nil
+bytes-take (suc n) (x ∷ xs) are = bytes-cons x (take n xs) (are 0) (bytes-take n xs (λ i. are (suc i)))
 
 -- as a test that computes
 unfoldable pub allBytes : List ℕ → Bool

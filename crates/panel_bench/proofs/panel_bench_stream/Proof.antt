@@ -1,6 +1,7 @@
 -- `panel_bench::panel_bench_stream` meets its contract.
 use borrow.Author.Needs.{needs}
-use Rattle.panel_bench.proofs.Streaming.{none-streamed, ready-new, all-streamed}
+use Rattle.panel_bench.proofs.Asks.{none-streamed}
+use Rattle.panel_bench.proofs.Streaming.{ready-new, all-streamed}
 use Rattle.panel_bench.proofs.panel_bench_stream.Statement.{statement}
 use Rattle.panel_bench.proofs.panel_bench_stream.Tie as tie
 
