@@ -3,7 +3,7 @@
 -- keeps the demand is idle; specs/IdleBuilds has for each claim a build that is idle in that way. The same is tried on the code by must-fail edits:
 -- crates/commands/must-fail/every_frame_refused, all_reads_alike, taken_without_storing; crates/words/must-fail/taken_without_storing;
 -- crates/panel/must-fail/taken_without_storing, stuck_at_the_first_report; crates/place/must-fail/every_frame_passed_over;
--- crates/line/must-fail/only_first_frame, only_first_stretch (idle for bytes given one at a time only). Each says in which run it is seen.
+-- crates/line/must-fail/only_first_frame; only_first_stretch, idle for bytes given one at a time. Each says in which run it is seen.
 use Prim.Native.Nat.{ℕ, suc, _+_, _*_, _≤_}
 use mathlib.Core.Path.{_≡_}
 use mathlib.Core.Bool.{true}
