@@ -17,8 +17,8 @@ use Rattle.panel.specs.declared.Fed.{Fed}
 use Rattle.panel.specs.declared.FedBytes.{FedBytes}
 use Rattle.panel.specs.declared.Lifted.{Lifted}
 use Rattle.panel.specs.declared.LiftAnswer.the-variants as lift-answer
-use Rattle.panel.specs.Numbers.{reportNumber, contactNumber, liftNumber}
-use Rattle.panel.specs.Start.{noPanel}
+use Rattle.panel.specs.Numbers.{startNumber, reportNumber, contactNumber, liftNumber}
+use Rattle.panel.specs.Start.{started, noPanel}
 use Rattle.panel.specs.Reporting.{wellLent, Reporting, reports, refused, handingOver, handing, reporting}
 use Rattle.panel.specs.Contacts.{Contact, Contacting, contacts, contactJudged, contacting, lifting}
 use Rattle.panel.proofs.Refusals.{refused-byte-changes-nothing, refused-mark-changes-nothing, refused-bytes-change-nothing, nothing-changes-nothing}
@@ -29,6 +29,11 @@ use Rattle.demands.specs.NoPanel.{lentBy, lentLast, refusedWith, Inert}
 -- "no panel", with what the caller has lent
 abbrev pub noneWith : Lent → Moment
 noneWith lent = record { panel = noPanel; lent = lent }
+
+-- a start that is refused: a setup of no page and no screen
+pub a-refused-start : startNumber (started (record { h1 = 0; h2 = 0; flags = 0; pages = 0; width = 0; height = 0 }) [] .answer) ≡ 11
+unfolding started startNumber
+a-refused-start = refl
 
 -- ---- The reader is full and has no report
 
