@@ -31,7 +31,7 @@ returns-2 c =
     let written = c .before .if2 in
     let catch = c .before .before .catch-after in
     reported-behind (entry .self) (entry .words .now) (entry .room .now) (judged .result) (judged .ensures)
-    (not-false (judged .result) (c .before .before .before .before .before .before .before .before .before .before .before .before .before .before .before .before .before .before .before .before .if1 .left)) (a .result) (a .ensures) (done .result) _ _ (done .ensures)
+    (not-false (judged .result) (c .before .before .before .before .before .before .before .before .before .before .before .before .before .before .before .before .before .before .before .before .if1 .left)) (a .result) (a .ensures .0) (done .result) _ _ (done .ensures)
     (catch .result) (catch .ensures) (written .registers)
     (⊎-elim
     (λ w. behind-written (entry .self .registers) (a .result .report) (a .result .payload) (done .result .writes) (written .registers)
