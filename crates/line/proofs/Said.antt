@@ -14,9 +14,9 @@ use Rattle.place.specs.declared.Look.the-variants.{Pass, Wait, Bad, Good}
 use Rattle.line.specs.declared.Reader.{Reader}
 use Rattle.line.specs.declared.Given.{Given}
 use Rattle.line.specs.declared.Answer.the-variants.{Done, Waits}
-use Rattle.line.specs.declared.Report.the-variants.{Nothing}
+use Rattle.line.specs.declared.Report.the-variants.{Accepted, BadCheck, Nothing}
 use Rattle.line.specs.declared.Asked.{Asked}
-use Rattle.line.specs.State.{padded, settledReader}
+use Rattle.line.specs.State.{padded}
 use Rattle.line.specs.Methods.{numberOfAnswer, busy, gives, answerSaid, inputListed, inputSaid, givenByte, givenMark, isAnswer, span, told, asked}
 use Rattle.line.specs.Front.{reportSaid, handsNothing, isBad, badCommand, frontBody, frontCommand, frontContent, frontListed, frontSaid}
 use Rattle.line.proofs.Asking.{askGives}
@@ -42,9 +42,12 @@ nothing-same header Wait = refl
 nothing-same header (Bad command) = refl
 nothing-same header (Good l) = ne-eqb (length header + 1 + l) 0 (λ e. omega arith)
 
-front-as-listed : (reader : Reader) → reportSaid (asked reader .report) ≡ frontSaid reader
-unfolding asked reportSaid handsNothing frontCommand frontContent frontListed firstSaid
-front-as-listed reader =
+-- what is handed over, by what stands at the front
+pub front-report : (reader : Reader) → asked reader .report
+    ≡ cond (handsNothing reader) Nothing
+    (cond (isBad (reader .head)) (BadCheck (badCommand (reader .head))) (Accepted (frontCommand reader) (length (frontContent reader))))
+unfolding asked handsNothing frontCommand frontContent
+front-report reader =
     let header : List ℕ = headerBytes (reader .line .header) in
     rw (nothing-same header (reader .head))
     (go (reader .head) (ltb (reader .len) (span header (reader .head))) (ltb longestFrame (reader .len)) (frontBody reader) _ _ _)
@@ -53,8 +56,9 @@ front-as-listed reader =
     checking = reader .line .checking
 
     go : (head : Look) (a b : Bool) (body empty payload : List ℕ) (next : Reader)
-        → reportSaid (cond (not (isAnswer head) || a || b) (askGives Nothing empty reader) (askGives (told checking head body) payload next) .report)
-        ≡ cond (not (isAnswer head) || a || b) [] (cond (isBad head) (badCommand head ∷ []) (getD body 0 0 ∷ length (drop 1 (contentOf checking body)) ∷ []))
+        → cond (not (isAnswer head) || a || b) (askGives Nothing empty reader) (askGives (told checking head body) payload next) .report
+        ≡ cond (not (isAnswer head) || a || b) Nothing
+        (cond (isBad head) (BadCheck (badCommand head)) (Accepted (getD body 0 0) (length (drop 1 (contentOf checking body)))))
     go Pass a b body empty payload next = refl
     go Wait a b body empty payload next = refl
     go (Bad command) true b body empty payload next = refl
@@ -63,6 +67,21 @@ front-as-listed reader =
     go (Good l) true b body empty payload next = refl
     go (Good l) false true body empty payload next = refl
     go (Good l) false false body empty payload next = refl
+
+-- the data that stands beside a report
+pub front-payload : (reader : Reader) → handsNothing reader ≡ false → asked reader .payload ≡ padded mostPayload (frontContent reader)
+unfolding asked handsNothing frontContent
+front-payload reader hands = rw (nothing-same (headerBytes (reader .line .header)) (reader .head), hands)
+
+front-as-listed : (reader : Reader) → reportSaid (asked reader .report) ≡ frontSaid reader
+unfolding reportSaid frontListed firstSaid
+front-as-listed reader = ap reportSaid (front-report reader) ∙ go (handsNothing reader) (isBad (reader .head)) _ _ _
+  where
+    go : (none bad : Bool) (c x y : ℕ)
+        → reportSaid (cond none Nothing (cond bad (BadCheck c) (Accepted x y))) ≡ cond none [] (cond bad (c ∷ []) (x ∷ y ∷ []))
+    go true bad c x y = refl
+    go false true c x y = refl
+    go false false c x y = refl
 
 pub ask-said : (r : Asked) (reader : Reader) → r ≡ asked reader → (r ≡ asked reader) × (reportSaid (r .report) ≡ frontSaid reader)
 ask-said r reader is = (is, ap (λ (a : Asked). reportSaid (a .report)) is ∙ front-as-listed reader)
