@@ -17,4 +17,4 @@ pub perform-determined :
     OneAnswerLeft 4 perform-kinds.ps perform-kinds.r perform.Post {B = List ℕ × List ℕ}
     (λ κs s. (now (s .1 .1 .1 .1 .0), now (s .1 .1 .1 .1 .1 .0)))
 perform-determined κs a x y s t p q =
-    (ap (λ (d : Performance). d .performed) (p ∙ sym q), ap (λ (d : Performance). (d .lent .words, d .lent .room)) (p ∙ sym q))
+    (ap (λ (d : Performance). d .performed) (p .0 ∙ sym (q .0)), ap (λ (d : Performance). (d .lent .words, d .lent .room)) (p .0 ∙ sym (q .0)))

@@ -3,6 +3,7 @@ pub mod Writing
 pub mod Replies
 pub mod Reading
 pub mod Performance
+pub mod Said
 pub mod Determined
 pub mod Refusals
 pub mod DoneWrites

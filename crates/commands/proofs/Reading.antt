@@ -26,7 +26,7 @@ pub peel : (c : Bool) (refusal rest : Outcome) → isDone refusal ≡ false → 
 peel true refusal rest none done = absurd (let z : _≡_ {A = ℕ} 0 1 = cc in omega arith)
 peel false refusal rest none done = (refl, done)
 
-short-reply : (checking : Bool) (k : ℕ) → replyTooLong checking k ≡ false → k ≤ mostData checking
+pub short-reply : (checking : Bool) (k : ℕ) → replyTooLong checking k ≡ false → k ≤ mostData checking
 unfolding replyTooLong
 short-reply checking k is = omega (arith, ltb-false 255 (1 + k + checkLength checking) is, length-most checking)
 

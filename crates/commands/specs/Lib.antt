@@ -3,3 +3,4 @@ pub mod Outcome
 pub mod Reply
 pub mod Effect
 pub mod Perform
+pub mod Listed

@@ -1,7 +1,9 @@
 // Which command it is.
 ghost use mathlib.Core.Path.{_≡_};
+ghost use lib.ListN.{length};
 ghost use Rattle.registers.specs.Table.{holding};
 ghost use Rattle.commands.specs.Lent.{lending};
+ghost use Rattle.commands.specs.Listed.{performedSaid, performSaid};
 ghost use Rattle.commands.specs.Perform.{performs, performance};
 use crate::Fixed;
 use crate::Outcome;
@@ -21,6 +23,7 @@ pub fn perform(
     room: &mut [u8],
 ) -> Performed
     ensures { λ r. ⌜ performs r (lending (now (words .exit)) (now (room .exit))) ≡ performance fixed (holding (now (registers .entry))) command (now (content .entry)) (lending (now (words .entry)) (now (room .entry))) ⌝ }
+    ensures { λ r. ⌜ performedSaid r ≡ performSaid fixed (length (now (words .entry))) (length (now (room .entry))) command (now (content .entry)) ⌝ }
 {
     if command == 0x80 {
         return on_registers::write(fixed.pages, content);

@@ -2,12 +2,11 @@
 use mathlib.Core.Path.{_≡_, refl, ap, _∙_}
 use mathlib.Core.Bool.{Bool, true, false, cond, not, _||_}
 use mathlib.Core.List.{List, [], _∷_}
-use Prim.Native.Nat.{ℕ, _+_, _%_, _≤_, _<_}
-use native.Mathlib.Omega.{arith}
-use borrow.Author.Tests.{le-ltb, lt-ltb, leb-true, leb-false, eqb-true, eqb-false, ltb-false}
+use Prim.Native.Nat.{ℕ}
+use borrow.Author.Tests.{le-ltb, lt-ltb, leb-true, leb-false, eqb-true}
 use lib.Dec.{eqb, ltb, leb}
 use lib.ListN.{length, take, drop}
-use Rattle.wire.specs.ByteOrder.{byteAt, wordAt}
+use Rattle.wire.specs.Numbers.{Said, says, firstSaid}
 use Rattle.frame.specs.Frame.{mostPayload}
 use Rattle.frame.specs.Writer.{leastRoom}
 use Rattle.reading.specs.Place.{Report, badCheck, acceptedFrame}
@@ -16,13 +15,10 @@ use Rattle.line.specs.declared.Asked.{Asked}
 use Rattle.line.specs.Methods.{asked}
 use Rattle.line.specs.Reached.{reportAs, payloadAs}
 use Rattle.line.proofs.Padding.{take-padded}
-use Rattle.registers.specs.Run.{unwritableRun, wrongValue}
-use Rattle.wire.specs.Addresses.{registerCount, wordCount}
-use Rattle.words.specs.Words.{wordsOf}
-use Rattle.commands.specs.declared.Outcome.the-variants.{Done, UnknownCommand, WrongData, PastEnd, Unwritable, WrongValue, ReplyTooLong}
+use Rattle.wire.specs.Addresses.{wordCount}
 use Rattle.commands.specs.Outcome as Outcome
-use Rattle.commands.specs.Outcome.{outcome, writeRegistersOutcome, readRegistersOutcome, writeWordsOutcome, readWordsOutcome, replyTooLong}
-use Rattle.commands.proofs.Performance.{performs-outcome}
+use Rattle.commands.specs.Listed.{performedSaid, notCommand, wrongData, passesEnd, touchesUnwritable, valueWrong, replyPasses, performListed, performSaid}
+use Rattle.commands.proofs.Said.{perform-as-listed}
 use Rattle.touch.specs.declared.Setup.{Setup}
 use Rattle.touch.specs.Setup.{checkingOf}
 use Rattle.panel.specs.declared.Panel.{Panel}
@@ -31,110 +27,48 @@ use Rattle.panel.specs.Reporting.{acknowledged, accepting, handing, reporting, 
 use Rattle.panel.specs.Sound.{Sound}
 use Rattle.demands.specs.Calls.{Moment, ask, numberGiven}
 use Rattle.demands.specs.Reports.{waitingReport}
-use Rattle.demands.specs.Demand1.{Condition, _when_, firstNumber, ofFrame, notCommand, byCommand, wrongData, passesEnd, touchesUnwritable, valueWrong, replyPasses, wordsNotLent, roomTooSmall, printed}
+use Rattle.demands.specs.Demand1.{Condition, _when_, firstNumber, ofFrame, wordsNotLent, roomTooSmall, printed}
 use Rattle.commands.specs.Lent.{Lent, withRoom}
 use Rattle.panel.specs.State.{fixedFor}
 use Rattle.demands.proofs.Waits.{asked-report, asked-payload}
 
-two-tests : (a b : Bool) → Outcome.numberOfOutcome (cond a WrongData (cond b PastEnd Done)) ≡ cond a 3 (cond b 4 0)
-unfolding Outcome.numberOfOutcome
-two-tests true b = refl
-two-tests false true = refl
-two-tests false false = refl
+-- 2 to 7 in turn, of a command with its data
+abbrev frameNumbers : Setup → (command : ℕ) → (content : List ℕ) → List Condition
+frameNumbers setup command content =
+    (2 when notCommand command content)
+    ∷ (3 when wrongData command content)
+    ∷ (4 when passesEnd wordCount command content)
+    ∷ (5 when touchesUnwritable command content)
+    ∷ (6 when valueWrong (setup .pages) command content)
+    ∷ (7 when replyPasses (checkingOf setup) command content)
+    ∷ []
 
-three-tests : (a b c : Bool) → Outcome.numberOfOutcome (cond a WrongData (cond b PastEnd (cond c ReplyTooLong Done))) ≡ cond a 3 (cond b 4 (cond c 7 0))
-unfolding Outcome.numberOfOutcome
-three-tests true b c = refl
-three-tests false true c = refl
-three-tests false false true = refl
-three-tests false false false = refl
-
--- the numbers of a command, by the command: what commands/specs/Outcome says is 01's list
-module _ (setup : Setup) (command : ℕ) (content : List ℕ) where
-  -- 2 to 7 in turn
-  abbrev frameNumbers : List Condition
-  frameNumbers =
-      (2 when notCommand command content)
-      ∷ (3 when wrongData command content)
-      ∷ (4 when passesEnd command content)
-      ∷ (5 when touchesUnwritable command content)
-      ∷ (6 when valueWrong (setup .pages) command content)
-      ∷ (7 when replyPasses (checkingOf setup) command content)
-      ∷ []
-
-  write-numbers : command ≡ 0x80 → Outcome.numberOfOutcome (writeRegistersOutcome (setup .pages) content) ≡ firstNumber frameNumbers
-  unfolding writeRegistersOutcome Outcome.numberOfOutcome firstNumber notCommand byCommand wrongData passesEnd touchesUnwritable valueWrong replyPasses
-  write-numbers is =
-      rw is
-      (go (ltb (length content) 2) (ltb registerCount (byteAt content 0 + length (drop 1 content))) (unwritableRun (byteAt content 0) (length (drop 1 content)))
-      (wrongValue (byteAt content 0) (drop 1 content) (setup .pages)))
-    where
-      go : (a b c d : Bool) → Outcome.numberOfOutcome (cond a WrongData (cond b PastEnd (cond c Unwritable (cond d WrongValue Done))))
-          ≡ cond a 3 (cond b 4 (cond c 5 (cond d 6 0)))
-      go true b c d = refl
-      go false true c d = refl
-      go false false true d = refl
-      go false false false true = refl
-      go false false false false = refl
-
-  read-numbers : command ≡ 0x81 → Outcome.numberOfOutcome (readRegistersOutcome (checkingOf setup) content) ≡ firstNumber frameNumbers
-  unfolding readRegistersOutcome Outcome.numberOfOutcome firstNumber notCommand byCommand wrongData passesEnd touchesUnwritable valueWrong replyPasses
-  read-numbers is =
-      rw is
-      (three-tests (not (eqb (length content) 2)) (ltb registerCount (byteAt content 0 + byteAt content 1)) (replyTooLong (checkingOf setup) (2 + byteAt content 1)))
-
-  store-numbers : command ≡ 0x82 → Outcome.numberOfOutcome (writeWordsOutcome wordCount content) ≡ firstNumber frameNumbers
-  unfolding writeWordsOutcome Outcome.numberOfOutcome firstNumber notCommand byCommand wrongData passesEnd touchesUnwritable valueWrong replyPasses
-  store-numbers is =
-      rw is
-      (two-tests (ltb (length content) 4 || eqb (length content % 2) 1) (ltb wordCount (wordAt content 0 + length (wordsOf (drop 2 content)))))
-
-  fetch-numbers : command ≡ 0x83 → Outcome.numberOfOutcome (readWordsOutcome wordCount (checkingOf setup) content) ≡ firstNumber frameNumbers
-  unfolding readWordsOutcome Outcome.numberOfOutcome firstNumber notCommand byCommand wrongData passesEnd touchesUnwritable valueWrong replyPasses
-  fetch-numbers is =
-      rw is
-      (three-tests (not (eqb (length content) 3)) (ltb wordCount (wordAt content 0 + byteAt content 2))
-      (replyTooLong (checkingOf setup) (3 + (byteAt content 2 + byteAt content 2))))
-
-  unknown : (command ≡ 0x80 → ⊥) → (command ≡ 0x81 → ⊥) → (command ≡ 0x82 → ⊥) → (command ≡ 0x83 → ⊥) → notCommand command content ≡ true
-  unfolding notCommand
-  unknown a b c d = go (ltb command 0x80) refl
-    where
-      go : (low : Bool) → ltb command 0x80 ≡ low → (low || ltb 0x83 command) ≡ true
-      go true is = refl
-      go false is =
-          let from : 0x80 ≤ command = ltb-false command 0x80 is in
-          let above : 0x83 < command = omega arith in
-          lt-ltb 0x83 command above
-
-  -- "then 2 to 7 in turn"
-  pub frame-numbers : Outcome.numberOfOutcome (outcome (fixedFor setup) wordCount command content) ≡ firstNumber frameNumbers
-  unfolding outcome Outcome.numberOfOutcome firstNumber
-  frame-numbers = go (eqb command 0x80) refl (eqb command 0x81) refl (eqb command 0x82) refl (eqb command 0x83) refl
-    where
-      none : (command ≡ 0x80 → ⊥) → (command ≡ 0x81 → ⊥) → (command ≡ 0x82 → ⊥) → (command ≡ 0x83 → ⊥)
-          → Outcome.numberOfOutcome UnknownCommand ≡ firstNumber frameNumbers
-      none a b c d = rw (unknown a b c d)
-
-      go : (a : Bool) → eqb command 0x80 ≡ a → (b : Bool) → eqb command 0x81 ≡ b → (c : Bool) → eqb command 0x82 ≡ c → (d : Bool) → eqb command 0x83 ≡ d
-          → Outcome.numberOfOutcome
-          (cond a (writeRegistersOutcome (setup .pages) content)
-          (cond b (readRegistersOutcome (checkingOf setup) content)
-          (cond c (writeWordsOutcome wordCount content) (cond d (readWordsOutcome wordCount (checkingOf setup) content) UnknownCommand))))
-          ≡ firstNumber frameNumbers
-      go true is b p c q d r = write-numbers (eqb-true command 0x80 is)
-      go false is true p c q d r = read-numbers (eqb-true command 0x81 p)
-      go false is false p true q d r = store-numbers (eqb-true command 0x82 q)
-      go false is false p false q true r = fetch-numbers (eqb-true command 0x83 r)
-      go false is false p false q false r =
-          none (eqb-false command 0x80 is) (eqb-false command 0x81 p) (eqb-false command 0x82 q) (eqb-false command 0x83 r)
+-- the numbers alone of what is said of a command
+numbers-said : (setup : Setup) (room command : ℕ) (content : List ℕ)
+    → performSaid (fixedFor setup) wordCount room command content .number ≡ firstNumber (frameNumbers setup command content)
+unfolding performSaid performListed firstSaid firstNumber
+numbers-said setup room command content =
+    go (notCommand command content) (wrongData command content) (passesEnd wordCount command content) (touchesUnwritable command content)
+    (valueWrong (setup .pages) command content) (replyPasses (checkingOf setup) command content) _
+  where
+    go : (a b c d e f : Bool) (n : ℕ)
+        → cond a (says 2 (0 ∷ [])) (cond b (says 3 (0 ∷ [])) (cond c (says 4 (0 ∷ [])) (cond d (says 5 (0 ∷ []))
+        (cond e (says 6 (0 ∷ [])) (cond f (says 7 (0 ∷ [])) (says 0 (n ∷ []))))))) .number
+        ≡ cond a 2 (cond b 3 (cond c 4 (cond d 5 (cond e 6 (cond f 7 0)))))
+    go true b c d e f n = refl
+    go false true c d e f n = refl
+    go false false true d e f n = refl
+    go false false false true e f n = refl
+    go false false false false true f n = refl
+    go false false false false false true n = refl
+    go false false false false false false n = refl
 
 -- asking for a report: 2 to 7 of the report that waits
 abbrev waitingNumbers : Setup → List Report → List Condition
 waitingNumbers setup report =
     (2 when ofFrame report notCommand)
     ∷ (3 when ofFrame report wrongData)
-    ∷ (4 when ofFrame report passesEnd)
+    ∷ (4 when ofFrame report (passesEnd wordCount))
     ∷ (5 when ofFrame report touchesUnwritable)
     ∷ (6 when ofFrame report (valueWrong (setup .pages)))
     ∷ (7 when ofFrame report (replyPasses (checkingOf setup)))
@@ -143,14 +77,14 @@ waitingNumbers setup report =
 accepted-number : (panel : Panel) (lent : Lent) → length (lent .words) ≡ wordCount → (command : ℕ) (content : List ℕ)
     → Outcome.numberOfOutcome (accepting (panel .setup) (panel .registers) command content lent .effected .performed .outcome)
     ≡ firstNumber (frameNumbers (panel .setup) command content)
-unfolding accepting
+unfolding accepting performedSaid
 accepted-number panel lent whole command content =
     let setup = panel .setup in
     let answer = acknowledged setup command true (lent .room) in
-    ap Outcome.numberOfOutcome
-    (performs-outcome (fixedFor setup) (panel .registers) command content (withRoom lent (drop (answer .count) (answer .room))))
-    ∙ ap (λ (n : ℕ). Outcome.numberOfOutcome (outcome (fixedFor setup) n command content)) whole
-    ∙ frame-numbers setup command content
+    let part : Lent = withRoom lent (drop (answer .count) (answer .room)) in
+    ap (λ (s : Said). s .number) (perform-as-listed (fixedFor setup) (panel .registers) content part command)
+    ∙ ap (λ (n : ℕ). performSaid (fixedFor setup) n (length (part .room)) command content .number) whole
+    ∙ numbers-said setup (length (part .room)) command content
 
 handing-numbers : (panel : Panel) (lent : Lent) → length (lent .words) ≡ wordCount → (a : Asked) (told : Told) (report : List Report) → told ≡ reportAs report
     → a .payload ≡ payloadAs report

@@ -2,23 +2,20 @@
 -- 01's table "Numbers given back" as data: for each call its numbers in the printed order, each with its printed condition. The theorems are in
 -- proofs/Demand1. That no call is ever "an undefined act or an unending one" has no theorem of its own: the checker takes no function that it
 -- has not proved to be safe and to end, on every input.
-use Prim.Native.Nat.{ℕ, _+_, _*_, _%_, _≤_, _<_}
+use Prim.Native.Nat.{ℕ, _*_, _%_, _≤_, _<_}
 use mathlib.Core.Path.{_≡_}
 use mathlib.Core.Logic.{_⊎_}
 use mathlib.Core.Bool.{Bool, true, false, cond, not, _&&_, _||_}
 use mathlib.Core.List.{List, [], _∷_, _++_, map}
 use lib.Dec.{eqb, ltb}
-use lib.ListN.{length, drop}
+use lib.ListN.{length}
 use Rattle.wire.specs.Room.{over}
-use Rattle.wire.specs.ByteOrder.{byteAt, wordAt}
-use Rattle.wire.specs.Addresses.{registerCount, wordCount}
+use Rattle.wire.specs.Addresses.{wordCount}
 use Rattle.frame.specs.Frame.{mostData}
 use Rattle.frame.specs.Writer.{leastRoom}
 use Rattle.reading.specs.Place.{Report, badCheck, acceptedFrame}
-use Rattle.registers.specs.Run.{unwritableRun, wrongValue}
 use Rattle.registers.specs.Touched.{isDown, isTouchOff}
-use Rattle.words.specs.Words.{wordsOf}
-use Rattle.commands.specs.Outcome.{replyTooLong}
+use Rattle.commands.specs.Listed.{notCommand, wrongData, passesEnd, touchesUnwritable, valueWrong, replyPasses}
 use Rattle.commands.specs.Lent.{withRoom}
 use Rattle.touch.specs.declared.Setup.{Setup}
 use Rattle.touch.specs.declared.Record.{Record}
@@ -65,56 +62,11 @@ unfoldable pub oneComesWhileWaiting : Panel → List ℕ → Bool
 oneComesWhileWaiting panel [] = false
 oneComesWhileWaiting panel (b ∷ bs) = reportWaits panel || oneComesWhileWaiting (fedByte panel b .panel) bs
 
--- 2 to 7: "Numbers 2 to 7 are answers beside a frame's report": conditions of the accepted frame that is handed over
+-- 2 to 7: "Numbers 2 to 7 are answers beside a frame's report": conditions of the accepted frame that is handed over, each as commands/specs/Listed states it
 unfoldable pub ofFrame : List Report → (ℕ → List ℕ → Bool) → Bool
 ofFrame [] test = false
 ofFrame (badCheck command ∷ reports) test = false
 ofFrame (acceptedFrame command content ∷ reports) test = test command content
-
--- 2: "command not 80 to 83"
-unfoldable pub notCommand : ℕ → List ℕ → Bool
-notCommand command content = ltb command 0x80 || ltb 0x83 command
-
--- a condition on 0x80, on 0x81, on 0x82 and on 0x83
-unfoldable pub byCommand : ℕ → (write read store fetch : Bool) → Bool
-byCommand command write read store fetch =
-    cond (eqb command 0x80) write (cond (eqb command 0x81) read (cond (eqb command 0x82) store (cond (eqb command 0x83) fetch false)))
-
--- 3: "data too short, too long, or an odd word byte". "0x80, address (1), one or more bytes"; "0x81, address (1), count (1)"; "0x82, address (2),
--- one or more words"; "0x83, address (2), count (1)"
-unfoldable pub wrongData : ℕ → List ℕ → Bool
-wrongData command content =
-    byCommand command
-    (ltb (length content) 2)
-    (not (eqb (length content) 2))
-    (ltb (length content) 4 || eqb (length content % 2) 1)
-    (not (eqb (length content) 3))
-
--- 4: "address or its run passes the end". "Address plus count may not pass 256 (registers) or 28,672 (words)"
-unfoldable pub passesEnd : ℕ → List ℕ → Bool
-passesEnd command content =
-    byCommand command
-    (ltb registerCount (byteAt content 0 + length (drop 1 content)))
-    (ltb registerCount (byteAt content 0 + byteAt content 1))
-    (ltb wordCount (wordAt content 0 + length (wordsOf (drop 2 content))))
-    (ltb wordCount (wordAt content 0 + byteAt content 2))
-
--- 5: "a write touches an unwritable register or half the page"
-unfoldable pub touchesUnwritable : ℕ → List ℕ → Bool
-touchesUnwritable command content = byCommand command (unwritableRun (byteAt content 0) (length (drop 1 content))) false false false
-
--- 6: "backlight above 3F, or page not below P"
-unfoldable pub valueWrong : (pages : ℕ) → ℕ → List ℕ → Bool
-valueWrong pages command content = byCommand command (wrongValue (byteAt content 0) (drop 1 content) pages) false false false
-
--- 7: "reply frame's L would pass 255". "Reply 0x81, address, count, bytes"; "Reply 0x83, address, count, words"
-unfoldable pub replyPasses : (checking : Bool) → ℕ → List ℕ → Bool
-replyPasses checking command content =
-    byCommand command
-    false
-    (replyTooLong checking (2 + byteAt content 1))
-    false
-    (replyTooLong checking (3 + (byteAt content 2 + byteAt content 2)))
 
 -- 14: "words lent aren't 28,672"
 unfoldable pub wordsNotLent : List ℕ → Bool
@@ -149,7 +101,7 @@ printed now ask =
     (14 when wordsNotLent (now .lent .words) || roomTooSmall (now .lent .room))
     ∷ (2 when ofFrame report notCommand)
     ∷ (3 when ofFrame report wrongData)
-    ∷ (4 when ofFrame report passesEnd)
+    ∷ (4 when ofFrame report (passesEnd wordCount))
     ∷ (5 when ofFrame report touchesUnwritable)
     ∷ (6 when ofFrame report (valueWrong (setup .pages)))
     ∷ (7 when ofFrame report (replyPasses (checkingOf setup)))

@@ -17,7 +17,7 @@ use Rattle.frame.specs.declared.Header.{Header}
 use Rattle.frame.specs.declared.Written.the-variants.{Frame, DataTooLong, RoomTooSmall}
 use Rattle.frame.specs.Frame.{headerBytes, checkLength, checkBytes, lengthByte, enclosed, framed, frameOf, mostData}
 use Rattle.frame.specs.Acknowledgement.{acknowledgementLength, verdict, acknowledgement}
-use Rattle.frame.specs.Writer.{leastRoom, numberOfWritten, writerNumber, answers, writing, frameLaid, acknowledgementLaid, closedLaid}
+use Rattle.frame.specs.Writer.{leastRoom, answers, writing, frameLaid, acknowledgementLaid, closedLaid}
 use Rattle.frame.proofs.Laying.{length-prefix, length-enclosed, enclosed-laid}
 
 pub length-frameOf : (checking : Bool) (header : List ℕ) (command : ℕ) (payload : List ℕ)
@@ -170,20 +170,6 @@ module _ (checking : Bool) (header : List ℕ) (n m : ℕ) (room : List ℕ) (is
         (ap (λ (k : ℕ). enclosed checking header k standing) rule)
         (omega (arith, length-enclosed checking header (n + c) standing))
         (enclosed-laid checking header (n + c) h standing room l r is-header is-l laid-r)
-
-module _ (checking : Bool) (payload room : List ℕ) where
-  pub number-14 : length room < leastRoom → numberOfWritten RoomTooSmall ≡ writerNumber checking payload room
-  unfolding numberOfWritten writerNumber
-  number-14 small = rw (lt-ltb (length room) leastRoom small)
-
-  module _ (m : ℕ) (is-most : m ≡ mostData checking) (roomy : leastRoom ≤ length room) where
-    pub number-3 : m < length payload → numberOfWritten DataTooLong ≡ writerNumber checking payload room
-    unfolding numberOfWritten writerNumber
-    number-3 long = rw (le-ltb (length room) leastRoom roomy, lt-ltb (mostData checking) (length payload) (rw is-most at long))
-
-    pub number-0 : (n : ℕ) → length payload ≤ m → numberOfWritten (Frame n) ≡ writerNumber checking payload room
-    unfolding numberOfWritten writerNumber
-    number-0 n within = rw (le-ltb (length room) leastRoom roomy, le-ltb (mostData checking) (length payload) (rw is-most at within))
 
 module _ (checking : Bool) (header : List ℕ) (command : ℕ) (payload room : List ℕ) where
   pub writer-no-room : length room < leastRoom → answers RoomTooSmall room ≡ writing checking header command payload room

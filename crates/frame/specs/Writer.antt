@@ -2,9 +2,10 @@
 -- answers the frame's length; room past the frame stays."
 use Prim.Native.Nat.{ℕ, _+_}
 use mathlib.Core.Bool.{Bool, cond, _&&_}
-use mathlib.Core.List.{List}
+use mathlib.Core.List.{List, [], _∷_}
 use lib.Dec.{leb, ltb}
 use lib.ListN.{length, take, drop}
+use Rattle.wire.specs.Numbers.{Said, says, Listed, _when_, firstSaid}
 use Rattle.wire.specs.Room.{over, Laid, laid}
 use Rattle.frame.specs.declared.Written.{Written}
 use Rattle.frame.specs.declared.Written.the-variants.{Frame, DataTooLong, RoomTooSmall}
@@ -21,10 +22,21 @@ numberOfWritten (Frame n) = 0
 numberOfWritten DataTooLong = 3
 numberOfWritten RoomTooSmall = 14
 
--- "The first number in order whose condition holds is given": 14 for "writer's room below 265", 3 for "data over the limit", 0 for "done"
-unfoldable pub writerNumber : Bool → List ℕ → List ℕ → ℕ
-writerNumber checking payload room =
-    cond (ltb (length room) leastRoom) 14 (cond (ltb (mostData checking) (length payload)) 3 0)
+-- beside the number: "else answers the frame's length"
+unfoldable pub writtenSaid : Written → Said
+writtenSaid (Frame n) = says (numberOfWritten (Frame n)) (n ∷ [])
+writtenSaid DataTooLong = says (numberOfWritten DataTooLong) []
+writtenSaid RoomTooSmall = says (numberOfWritten RoomTooSmall) []
+
+-- "it refuses with 14, then 3": "writer's room below 265"; "data over the limit"
+unfoldable pub writerListed : Bool → (payload room : List ℕ) → List Listed
+writerListed checking payload room =
+    (says 14 [] when ltb (length room) leastRoom) ∷ (says 3 [] when ltb (mostData checking) (length payload)) ∷ []
+
+-- "L counts command, data and check bytes, so a frame has 3 + L bytes"
+abbrev pub writerSaid : Bool → (header payload room : List ℕ) → Said
+writerSaid checking header payload room =
+    firstSaid (writerListed checking payload room) (says 0 ((length header + 1 + (1 + length payload + checkLength checking)) ∷ []))
 
 -- what the writer answers, and the room as it leaves it
 pub record Writing : Type 0 where

@@ -6,7 +6,7 @@ ghost use lib.ListN.{length, take};
 ghost use Rattle.wire.specs.Room.{over, lays};
 ghost use Rattle.frame.specs.Frame.{headerBytes, checkLength, checkBytes, enclosed, mostPayload, mostData};
 ghost use Rattle.frame.specs.Acknowledgement.{verdict};
-ghost use Rattle.frame.specs.Writer.{numberOfWritten, writerNumber, answers, writing, frameLaid, acknowledgementLaid, closedLaid};
+ghost use Rattle.frame.specs.Writer.{writtenSaid, writerSaid, answers, writing, frameLaid, acknowledgementLaid, closedLaid};
 
 // The header set up for the line.
 pub struct Header {
@@ -194,7 +194,7 @@ pub fn write_frame(
     room: &mut [u8],
 ) -> Written
     ensures { λ r. ⌜ answers r (now (room .exit)) ≡ writing checking (headerBytes header) command (now (payload .entry)) (now (room .entry)) ⌝ }
-    ensures { λ r. ⌜ numberOfWritten r ≡ writerNumber checking (now (payload .entry)) (now (room .entry)) ⌝ }
+    ensures { λ r. ⌜ writtenSaid r ≡ writerSaid checking (headerBytes header) (now (payload .entry)) (now (room .entry)) ⌝ }
 {
     if room.len() < LEAST_ROOM {
         return Written::RoomTooSmall;

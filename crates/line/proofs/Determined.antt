@@ -32,7 +32,7 @@ pub give-mark-determined : OneAnswer 0 give-mark-kinds.ps give-mark-kinds.r give
 give-mark-determined κs a x y s t p q = p .0 ∙ sym (q .0)
 
 pub ask-determined : OneAnswer 0 ask-kinds.ps ask-kinds.r ask.Post
-ask-determined κs a x y s t p q = p ∙ sym q
+ask-determined κs a x y s t p q = p .0 ∙ sym (q .0)
 
 pub give-bytes-determined : OneAnswer 1 give-bytes-kinds.ps give-bytes-kinds.r give-bytes.Post
 give-bytes-determined κs a x y s t p q = p ∙ sym q

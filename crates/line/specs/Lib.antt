@@ -1,4 +1,5 @@
 pub mod State
 pub mod Methods
+pub mod Front
 pub mod Reached
 pub mod Inner

@@ -15,6 +15,7 @@ ghost use lib.ListN.{length, take, drop};
 ghost use Rattle.frame.specs.Frame.{headerBytes, contentOf, longestFrame, mostPayload};
 ghost use Rattle.line.specs.State.{padded};
 ghost use Rattle.line.specs.declared.Report.the-variants.{Nothing};
+ghost use Rattle.line.specs.Front.{reportSaid, frontSaid};
 ghost use Rattle.line.specs.Inner.{askedWith, answerWithReport};
 ghost use Rattle.line.specs.Methods.{bodyLength, span, told, asked};
 
@@ -139,6 +140,7 @@ impl Reader {
     // Hands over the next report, or nothing.
     pub fn ask(self) -> Asked
         ensures { λ r. ⌜ r ≡ asked self ⌝ }
+        ensures { λ r. ⌜ reportSaid (r .report) ≡ frontSaid self ⌝ }
     {
         let line = self.line;
         let mut payload = arrays::no_payload();

@@ -34,7 +34,7 @@ use Rattle.panel.proofs.Panel.is_waiting.Kinds as is-waiting-kinds
 pub report-determined :
     OneAnswerLeft 2 report-kinds.ps report-kinds.r report.Post {B = List ℕ × List ℕ} (λ κs s. (now (s .1 .0), now (s .1 .1 .0)))
 report-determined κs a x y s t p q =
-    (ap (λ (d : Reporting). d .reported) (p ∙ sym q), ap (λ (d : Reporting). (d .lent .words, d .lent .room)) (p ∙ sym q))
+    (ap (λ (d : Reporting). d .reported) (p .0 ∙ sym (q .0)), ap (λ (d : Reporting). (d .lent .words, d .lent .room)) (p .0 ∙ sym (q .0)))
 
 pub contact-determined : OneAnswerLeft 2 contact-kinds.ps contact-kinds.r contact.Post (λ κs s. now (s .1 .1 .0))
 contact-determined κs a x y s t p q =

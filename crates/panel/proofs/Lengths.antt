@@ -60,7 +60,7 @@ frame-long checking header command payload room =
     laid-long frame room (short && leb (length frame) (length room))
     (λ may. leb-true (length frame) (length room) (and-right short (leb (length frame) (length room)) may))
 
-answer-long : (setup : Setup) (command : ℕ) (good : Bool) (room : List ℕ) → length (acknowledged setup command good room .room) ≡ length room
+pub answer-long : (setup : Setup) (command : ℕ) (good : Bool) (room : List ℕ) → length (acknowledged setup command good room .room) ≡ length room
 unfolding acknowledged acknowledgementLaid
 answer-long setup command good room = go (answering setup)
   where

@@ -10,3 +10,4 @@ pub mod Invariant
 pub mod ExampleF
 pub mod Lengths
 pub mod Said
+pub mod ReportSaid

@@ -1,23 +1,59 @@
--- 01, "Numbers given back", "Order": the lists by which a start, a contact and a lift are answered; an input has its own in crate line.
-use Prim.Native.Nat.{ℕ}
-use mathlib.Core.Bool.{not}
+-- 01, "Numbers given back", "Order": the lists by which a start, an ask for a report, a contact and a lift are answered; an input has its own in crate
+-- line, and a command, 2 to 7, in crate commands.
+use Prim.Native.Nat.{ℕ, _+_, _-_}
+use mathlib.Core.Bool.{cond, not, _||_}
 use mathlib.Core.List.{List, [], _∷_, _++_}
-use lib.Dec.{eqb}
+use lib.Dec.{eqb, ltb}
 use lib.ListN.{length}
 use Rattle.wire.specs.Addresses.{wordCount}
 use Rattle.wire.specs.Numbers.{Said, says, Listed, _when_, firstSaid}
+use Rattle.frame.specs.Acknowledgement.{acknowledgementLength}
+use Rattle.frame.specs.Writer.{leastRoom}
 use Rattle.line.specs.Methods.{busy}
+use Rattle.line.specs.Front.{handsNothing, isBad, badCommand, frontCommand, frontContent}
 use Rattle.registers.specs.Touched.{isDown, isTouchOff}
 use Rattle.commands.specs.Lent.{Lent}
+use Rattle.commands.specs.Listed.{performSaid}
 use Rattle.touch.specs.declared.Setup.{Setup}
 use Rattle.touch.specs.Setup.{setupListed}
 use Rattle.touch.specs.Judge.{tableListed}
 use Rattle.panel.specs.declared.Panel.{Panel}
+use Rattle.panel.specs.State.{headerOf, fixedFor, answering}
 use Rattle.panel.specs.Contacts.{onScreen, Contact}
 
 -- "start 11, 12, 13"
 unfoldable pub startListed : Setup → (table : List ℕ) → List Listed
 startListed setup table = setupListed setup ++ tableListed setup table
+
+-- how long an acknowledgement is: "header, length, command, 0xFF, check"; "The length byte follows the general rule above and is 4."
+unfoldable pub answerLength : Setup → ℕ
+answerLength setup = cond (answering setup) (length (headerOf setup) + 1 + acknowledgementLength) 0
+
+-- "asking for a report 14, ..": then "nothing", then a bad check with its command byte and how long its acknowledgement is
+unfoldable pub askListed : Panel → Lent → List Listed
+askListed panel lent =
+    (says 14 [] when (not (eqb (length (lent .words)) wordCount) || ltb (length (lent .room)) leastRoom))
+    ∷ (says 0 [] when handsNothing (panel .reader))
+    ∷ (says 0 (badCommand (panel .reader .head) ∷ answerLength (panel .setup) ∷ []) when isBad (panel .reader .head))
+    ∷ []
+
+-- these values in front of those that are said
+abbrev pub beside : (values : List ℕ) → Said → Said
+beside values said = says (said .number) (values ++ said .values)
+
+-- ".. then 2 to 7 in turn": "answers beside a frame's report": its command, how much data it has and how long its acknowledgement is; the reply has the
+-- room behind the acknowledgement
+unfoldable pub frameSaid : Panel → Lent → Said
+frameSaid panel lent =
+    let setup = panel .setup in
+    let command = frontCommand (panel .reader) in
+    let content = frontContent (panel .reader) in
+    beside (command ∷ length content ∷ answerLength setup ∷ [])
+    (performSaid (fixedFor setup) wordCount (length (lent .room) - answerLength setup) command content)
+
+-- "The first number in order whose condition holds is given": "asking for a report 14, then 2 to 7 in turn"
+abbrev pub askSaid : Panel → Lent → Said
+askSaid panel lent = firstSaid (askListed panel lent) (frameSaid panel lent)
 
 -- "contact 14, 1, 12, 13, 9, 8"
 unfoldable pub contactListed : Panel → Contact → Lent → List Listed

@@ -26,6 +26,14 @@ reportNumber handed.Nothing = 0
 reportNumber (handed.BadCheck command acknowledged) = 0
 reportNumber (handed.Accepted command count outcome acknowledged replied) = numberOfOutcome outcome
 
+-- beside the number: the command, how much data there is, how long an acknowledgement and how long a reply were written
+unfoldable pub handedSaid : Handed → Said
+handedSaid handed.NotLent = says (reportNumber handed.NotLent) []
+handedSaid handed.Nothing = says (reportNumber handed.Nothing) []
+handedSaid (handed.BadCheck command acknowledged) = says (reportNumber (handed.BadCheck command acknowledged)) (command ∷ acknowledged ∷ [])
+handedSaid (handed.Accepted command count outcome acknowledged replied) =
+    says (reportNumber (handed.Accepted command count outcome acknowledged replied)) (command ∷ count ∷ acknowledged ∷ replied ∷ [])
+
 -- "contact 14, 1, 12, 13, 9, 8", "0: done": the number of each answer
 unfoldable pub contactNumber : ContactAnswer → ℕ
 contactNumber contact.Done = 0

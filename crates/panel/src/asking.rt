@@ -8,6 +8,8 @@ ghost use Rattle.frame.specs.Frame.{mostPayload};
 ghost use Rattle.line.specs.State.{padded};
 ghost use Rattle.registers.specs.Table.{holding};
 ghost use Rattle.commands.specs.Lent.{lending};
+ghost use Rattle.panel.specs.Listed.{askSaid};
+ghost use Rattle.panel.specs.Numbers.{handedSaid};
 ghost use Rattle.panel.specs.State.{fixedFor};
 ghost use Rattle.panel.specs.Reporting.{enough, acknowledged, effects, accepting, lengthOf, catchAfter, onlyHanded, acceptedOver, overs, handingOver, refused, reports, reporting};
 use crate::Effected;
@@ -28,6 +30,7 @@ impl Panel {
     // Asks for a report: hands it over, acknowledges it, and does what an accepted frame says.
     pub fn report(self, words: &mut [u16], room: &mut [u8]) -> Reported
         ensures { λ r. ⌜ reports r (lending (now (words .exit)) (now (room .exit))) ≡ reporting self (lending (now (words .entry)) (now (room .entry))) ⌝ }
+        ensures { λ r. ⌜ handedSaid (r .handed) ≡ askSaid self (lending (now (words .entry)) (now (room .entry))) ⌝ }
     {
         if !is_lent(words.len(), room.len()) {
             return not_lent(self);

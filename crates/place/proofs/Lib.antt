@@ -1,3 +1,4 @@
 pub mod Places
 pub mod Stops
+pub mod Said
 pub mod Determined

@@ -5,8 +5,9 @@ ghost use mathlib.Core.Path.{_≡_};
 ghost use mathlib.Core.List.{_∷_, []};
 ghost use Prim.Native.Nat.{_-_};
 ghost use lib.ListN.{length};
-ghost use Rattle.frame.specs.Frame.{rightCheck};
+ghost use Rattle.frame.specs.Frame.{headerBytes, rightCheck};
 ghost use Rattle.reading.specs.Place.{cutShort, decidedByCheck, afterHeader, behind, look};
+ghost use Rattle.place.specs.Bullets.{lookSaid, placeSaid, stopSaid, stopListed};
 ghost use Rattle.place.specs.Inner.{passesOver};
 ghost use Rattle.place.specs.Looks.{rulesOf, shown, stopOf};
 
@@ -104,6 +105,7 @@ fn after_first(h2: u8, checking: bool, closed: bool, s: &[u8]) -> Look
 // What stands at the first of these bytes, the rest of a stretch.
 pub fn look_at(header: Header, checking: bool, closed: bool, s: &[u8]) -> Look
     ensures { λ r. ⌜ r ≡ shown (look (rulesOf header checking) closed (now (s .entry))) ⌝ }
+    ensures { λ r. ⌜ lookSaid (headerBytes header) r ≡ placeSaid (rulesOf header checking) closed (now (s .entry)) ⌝ }
 {
     if s.len() == 0 {
         return cut_short(closed);
@@ -130,6 +132,7 @@ fn is_pass(look: Look) -> bool
 // The first place that is not passed over, and what stands there; behind the last byte a place waits.
 pub fn first_stop(header: Header, checking: bool, closed: bool, s: &[u8]) -> Stop
     ensures { λ r. ⌜ r ≡ stopOf (rulesOf header checking) closed (now (s .entry)) ⌝ }
+    ensures { λ r. ⌜ stopSaid (headerBytes header) r ≡ stopListed (rulesOf header checking) closed (now (s .entry)) ⌝ }
 {
     let mut at = 0;
     while at < s.len() {

@@ -49,7 +49,7 @@ pub judge-determined : OneAnswer 1 judge-kinds.ps judge-kinds.r judge.Post
 judge-determined κs a x y s t p q = p .0 ∙ sym (q .0)
 
 pub find-determined : OneAnswer 1 find-kinds.ps find-kinds.r find.Post
-find-determined κs a x y s t p q = cc
+find-determined κs a x y s t p q = p .0 ∙ sym (q .0)
 
 pub acted-determined : OneAnswer 0 acted-kinds.ps acted-kinds.r acted.Post
 acted-determined κs a x y s t p q = cc

@@ -1,6 +1,6 @@
 // Which record of a table a point finds.
 ghost use mathlib.Core.Path.{_≡_};
-ghost use Rattle.touch.specs.Find.{holds, found};
+ghost use Rattle.touch.specs.Find.{holds, found, foundSaid, pointSaid};
 use crate::END_PAGE;
 use crate::Found;
 use crate::RECORD_BYTES;
@@ -17,6 +17,7 @@ fn holds_point(r: Record, page: u16, x: u16, y: u16) -> bool
 // The first record of a page, before the table's end, whose area holds a point.
 pub fn find(table: &[u8], page: u16, x: u16, y: u16) -> Found
     ensures { λ r. ⌜ r ≡ found (now (table .entry)) page x y ⌝ }
+    ensures { λ r. ⌜ foundSaid r ≡ pointSaid (now (table .entry)) page x y ⌝ }
 {
     let count = table.len() / RECORD_BYTES;
     let mut i: usize = 0;

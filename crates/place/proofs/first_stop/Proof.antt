@@ -6,6 +6,7 @@ use borrow.Author.Needs.{needs}
 use lib.ListN.{length, drop}
 use Rattle.reading.specs.Moves.{passes}
 use Rattle.place.specs.Looks.{rulesOf}
+use Rattle.place.proofs.Said.{stop-said}
 use Rattle.place.proofs.Stops.{goes-on, stops-here, stops-behind}
 use Rattle.place.proofs.first_stop.Statement.{statement}
 use Rattle.place.proofs.first_stop.Tie as tie
@@ -32,5 +33,5 @@ first-stop-spec =
     (λ c. search needs)
     (λ c. search needs)
     (λ c. (search needs, search goes-on))
-    (λ c. search stops-here)
-    (λ c. search stops-behind))
+    (λ c. stop-said _ _ _ _ _ (search stops-here))
+    (λ c. stop-said _ _ _ _ _ (search stops-behind)))

@@ -3,6 +3,7 @@ use mathlib.Core.Path.{_∙_}
 use mathlib.Core.Logic.{⊎-elim}
 use borrow.Author.Needs.{needs}
 use borrow.Author.Tests.{not-true, not-false}
+use Rattle.panel.proofs.ReportSaid.{report-said}
 use Rattle.panel.proofs.Reports.{within-inside, within-long, behind-written, behind-unwritten, reported-refused, reported-behind}
 use Rattle.panel.proofs.Panel.report.Statement.{statement}
 use Rattle.panel.proofs.Panel.report.Tie as tie
@@ -12,8 +13,9 @@ returns : tie.Need-returns
 returns c =
     let entry = c .before .before .before .before .before .args in
     let judged = c .before .before .is-lent in
-    reported-refused (entry .self) (entry .words .now) (entry .room .now) (judged .result) (judged .ensures) (c .not-lent .result)
-    (not-true (judged .result) (c .before .if1 .taken)) (c .not-lent .ensures)
+    report-said _ _ _ _ _ _
+    (reported-refused (entry .self) (entry .words .now) (entry .room .now) (judged .result) (judged .ensures) (c .not-lent .result)
+    (not-true (judged .result) (c .before .if1 .taken)) (c .not-lent .ensures))
 
 slice-aggregate-registers-left : tie.Need-slice-aggregate-registers-left
 slice-aggregate-registers-left c =
@@ -30,15 +32,16 @@ returns-2 c =
     let done = c .before .before .before .before .before .before .before .hand-over in
     let written = c .before .if2 in
     let catch = c .before .before .catch-after in
-    reported-behind (entry .self) (entry .words .now) (entry .room .now) (judged .result) (judged .ensures)
-    (not-false (judged .result) (c .before .before .before .before .before .before .before .before .before .before .before .before .before .before .before .before .before .before .before .before .if1 .left)) (a .result) (a .ensures) (done .result) _ _ (done .ensures)
+    report-said _ _ _ _ _ _
+    (reported-behind (entry .self) (entry .words .now) (entry .room .now) (judged .result) (judged .ensures)
+    (not-false (judged .result) (c .before .before .before .before .before .before .before .before .before .before .before .before .before .before .before .before .before .before .before .before .if1 .left)) (a .result) (a .ensures .0) (done .result) _ _ (done .ensures)
     (catch .result) (catch .ensures) (written .registers)
     (⊎-elim
     (λ w. behind-written (entry .self .registers) (a .result .report) (a .result .payload) (done .result .writes) (written .registers)
     (w .1 .result) (w .2 .result) (w .0 .taken) (w .1 .ensures) (w .2 .ensures) (search needs) (w .5 ∙ w .4 .ensures))
     (λ w. behind-unwritten (entry .self .registers) (a .result .report) (a .result .payload) (done .result .writes) (written .registers)
     (w .0 .left) (w .1))
-    (written .came))
+    (written .came)))
 
 pub report-spec : {M : Type 1} → statement M
 report-spec =

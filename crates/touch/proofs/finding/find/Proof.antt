@@ -2,6 +2,7 @@
 use mathlib.Core.Path.{_≡_}
 use Prim.Native.Nat.{_≤_, _-_}
 use Rattle.touch.specs.Find.{holds, found}
+use Rattle.touch.proofs.Said.{point-said}
 use Rattle.touch.proofs.TableAnswers.{walk, picked}
 use Rattle.touch.proofs.finding.find.Statement.{statement}
 use Rattle.touch.proofs.finding.find.Tie as tie
@@ -20,10 +21,10 @@ find-spec =
     μ-loop
     (λ c. (search walk, search walk))
     (λ c κs. search walk)
-    (λ c. search walk)
+    (λ c. point-said _ _ _ _ _ (search walk))
     (λ c κs. search walk)
-    (λ c. search walk)
+    (λ c. point-said _ _ _ _ _ (search walk))
     (λ c. search walk)
     (λ c. search walk)
     (λ c. (search walk, search walk))
-    (λ c. search walk))
+    (λ c. point-said _ _ _ _ _ (search walk)))
