@@ -181,9 +181,9 @@ def claimed():
     return found
 
 
-def believed():
-    """Each definition that has to be believed, with what first led to it."""
-    reached = {key: min(causes) for each in (promised(), claimed()) for key, causes in each.items()}
+def reached_from(causes):
+    """Each definition that is spoken of, by a cause or by another that is, with what first led to it."""
+    reached = {key: min(each) for key, each in causes.items()}
     todo = list(reached)
     while todo:
         key = todo.pop()
@@ -191,6 +191,11 @@ def believed():
             reached[other] = reached[key]
             todo.append(other)
     return reached
+
+
+def believed():
+    """Each definition that has to be believed, with what first led to it."""
+    return reached_from({**promised(), **claimed()})
 
 
 # ---- Quotations
