@@ -45,6 +45,11 @@ def crates():
     return listed
 
 
+def known_to(crate):
+    """A crate and those of the repository that it is built on."""
+    return [crate, *(each for each in crates()[crate] if (TOP / "crates" / each).is_dir())]
+
+
 def code_files(crate):
     return sorted((TOP / "crates" / crate / "src").rglob("*.rt"))
 
