@@ -36,10 +36,20 @@ def command(path):
     return [*emulator(), path] if is_foreign(path) else [path]
 
 
+def is_old():
+    """Whether the built program is older than the code, as ./panel asks it too."""
+    built = BUILT.stat().st_mtime
+    return any(path.stat().st_mtime > built for path in [TOP / "crates.txt", *TOP.glob("crates/*/src/**/*.rt")])
+
+
 def chosen(path=None):
     """The path given, or that of the built program; None where the tree has no such program."""
-    if path or BUILT.exists():
-        return path or BUILT
+    if path:
+        return path
+    if BUILT.exists():
+        if is_old():
+            sys.exit(f"{BUILT.name} is older than the code: ./panel < /dev/null builds it")
+        return BUILT
     if (TOP / "crates" / BUILT.name).exists():
         sys.exit(f"{BUILT.name} is not built: run rt check {BUILT.name}")
     return None

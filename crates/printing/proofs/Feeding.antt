@@ -27,14 +27,14 @@ use Rattle.printing.proofs.Outputs.{outputFrom, quiet-output, end-outpu
 use Rattle.printing.proofs.Onward.{step-onward}
 
 -- what a call of `step` that is done leaves
-record CallOnward (held : Held) (chunk rest : List ℕ) (s : Stepping) : Type 0 where
-  sound : HeldSound (heldAfter s)
-  within : s .stepped .used ≤ length chunk
-  prints : outputFrom held (chunk ++ rest) ≡ take (s .stepped .count) (s .room) ++ outputFrom (heldAfter s) (drop (s .stepped .used) chunk ++ rest)
-  nearer : (waits (held .trace) ≡ true) ⊎ (0 < length chunk)
+pub record CallOnward (held : Held) (chunk rest : List ℕ) (s : Stepping) : Type 0 where
+  pub sound : HeldSound (heldAfter s)
+  pub within : s .stepped .used ≤ length chunk
+  pub prints : outputFrom held (chunk ++ rest) ≡ take (s .stepped .count) (s .room) ++ outputFrom (heldAfter s) (drop (s .stepped .used) chunk ++ rest)
+  pub nearer : (waits (held .trace) ≡ true) ⊎ (0 < length chunk)
       → length (drop (s .stepped .used) chunk) * callsEach + keptBy (heldAfter s) < length chunk * callsEach + keptBy held
 
-call-onward : (held : Held) (chunk rest room : List ℕ) → HeldSound held → Bytes chunk → stepCalled held chunk room .stepped .answer ≡ Done
+pub call-onward : (held : Held) (chunk rest room : List ℕ) → HeldSound held → Bytes chunk → stepCalled held chunk room .stepped .answer ≡ Done
     → CallOnward held chunk rest (stepCalled held chunk room)
 unfolding stepping
 call-onward held chunk rest room sound are =
@@ -90,7 +90,7 @@ new-keeps-none = refl
 
 -- ---- Every caller comes to the end
 
-call-done : (held : Held) (chunk room : List ℕ) → HeldSound held → leastText ≤ length room → stepCalled held chunk room .stepped .answer ≡ Done
+pub call-done : (held : Held) (chunk room : List ℕ) → HeldSound held → leastText ≤ length room → stepCalled held chunk room .stepped .answer ≡ Done
 unfolding stepping lentTo
 call-done held chunk room sound lent =
     rw (le-leb tableBytes (length (held .table)) (sound .table), eq-eqb (length (held .memory .words)) wordCount (sound .memory .words), le-leb leastText (length room) lent)

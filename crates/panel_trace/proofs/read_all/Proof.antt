@@ -1,15 +1,25 @@
--- `panel_trace::read_all` is safe and ends.
-use mathlib.Core.Path.{_≡_}
+-- `panel_trace::read_all` meets its contract, and ends by a count of turns, since nothing says that an input ends.
+use mathlib.Core.Path.{_≡_, _∙_}
+use Prim.Native.Nat.{_≤_}
 use borrow.Author.Needs.{needs}
 use lib.ListN.{length}
+use Rattle.telling.specs.Memory.{remembering}
+use Rattle.telling.specs.Told.{leastText}
+use Rattle.trace.specs.State.{holds}
+use Rattle.printing.proofs.HeldSound.{HeldSound}
+use Rattle.panel_trace.specs.Program.{ReadSoFar}
+use Rattle.panel_trace.proofs.Passes.{begins-sound, reads-first, reads-if-well, reads-kept, reads-none}
 use Rattle.panel_trace.proofs.read_all.Statement.{statement}
 use Rattle.panel_trace.proofs.read_all.Tie as tie
 
 abbrev Inv-loop : tie.InvT-loop
-Inv-loop table₀ words₀ room₀ input₀ trace₀ turns₀ table words room input trace turns = (length input ≡ 65536) × (length table ≡ length table₀) × (length words ≡ length words₀) × (length room ≡ length room₀)
+Inv-loop table₀ words₀ room₀ bytes₀ trace₀ turns₀ table words room bytes trace turns =
+    HeldSound (holds trace table (remembering words)) × ReadSoFar (holds trace table (remembering words))
+    × (leastText ≤ length room) × (length bytes ≡ 65536)
+    × (length table ≡ length table₀) × (length words ≡ length words₀) × (length room ≡ length room₀)
 
 abbrev μ-loop : tie.MeasureT-loop
-μ-loop table₀ words₀ room₀ input₀ trace₀ turns₀ table words room input trace turns = turns
+μ-loop table₀ words₀ room₀ bytes₀ trace₀ turns₀ table words room bytes trace turns = turns
 
 pub read-all-spec : {M : Type 1} → statement M
 read-all-spec =
@@ -19,30 +29,31 @@ read-all-spec =
     μ-loop
     (λ c κs. search needs)
     (λ c κs. search needs)
+    (λ c. search (needs, begins-sound, reads-first))
+    (λ c. search needs)
+    (λ c κs. search needs)
     (λ c. search needs)
     (λ c. search needs)
+    (λ c. search needs)
+    (λ c. search reads-kept)
+    (λ c. search needs)
+    (λ c. search needs)
+    (λ c. search needs)
+    (λ c κs. search needs)
     (λ c κs. search needs)
     (λ c. search needs)
     (λ c. search needs)
     (λ c. search needs)
+    (λ c. reads-if-well _ _ _ _ (c .before .before .before .before .before .before .before .before .before .before .before .before .before .before .before .before .before .before .before .before .before .loop .inv .1) (c .before .before .before .before .before .before .before .before .before .before .feed .ensures .1))
+    (λ c. search needs)
+    (λ c. search needs)
+    (λ c. search needs)
+    (λ c. reads-if-well _ _ _ _ (c .before .before .before .before .before .before .before .before .before .before .before .before .before .before .before .before .before .before .before .loop .inv .1) (c .before .before .before .before .before .before .before .before .feed .ensures .1))
+    (λ c. search needs)
+    (λ c. search needs)
+    (λ c. (c .before .before .before .before .before .before .before .before .before .before .feed .ensures .0, reads-if-well _ _ _ _ (c .before .before .before .before .before .before .before .before .before .before .before .before .before .before .before .before .before .before .before .before .before .loop .inv .1) (c .before .before .before .before .before .before .before .before .before .before .feed .ensures .1) (c .before .before .if2 .taken), search (needs, c .before .before .before .before .before .room .given, c .before .before .before .before .before .before .before .before .before .before .before .before .before .before .before .before .before .before .before .before .before .loop .inv .2), search needs, c .before .before .before .before .before .before .before .before .before .table .given ∙ c .before .before .before .before .before .before .before .before .before .before .before .before .before .before .before .before .before .before .before .before .before .loop .inv .4, c .before .before .before .before .before .before .before .words .given ∙ c .before .before .before .before .before .before .before .before .before .before .before .before .before .before .before .before .before .before .before .before .before .loop .inv .5, c .before .before .before .before .before .room .given ∙ c .before .before .before .before .before .before .before .before .before .before .before .before .before .before .before .before .before .before .before .before .before .loop .inv .6))
     (λ c κs. search needs)
-    (λ c κs. search needs)
     (λ c. search needs)
     (λ c. search needs)
     (λ c. search needs)
-    (λ c. search needs)
-    (λ c. search needs)
-    (λ c. search needs)
-    (λ c. search needs)
-    (λ c. search needs)
-    (λ c. search needs)
-    (λ c. search needs)
-    (λ c. search needs)
-    (λ c. search needs)
-    (λ c. search needs)
-    (λ c. search needs)
-    (λ c. search needs)
-    (λ c. search needs)
-    (λ c. search needs)
-    (λ c. search needs)
-    (λ c. search needs))
+    (λ c. reads-none _))
