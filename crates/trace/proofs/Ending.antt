@@ -1,8 +1,9 @@
 -- Laws of the end of the input, and of a new trace.
-use mathlib.Core.Path.{_≡_, sym, ap, _∙_}
+use mathlib.Core.Path.{_≡_, refl, sym, ap, _∙_}
 use mathlib.Core.Bool.{true, false, _&&_}
 use mathlib.Core.List.{List}
-use Prim.Native.Nat.{ℕ, _*_, _-_, _≤_, min}
+use Prim.Native.Nat.{ℕ, _*_, _-_, _≤_, _<_, min}
+use native.Mathlib.Omega.{arith}
 use borrow.Author.Tests.{eq-eqb, ne-eqb, leb-true}
 use lib.Dec.{leb}
 use lib.ListN.{length, take}
@@ -11,11 +12,13 @@ use Rattle.wire.proofs.Over.{over-nil}
 use Rattle.line.proofs.Truths.{and-left, and-right}
 use Rattle.touch.specs.Table.{recordBytes}
 use Rattle.registers.specs.Touched.{pageOf}
+use Rattle.panel.specs.declared.Panel.{Panel}
 use Rattle.panel.specs.declared.Start.{Start}
 use Rattle.panel.specs.declared.StartAnswer.{StartAnswer}
 use Rattle.panel.specs.declared.StartAnswer.the-variants as start
 use Rattle.panel.specs.Numbers.{startNumber}
 use Rattle.panel.specs.Start.{started}
+use Rattle.text.specs.declared.Line.{Line}
 use Rattle.text.specs.declared.Line.the-variants as line
 use Rattle.text.specs.Text.{lineText}
 use Rattle.telling.specs.Inner.{prints}
@@ -25,39 +28,52 @@ use Rattle.trace.specs.declared.Stage.the-variants.{Bare, Ready, Started
 use Rattle.trace.specs.declared.Trace.{Trace}
 use Rattle.trace.specs.declared.Answer.the-variants.{Done, NotLent}
 use Rattle.trace.specs.State.{noItem, newTrace, keptRecords, tableBytes, tableOf}
+use Rattle.trace.specs.Inner.{named, lastLine}
 use Rattle.trace.specs.Lines.{refusalText, wrongText}
 use Rattle.trace.specs.Events.{startedBy}
 use Rattle.trace.specs.Output.{endAnswered, endStarted, endAt, endText, ends, ending}
 use Rattle.trace.proofs.Items.{table-part}
 
-module _ (trace : Trace) (table room left : List ℕ) (n k : ℕ) (is-k : k ≡ min (trace .records) keptRecords) (begun : Start)
-    (is-begun : begun ≡ startedBy trace (take (k * recordBytes - 0) table)) where
-  the-part : take (k * recordBytes - 0) table ≡ tableOf (trace .records) table
-  the-part = table-part (trace .records) table k is-k
+-- ---- The last line of a trace that had a setup
 
-  answered-so : (answer : StartAnswer) → begun .answer ≡ answer → prints (endAnswered answer (begun .panel)) room ≡ prints (endStarted trace table) room
+module _ (answer : StartAnswer) (panel : Panel) where
+  pub page-line : (page : ℕ) → answer ≡ start.Started → page ≡ pageOf (panel .registers) → line.End page ≡ lastLine answer panel
+  unfolding lastLine
+  page-line page is is-page = ap line.End is-page ∙ ap (λ (a : StartAnswer). lastLine a panel) (sym is)
+
+  pub setup-line : answer ≡ start.WrongSetup → line.Failed 11 ≡ lastLine answer panel
+  unfolding lastLine
+  setup-line is = ap (λ (a : StartAnswer). lastLine a panel) (sym is)
+
+  pub table-line : answer ≡ start.NotRecords → line.Failed 12 ≡ lastLine answer panel
+  unfolding lastLine
+  table-line is = ap (λ (a : StartAnswer). lastLine a panel) (sym is)
+
+  pub record-line : (i : ℕ) → answer ≡ start.WrongRecord i → line.WrongRecord i ≡ lastLine answer panel
+  unfolding lastLine
+  record-line i is = ap (λ (a : StartAnswer). lastLine a panel) (sym is)
+
+pub number-below : (answer : StartAnswer) (i : ℕ) → named answer < 256 → answer ≡ start.WrongRecord i → i < 256
+unfolding named
+number-below answer i few is = let same : named answer ≡ i = ap named is in omega arith
+
+answered-line : (answer : StartAnswer) (panel : Panel) → endAnswered answer panel ≡ lineText (lastLine answer panel)
+unfolding endAnswered refusalText startNumber lastLine
+answered-line start.Started panel = refl
+answered-line start.WrongSetup panel = refl
+answered-line start.NotRecords panel = refl
+answered-line (start.WrongRecord i) panel = refl
+
+module _ (trace : Trace) (table room left : List ℕ) (n long : ℕ) (is-long : long ≡ min (trace .records) keptRecords * recordBytes) (begun : Start)
+    (is-begun : begun ≡ startedBy trace (take (long - 0) table)) where
+  the-part : take (long - 0) table ≡ tableOf (trace .records) table
+  the-part = table-part (trace .records) table long is-long
+
+  pub last-printed : (l : Line) → l ≡ lastLine (begun .answer) (begun .panel) → lays n left ≡ prints (lineText l) room → lays n left ≡ prints (endStarted trace table) room
   unfolding endStarted
-  answered-so answer is =
-      ap (λ (a : StartAnswer). prints (endAnswered a (begun .panel)) room) (sym is)
+  last-printed l is-l e =
+      e ∙ ap (λ (p : Line). prints (lineText p) room) is-l ∙ ap (λ (t : List ℕ). prints t room) (sym (answered-line (begun .answer) (begun .panel)))
       ∙ ap (λ (s : Start). prints (endAnswered (s .answer) (s .panel)) room) (is-begun ∙ ap (λ (l : List ℕ). startedBy trace l) the-part)
-
-  pub page-last : (page : ℕ) → begun .answer ≡ start.Started → page ≡ pageOf (begun .panel .registers) → lays n left ≡ prints (lineText (line.End page)) room
-      → lays n left ≡ prints (endStarted trace table) room
-  unfolding endAnswered
-  page-last page is is-page e = e ∙ ap (λ (p : ℕ). prints (lineText (line.End p)) room) is-page ∙ answered-so start.Started is
-
-  pub setup-last : begun .answer ≡ start.WrongSetup → lays n left ≡ prints (lineText (line.Failed 11)) room → lays n left ≡ prints (endStarted trace table) room
-  unfolding endAnswered refusalText startNumber
-  setup-last is e = e ∙ answered-so start.WrongSetup is
-
-  pub table-last : begun .answer ≡ start.NotRecords → lays n left ≡ prints (lineText (line.Failed 12)) room → lays n left ≡ prints (endStarted trace table) room
-  unfolding endAnswered refusalText startNumber
-  table-last is e = e ∙ answered-so start.NotRecords is
-
-  pub record-last : (i : ℕ) → begun .answer ≡ start.WrongRecord i → lays n left ≡ prints (lineText (line.WrongRecord i)) room
-      → lays n left ≡ prints (endStarted trace table) room
-  unfolding endAnswered refusalText
-  record-last i is e = e ∙ answered-so (start.WrongRecord i) is
 
 module _ (trace : Trace) (table room left : List ℕ) (n : ℕ) where
   pub cut-item : (trace .have ≡ 0 → ⊥) → lays n left ≡ prints (lineText (line.Failed 15)) room → lays n left ≡ prints (endText trace table) room

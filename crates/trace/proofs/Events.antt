@@ -7,6 +7,7 @@ use native.Mathlib.Nat.{min-le-left}
 use native.Mathlib.Omega.{arith}
 use lib.ListN.{length, take, length-take}
 use Rattle.wire.specs.Room.{over, Laid, lays}
+use Rattle.line.proofs.Truths.{never}
 use Rattle.touch.specs.declared.Setup.{Setup}
 use Rattle.touch.specs.declared.Verdict.{Verdict}
 use Rattle.touch.specs.declared.Verdict.the-variants.{Good, NotRecords, Wrong}
@@ -20,7 +21,7 @@ use Rattle.panel.specs.declared.StartAnswer.{StartAnswer}
 use Rattle.panel.specs.declared.StartAnswer.the-variants as start
 use Rattle.panel.specs.Numbers.{startNumber}
 use Rattle.panel.specs.Start.{startJudged, started}
-use Rattle.text.specs.declared.Line.the-variants as line
+use Rattle.text.specs.declared.Line.{Line}
 use Rattle.text.specs.Text.{lineText}
 use Rattle.telling.specs.Memory.{Memory}
 use Rattle.telling.specs.declared.PanelPrinted.{PanelPrinted}
@@ -30,8 +31,8 @@ use Rattle.telling.specs.Events.{event}
 use Rattle.telling.proofs.Telling.{printed-in}
 use Rattle.trace.specs.declared.Trace.{Trace}
 use Rattle.trace.specs.declared.TracePrinted.{TracePrinted}
-use Rattle.trace.specs.Inner.{bytePrinting, leavesByte, eventPrinting, leavesEvent, EventLeft}
-use Rattle.trace.specs.State.{keptRecords, tableOf, isStarted, withPanel, stopped, tableBytes, holds, fails}
+use Rattle.trace.specs.Inner.{bytePrinting, leavesByte, eventPrinting, leavesEvent, EventLeft, isBegun, named, lastLine}
+use Rattle.trace.specs.State.{Held, Shown, keptRecords, tableOf, metTable, isStarted, withPanel, stopped, tableBytes, holds, showsTold, fails}
 use Rattle.trace.specs.Lines.{refusalText}
 use Rattle.trace.specs.Events.{startedBy, eventAnswered, eventDone}
 use Rattle.trace.proofs.Items.{table-part}
@@ -46,13 +47,6 @@ module _ (trace : Trace) (part : List ℕ) (b : Bool) (is-b : b ≡ isStarted (t
   pub begun-now : (s : Start) → b ≡ false → s ≡ started (trace .setup) part → s ≡ startedBy trace part
   unfolding startedBy
   begun-now s is e = rw (sym is-b ∙ is) e
-
--- the record that a start names, 0 where it names none
-unfoldable named : StartAnswer → ℕ
-named start.Started = 0
-named start.WrongSetup = 0
-named start.NotRecords = 0
-named (start.WrongRecord i) = i
 
 judged-below : (setup : Setup) (part : List ℕ) → length part ≤ tableBytes → (v : Verdict) → judged setup part ≡ v → named (startJudged v setup .answer) < 256
 unfolding named startJudged
@@ -74,6 +68,22 @@ begun-below trace part short = either-below (isStarted (trace .stage)) _ _ (omeg
 
 -- ---- An event
 
+begun-shows : (answer : StartAnswer) (panel : Panel) (held : Held) (item : List ℕ) → isBegun answer ≡ true
+    → eventAnswered answer panel held item ≡ showsTold held (event panel (metTable held) (held .memory) item)
+unfolding eventAnswered
+begun-shows start.Started panel held item is = refl
+begun-shows start.WrongSetup panel held item is = never (cc)
+begun-shows start.NotRecords panel held item is = never (cc)
+begun-shows (start.WrongRecord i) panel held item is = never (cc)
+
+refused-shows : (answer : StartAnswer) (panel : Panel) (held : Held) (item : List ℕ) → isBegun answer ≡ false
+    → eventAnswered answer panel held item ≡ fails held (lineText (lastLine answer panel))
+unfolding eventAnswered refusalText startNumber lastLine
+refused-shows start.Started panel held item is = never (cc)
+refused-shows start.WrongSetup panel held item is = refl
+refused-shows start.NotRecords panel held item is = refl
+refused-shows (start.WrongRecord i) panel held item is = refl
+
 pub started-left : (trace : Trace) (told : Told) (panel : Panel) (done : PanelPrinted) (memory memory′ : Memory) (room left : List ℕ) → leastText ≤ length room
     → leavesPanel done memory′ left ≡ printedIn told panel memory room
     → leavesEvent (record { trace = withPanel trace (done .panel); count = done .count }) memory′ left ≡ eventPrinting trace told room
@@ -81,51 +91,37 @@ started-left trace told panel done memory memory′ room left wide e =
     ap (λ (l : PanelLeft). leavesEvent (record { trace = withPanel trace (l .printed .panel); count = l .printed .count }) (l .memory) (l .room))
     (printed-in told panel memory room done memory′ left wide e)
 
-module _ (trace : Trace) (table : List ℕ) (k : ℕ) (is-k : k ≡ min (trace .records) keptRecords) (begun : Start)
-    (is-begun : begun ≡ startedBy trace (take (k * recordBytes - 0) table)) where
-  the-part : take (k * recordBytes - 0) table ≡ tableOf (trace .records) table
-  the-part = table-part (trace .records) table k is-k
+module _ (trace : Trace) (table : List ℕ) (n : ℕ) (is-n : n ≡ min (trace .records) keptRecords * recordBytes) (begun : Start)
+    (is-begun : begun ≡ startedBy trace (take (n - 0) table)) where
+  the-part : take (n - 0) table ≡ tableOf (trace .records) table
+  the-part = table-part (trace .records) table n is-n
 
-  pub wrong-below : (i : ℕ) → k ≤ keptRecords → begun .answer ≡ start.WrongRecord i → i < 256
-  unfolding named
-  wrong-below i few is =
-      let short : length (take (k * recordBytes - 0) table) ≤ tableBytes = omega (arith, length-take (k * recordBytes - 0) table, min-le-left (k * recordBytes - 0) (length table)) in
-      let same : i ≡ named (startedBy trace (take (k * recordBytes - 0) table) .answer) = ap named (sym is) ∙ ap (λ (s : Start). named (s .answer)) is-begun in
-      omega (arith, begun-below trace (take (k * recordBytes - 0) table) short)
+  pub named-below : n ≤ tableBytes → named (begun .answer) < 256
+  named-below few =
+      let short : length (take (n - 0) table) ≤ tableBytes = omega (arith, length-take (n - 0) table, min-le-left (n - 0) (length table)) in
+      let same : named (begun .answer) ≡ named (startedBy trace (take (n - 0) table) .answer) = ap (λ (s : Start). named (s .answer)) is-begun in
+      omega (arith, begun-below trace (take (n - 0) table) short)
 
   module _ (memory : Memory) (item room : List ℕ) where
-    answered-so : (answer : StartAnswer) → begun .answer ≡ answer
-        → bytePrinting (eventAnswered answer (begun .panel) (holds trace table memory) item) room ≡ bytePrinting (eventDone (holds trace table memory) item) room
+    answered-so : bytePrinting (eventAnswered (begun .answer) (begun .panel) (holds trace table memory) item) room ≡ bytePrinting (eventDone (holds trace table memory) item) room
     unfolding eventDone
-    answered-so answer is =
-        ap (λ (a : StartAnswer). bytePrinting (eventAnswered a (begun .panel) (holds trace table memory) item) room) (sym is)
-        ∙ ap (λ (s : Start). bytePrinting (eventAnswered (s .answer) (s .panel) (holds trace table memory) item) room) (is-begun ∙ ap (λ (l : List ℕ). startedBy trace l) the-part)
+    answered-so =
+        ap (λ (s : Start). bytePrinting (eventAnswered (s .answer) (s .panel) (holds trace table memory) item) room) (is-begun ∙ ap (λ (l : List ℕ). startedBy trace l) the-part)
 
-    pub event-told : (done : TracePrinted) (memory′ : Memory) (left : List ℕ) → begun .answer ≡ start.Started
-        → leavesEvent done memory′ left ≡ eventPrinting trace (event (begun .panel) (take (k * recordBytes - 0) table) memory item) room
+    pub event-told : (b : Bool) → b ≡ isBegun (begun .answer) → b ≡ true → (done : TracePrinted) (memory′ : Memory) (left : List ℕ)
+        → leavesEvent done memory′ left ≡ eventPrinting trace (event (begun .panel) (take (n - 0) table) memory item) room
         → leavesByte done table memory′ left ≡ bytePrinting (eventDone (holds trace table memory) item) room
-    unfolding eventAnswered
-    event-told done memory′ left is e =
-        ap (λ (l : EventLeft). leavesByte (l .printed) table (l .memory) (l .room)) (rw the-part at e) ∙ answered-so start.Started is
+    event-told b is-b is done memory′ left e =
+        ap (λ (l : EventLeft). leavesByte (l .printed) table (l .memory) (l .room)) (rw the-part at e)
+        ∙ sym (ap (λ (s : Shown). bytePrinting s room) (begun-shows (begun .answer) (begun .panel) (holds trace table memory) item (sym is-b ∙ is)))
+        ∙ answered-so
 
-    module _ (done : TracePrinted) (left : List ℕ) (is-trace : done .trace ≡ stopped trace) where
-      stopped-left : (text : List ℕ) → lays (done .count) left ≡ prints text room
-          → leavesByte done table memory left ≡ bytePrinting (fails (holds trace table memory) text) room
-      stopped-left text e =
-          ap (λ (l : Laid). leavesByte (record { trace = done .trace; count = l .count }) table memory (l .room)) e
-          ∙ ap (λ (t : Trace). leavesByte (record { trace = t; count = length text }) table memory (over text room)) is-trace
-
-      pub setup-refused : begun .answer ≡ start.WrongSetup → lays (done .count) left ≡ prints (lineText (line.Failed 11)) room
-          → leavesByte done table memory left ≡ bytePrinting (eventDone (holds trace table memory) item) room
-      unfolding eventAnswered refusalText startNumber
-      setup-refused is e = stopped-left (lineText (line.Failed 11)) e ∙ answered-so start.WrongSetup is
-
-      pub table-refused : begun .answer ≡ start.NotRecords → lays (done .count) left ≡ prints (lineText (line.Failed 12)) room
-          → leavesByte done table memory left ≡ bytePrinting (eventDone (holds trace table memory) item) room
-      unfolding eventAnswered refusalText startNumber
-      table-refused is e = stopped-left (lineText (line.Failed 12)) e ∙ answered-so start.NotRecords is
-
-      pub record-refused : (i : ℕ) → begun .answer ≡ start.WrongRecord i → lays (done .count) left ≡ prints (lineText (line.WrongRecord i)) room
-          → leavesByte done table memory left ≡ bytePrinting (eventDone (holds trace table memory) item) room
-      unfolding eventAnswered refusalText
-      record-refused i is e = stopped-left (lineText (line.WrongRecord i)) e ∙ answered-so (start.WrongRecord i) is
+    pub event-refused : (b : Bool) → b ≡ isBegun (begun .answer) → b ≡ false → (l : Line) → l ≡ lastLine (begun .answer) (begun .panel)
+        → (done : TracePrinted) (left : List ℕ) → done .trace ≡ stopped trace → lays (done .count) left ≡ prints (lineText l) room
+        → leavesByte done table memory left ≡ bytePrinting (eventDone (holds trace table memory) item) room
+    event-refused b is-b is l is-l done left is-trace e =
+        ap (λ (p : Laid). leavesByte (record { trace = done .trace; count = p .count }) table memory (p .room)) e
+        ∙ ap (λ (t : Trace). leavesByte (record { trace = t; count = length (lineText l) }) table memory (over (lineText l) room)) is-trace
+        ∙ ap (λ (p : Line). bytePrinting (fails (holds trace table memory) (lineText p)) room) is-l
+        ∙ sym (ap (λ (s : Shown). bytePrinting s room) (refused-shows (begun .answer) (begun .panel) (holds trace table memory) item (sym is-b ∙ is)))
+        ∙ answered-so

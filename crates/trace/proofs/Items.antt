@@ -70,9 +70,12 @@ module _ (records : ℕ) where
   kept-most many = sym (min-eq-right many)
 
   -- the table of the records met, as the code cuts it out
-  pub table-part : (table : List ℕ) (k : ℕ) → k ≡ min records keptRecords → take (k * recordBytes - 0) table ≡ tableOf records table
+  pub table-part : (table : List ℕ) (n : ℕ) → n ≡ min records keptRecords * recordBytes → take (n - 0) table ≡ tableOf records table
   unfolding tableOf
-  table-part table k is = rw (sub-zero (k * recordBytes), is)
+  table-part table n is = rw (sub-zero n, is)
+
+  pub length-is : (k : ℕ) → k ≡ min records keptRecords → k * recordBytes ≡ min records keptRecords * recordBytes
+  length-is k is = ap (λ (j : ℕ). j * recordBytes) is
 
   pub one-more : records < keptRecords → records + 1 ≡ recordCounted records
   unfolding recordCounted

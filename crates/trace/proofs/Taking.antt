@@ -1,12 +1,13 @@
 -- Laws of items that have come whole, and of the bytes they come in: one for each way the code answers.
-use mathlib.Core.Path.{_≡_, sym, ap, _∙_}
+use mathlib.Core.Path.{_≡_, refl, sym, ap, _∙_}
 use mathlib.Core.Bool.{Bool, true, false, not, _&&_}
 use mathlib.Core.List.{List, []}
 use Prim.Native.Nat.{ℕ, _+_, _≤_, _<_}
 use native.Mathlib.Omega.{arith}
 use borrow.Author.Tests.{ne-eqb, le-leb, lt-leb}
 use lib.Dec.{eqb, leb}
-use lib.ListN.{length, getD, set}
+use lib.ListN.{length, set}
+use Rattle.wire.specs.ByteOrder.{byteAt}
 use Rattle.wire.specs.Room.{over, Laid, lays}
 use Rattle.wire.proofs.Over.{over-nil}
 use Rattle.touch.specs.declared.Setup.{Setup}
@@ -16,7 +17,7 @@ use Rattle.telling.specs.Memory.{Memory}
 use Rattle.telling.specs.Inner.{prints}
 use Rattle.trace.specs.declared.Trace.{Trace}
 use Rattle.trace.specs.declared.TracePrinted.{TracePrinted}
-use Rattle.trace.specs.Inner.{bytePrinting, leavesByte}
+use Rattle.trace.specs.Inner.{bytePrinting, leavesByte, quietly}
 use Rattle.trace.specs.State.{shows, noItem, isOver, gathering, idle, withSetup, withRecords, stopped, holds}
 use Rattle.trace.specs.Items.{bodyLength, mayCome, setupIn, recordPut, recordCounted}
 use Rattle.trace.specs.Lines.{wrongText}
@@ -24,40 +25,58 @@ use Rattle.trace.specs.Events.{eventDone, itemDone, grown, tookByte}
 
 -- ---- An item that has come whole
 
-module _ (trace : Trace) (table : List ℕ) (memory : Memory) (item room : List ℕ) where
-  quiet-left : (next : Trace) (table′ : List ℕ)
-      → leavesByte (record { trace = next; count = 0 }) table′ memory room ≡ bytePrinting (shows (holds next table′ memory) []) room
-  quiet-left next table′ = ap (λ (l : List ℕ). leavesByte (record { trace = next; count = 0 }) table′ memory l) (sym (over-nil room))
+pub setup-ready : (trace : Trace) (item : List ℕ) (setup : Setup) → setup ≡ setupIn item
+    → record { trace = withSetup trace setup; count = 0 } ≡ quietly (withSetup trace (setupIn item))
+setup-ready trace item setup is = ap (λ (s : Setup). quietly (withSetup trace s)) is
 
-  pub setup-met : (setup : Setup) → getD item 0 0 ≡ 0 → setup ≡ setupIn item
-      → leavesByte (record { trace = withSetup trace setup; count = 0 }) table memory room ≡ bytePrinting (itemDone (holds trace table memory) item) room
+pub record-counted : (trace : Trace) (records : ℕ) → records ≡ recordCounted (trace .records)
+    → record { trace = withRecords trace records; count = 0 } ≡ quietly (withRecords trace (recordCounted (trace .records)))
+record-counted trace records is = ap (λ (n : ℕ). quietly (withRecords trace n)) is
+
+quiet-left : (table : List ℕ) (memory : Memory) (room : List ℕ) (done : TracePrinted) (next : Trace) (table′ : List ℕ) → done ≡ quietly next → table ≡ table′
+    → leavesByte done table memory room ≡ bytePrinting (shows (holds next table′ memory) []) room
+quiet-left table memory room done next table′ is is-table =
+    ap (λ (d : TracePrinted). leavesByte d table memory room) is
+    ∙ ap (λ (t : List ℕ). leavesByte (quietly next) t memory room) is-table
+    ∙ ap (λ (l : List ℕ). leavesByte (quietly next) table′ memory l) (sym (over-nil room))
+
+module _ (trace : Trace) (table : List ℕ) (memory : Memory) (item room : List ℕ) (k : ℕ) (is-k : k ≡ byteAt item 0) where
+  pub setup-met : (done : TracePrinted) → k ≡ 0 → done ≡ quietly (withSetup trace (setupIn item))
+      → leavesByte done table memory room ≡ bytePrinting (itemDone (holds trace table memory) item) room
   unfolding itemDone
-  setup-met setup is-kind is-setup = rw is-kind (rw (← is-setup) (quiet-left (withSetup trace setup) table))
+  setup-met done is is-done = rw (sym is-k ∙ is) (quiet-left table memory room done (withSetup trace (setupIn item)) table is-done refl)
 
-  module _ (not-0 : getD item 0 0 ≡ 0 → ⊥) where
-    pub record-met : (records : ℕ) (table′ : List ℕ) → getD item 0 0 ≡ 5 → records ≡ recordCounted (trace .records)
+  module _ (not-0 : k ≡ 0 → ⊥) where
+    other : eqb (byteAt item 0) 0 ≡ false
+    other = ne-eqb (byteAt item 0) 0 (λ z. not-0 (is-k ∙ z))
+
+    pub record-met : (done : TracePrinted) (table′ : List ℕ) → k ≡ 5 → done ≡ quietly (withRecords trace (recordCounted (trace .records)))
         → table′ ≡ recordPut (trace .records) item table
-        → leavesByte (record { trace = withRecords trace records; count = 0 }) table′ memory room ≡ bytePrinting (itemDone (holds trace table memory) item) room
+        → leavesByte done table′ memory room ≡ bytePrinting (itemDone (holds trace table memory) item) room
     unfolding itemDone
-    record-met records table′ is-kind is-records is-table =
-        rw is-kind (rw (← is-records, ← is-table) (quiet-left (withRecords trace records) table′))
+    record-met done table′ is is-done is-table =
+        rw (sym is-k ∙ is)
+        (quiet-left table′ memory room done (withRecords trace (recordCounted (trace .records))) (recordPut (trace .records) item table) is-done is-table)
 
-    pub event-met : (done : TracePrinted) (memory′ : Memory) (left : List ℕ) → (getD item 0 0 ≡ 5 → ⊥)
+    pub event-met : (done : TracePrinted) (memory′ : Memory) (left : List ℕ) → (k ≡ 5 → ⊥)
         → leavesByte done table memory′ left ≡ bytePrinting (eventDone (holds trace table memory) item) room
         → leavesByte done table memory′ left ≡ bytePrinting (itemDone (holds trace table memory) item) room
     unfolding itemDone
-    event-met done memory′ left not-5 e = rw (ne-eqb (getD item 0 0) 0 not-0, ne-eqb (getD item 0 0) 5 not-5) e
+    event-met done memory′ left not-5 e = rw (other, ne-eqb (byteAt item 0) 5 (λ z. not-5 (is-k ∙ z))) e
 
 -- ---- One byte
 
-module _ (trace : Trace) (table : List ℕ) (memory : Memory) (room item : List ℕ) (b n : ℕ) (is-item : item ≡ set (trace .item) (trace .have) b)
-    (is-n : n ≡ bodyLength (getD item 0 0)) where
+module _ (trace : Trace) (table : List ℕ) (memory : Memory) (room item : List ℕ) (b k n : ℕ) (is-item : item ≡ set (trace .item) (trace .have) b)
+    (is-k : k ≡ byteAt item 0) (is-n : n ≡ bodyLength k) where
+  is-long : n ≡ bodyLength (byteAt item 0)
+  is-long = is-n ∙ ap bodyLength is-k
+
   pub item-whole : (done : TracePrinted) (next : Trace) (nothing table′ : List ℕ) (memory′ : Memory) (left : List ℕ) → n ≤ trace .have → nothing ≡ noItem → next ≡ gathering trace nothing 0
       → leavesByte done table′ memory′ left ≡ bytePrinting (itemDone (holds next table memory) item) room
       → leavesByte done table′ memory′ left ≡ bytePrinting (grown (holds trace table memory) b) room
   unfolding grown
   item-whole done next nothing table′ memory′ left whole is-nothing is-next e =
-      let so : leb (bodyLength (getD item 0 0)) (trace .have) ≡ true = le-leb (bodyLength (getD item 0 0)) (trace .have) (omega arith) in
+      let so : leb (bodyLength (byteAt item 0)) (trace .have) ≡ true = le-leb (bodyLength (byteAt item 0)) (trace .have) (omega (arith, is-long)) in
       let idle-is : next ≡ idle trace = is-next ∙ ap (λ (l : List ℕ). gathering trace l 0) is-nothing in
       rw (← is-item, so) (rw idle-is at e)
 
@@ -65,13 +84,13 @@ module _ (trace : Trace) (table : List ℕ) (memory : Memory) (room item : List 
       → leavesByte (record { trace = next; count = 0 }) table memory room ≡ bytePrinting (grown (holds trace table memory) b) room
   unfolding grown
   item-grows next more is-next =
-      let so : leb (bodyLength (getD item 0 0)) (trace .have) ≡ false = lt-leb (bodyLength (getD item 0 0)) (trace .have) (omega arith) in
-      rw (← is-item, so, is-next) (quiet-left trace table memory item room (gathering trace item (trace .have + 1)) table)
+      let so : leb (bodyLength (byteAt item 0)) (trace .have) ≡ false = lt-leb (bodyLength (byteAt item 0)) (trace .have) (omega (arith, is-long)) in
+      rw (← is-item, so) (quiet-left table memory room (quietly next) (gathering trace item (trace .have + 1)) table (ap (λ (t : Trace). quietly t) is-next) refl)
 
 module _ (trace : Trace) (table : List ℕ) (memory : Memory) (room : List ℕ) (b : ℕ) (o : Bool) (is-o : o ≡ isOver (trace .stage)) where
   pub over-takes : o ≡ true → leavesByte (record { trace = trace; count = 0 }) table memory room ≡ bytePrinting (tookByte (holds trace table memory) b) room
   unfolding tookByte
-  over-takes is = rw (sym is-o ∙ is) (quiet-left trace table memory [] room trace table)
+  over-takes is = rw (sym is-o ∙ is) (quiet-left table memory room (quietly trace) trace table refl refl)
 
   module _ (going : o ≡ false) (m : Bool) (is-m : m ≡ mayCome (trace .stage) b) where
     pub wrong-kind : (done : TracePrinted) (left : List ℕ) → (eqb (trace .have) 0 && not m) ≡ true → done .trace ≡ stopped trace

@@ -1,8 +1,15 @@
 -- No public promise cites this file: what private functions of the code leave, for their contracts. Text is laid over the room that is lent for it.
 use Prim.Native.Nat.{ℕ}
+use mathlib.Core.Bool.{Bool, true, false}
 use mathlib.Core.List.{List}
 use lib.ListN.{length}
 use Rattle.wire.specs.Room.{over}
+use Rattle.registers.specs.Touched.{pageOf}
+use Rattle.panel.specs.declared.Panel.{Panel}
+use Rattle.panel.specs.declared.StartAnswer.{StartAnswer}
+use Rattle.panel.specs.declared.StartAnswer.the-variants as start
+use Rattle.text.specs.declared.Line.{Line}
+use Rattle.text.specs.declared.Line.the-variants as line
 use Rattle.telling.specs.Memory.{Memory}
 use Rattle.telling.specs.Told.{Told}
 use Rattle.trace.specs.declared.Trace.{Trace}
@@ -54,3 +61,29 @@ stepPrinting s room =
     leavesStep
     (record { trace = shown .held .trace; used = s .used; count = length (shown .text) })
     (shown .held .table) (shown .held .memory) (over (shown .text) room)
+
+-- what prints nothing
+abbrev pub quietly : Trace → TracePrinted
+quietly trace = record { trace = trace; count = 0 }
+
+-- ---- The start
+
+abbrev pub isBegun : StartAnswer → Bool
+isBegun start.Started = true
+isBegun start.WrongSetup = false
+isBegun start.NotRecords = false
+isBegun (start.WrongRecord i) = false
+
+-- the record that a start names, 0 where it names none
+unfoldable pub named : StartAnswer → ℕ
+named start.Started = 0
+named start.WrongSetup = 0
+named start.NotRecords = 0
+named (start.WrongRecord i) = i
+
+-- the last line of a trace whose start is answered so
+unfoldable pub lastLine : StartAnswer → Panel → Line
+lastLine start.Started panel = line.End (pageOf (panel .registers))
+lastLine start.WrongSetup panel = line.Failed 11
+lastLine start.NotRecords panel = line.Failed 12
+lastLine (start.WrongRecord i) panel = line.WrongRecord i

@@ -7,7 +7,6 @@ ghost use Rattle.telling.specs.Memory.{remembering};
 ghost use Rattle.trace.specs.Inner.{bytePrinting, leavesByte};
 ghost use Rattle.trace.specs.State.{tableBytes, holds};
 ghost use Rattle.trace.specs.Events.{itemDone, grown, tookByte};
-use crate::Stage;
 use crate::Trace;
 use crate::TracePrinted;
 use crate::event;
@@ -29,29 +28,12 @@ fn do_item(
     requires { ⌜ (tableBytes ≤ length (now table)) × (leastText ≤ length (now room)) ⌝ }
     ensures { λ r. ⌜ leavesByte r (now (table .exit)) (remembering (now (words .exit))) (now (room .exit)) ≡ bytePrinting (itemDone (holds trace (now (table .entry)) (remembering (now (words .entry)))) item) (now (room .entry)) ⌝ }
 {
-    let kind = item[0];
+    let kind = item::kind_of(item);
     if kind == 0 {
-        let setup = item::setup_in(&item);
-        let stage = Stage::Ready;
-        return TracePrinted {
-            trace: Trace {
-                stage: stage,
-                setup: setup,
-                ..trace
-            },
-            count: 0,
-        };
+        return item::met_setup(trace, item);
     }
     if kind == 5 {
-        records::put(trace.records, item, table);
-        let records = records::counted(trace.records);
-        return TracePrinted {
-            trace: Trace {
-                records: records,
-                ..trace
-            },
-            count: 0,
-        };
+        return records::met(trace, item, table);
     }
     event::any_event(trace, item, table, words, room)
 }
@@ -63,7 +45,7 @@ fn grow(trace: Trace, b: u8, table: &mut [u8], words: &mut [u16], room: &mut [u8
 {
     let old = trace.item;
     let item = item::with_byte(old, trace.have, b);
-    if item::body_length(item[0]) <= trace.have {
+    if item::body_length(item::kind_of(item)) <= trace.have {
         return do_item(
             item::gather(trace, item::no_item(), 0),
             item,

@@ -5,7 +5,7 @@ ghost use lib.ListN.{length};
 ghost use Rattle.telling.specs.Told.{leastText};
 ghost use Rattle.telling.specs.Memory.{remembering};
 ghost use Rattle.telling.specs.Events.{event};
-ghost use Rattle.trace.specs.Inner.{bytePrinting, leavesByte, eventPrinting, leavesEvent};
+ghost use Rattle.trace.specs.Inner.{bytePrinting, leavesByte, eventPrinting, leavesEvent, isBegun};
 ghost use Rattle.trace.specs.State.{tableBytes, holds};
 ghost use Rattle.trace.specs.Events.{startedBy, eventDone};
 use crate::Stage;
@@ -18,8 +18,6 @@ use panel::Panel;
 use panel::Start;
 use panel::StartAnswer;
 use telling::ITEM_BYTES;
-use text::Line;
-use touch::RECORD_BYTES;
 
 // The panel with which an event or the end is answered: started now, unless it was.
 pub fn begin(trace: Trace, part: &[u8]) -> Start
@@ -36,18 +34,32 @@ pub fn begin(trace: Trace, part: &[u8]) -> Start
     Panel::start(trace.setup, part)
 }
 
+// Whether the start was not refused.
+pub fn has_begun(begun: Start) -> bool
+    ensures { λ r. ⌜ r ≡ isBegun (begun .answer) ⌝ }
+{
+    let answer = begun.answer;
+    match answer {
+        StartAnswer::Started => true,
+        StartAnswer::WrongSetup => false,
+        StartAnswer::NotRecords => false,
+        StartAnswer::WrongRecord(_) => false,
+    }
+}
+
 // An event of a panel that is started.
 fn started_event(
     trace: Trace,
-    panel: Panel,
+    begun: Start,
     item: [u8; ITEM_BYTES],
     part: &[u8],
     words: &mut [u16],
     room: &mut [u8],
 ) -> TracePrinted
     requires { ⌜ leastText ≤ length (now room) ⌝ }
-    ensures { λ r. ⌜ leavesEvent r (remembering (now (words .exit))) (now (room .exit)) ≡ eventPrinting trace (event panel (now (part .entry)) (remembering (now (words .entry))) item) (now (room .entry)) ⌝ }
+    ensures { λ r. ⌜ leavesEvent r (remembering (now (words .exit))) (now (room .exit)) ≡ eventPrinting trace (event (begun .panel) (now (part .entry)) (remembering (now (words .entry))) item) (now (room .entry)) ⌝ }
 {
+    let panel = begun.panel;
     let done = telling::tell_event(panel, item, part, words, room);
     let next = done.panel;
     let stage = Stage::Started;
@@ -72,14 +84,10 @@ pub(crate) fn any_event(
     requires { ⌜ (tableBytes ≤ length (now table)) × (leastText ≤ length (now room)) ⌝ }
     ensures { λ r. ⌜ leavesByte r (now (table .entry)) (remembering (now (words .exit))) (now (room .exit)) ≡ bytePrinting (eventDone (holds trace (now (table .entry)) (remembering (now (words .entry)))) item) (now (room .entry)) ⌝ }
 {
-    let n = records::kept(trace.records) * RECORD_BYTES;
-    let begun = begin(trace, &table[0..n]);
-    let answer = begun.answer;
-    let panel = begun.panel;
-    match answer {
-        StartAnswer::Started => started_event(trace, panel, item, &table[0..n], words, room),
-        StartAnswer::WrongSetup => lines::stop(trace, Line::Failed(11), room),
-        StartAnswer::NotRecords => lines::stop(trace, Line::Failed(12), room),
-        StartAnswer::WrongRecord(i) => lines::stop(trace, Line::WrongRecord(i as u8), room),
+    let part = &table[0..records::table_length(trace)];
+    let begun = begin(trace, part);
+    if has_begun(begun) {
+        return started_event(trace, begun, item, part, words, room);
     }
+    lines::stop(trace, lines::last_line(begun), room)
 }

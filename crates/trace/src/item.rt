@@ -1,9 +1,13 @@
 // One item of the input: its kind, and the body whose length the kind fixes.
 ghost use mathlib.Core.Path.{_≡_};
 ghost use lib.ListN.{set};
-ghost use Rattle.trace.specs.State.{noItem, gathering};
+ghost use Rattle.wire.specs.ByteOrder.{byteAt};
+ghost use Rattle.trace.specs.State.{noItem, gathering, withSetup};
 ghost use Rattle.trace.specs.Items.{bodyLength, setupIn};
+ghost use Rattle.trace.specs.Inner.{quietly};
+use crate::Stage;
 use crate::Trace;
+use crate::TracePrinted;
 use telling::ITEM_BYTES;
 use touch::RECORD_BYTES;
 use touch::Setup;
@@ -13,6 +17,13 @@ pub fn no_item() -> [u8; ITEM_BYTES]
     ensures { λ r. ⌜ r ≡ noItem ⌝ }
 {
     [0u8; ITEM_BYTES]
+}
+
+// The kind of an item. A function of its own, since an array that is indexed among lent slices makes the check long.
+pub fn kind_of(item: [u8; ITEM_BYTES]) -> u8
+    ensures { λ r. ⌜ r ≡ byteAt item 0 ⌝ }
+{
+    item[0]
 }
 
 // How long the body of an item of this kind is.
@@ -67,5 +78,21 @@ pub fn setup_in(item: &[u8]) -> Setup
         pages: wire::word_at(item, 4),
         width: wire::word_at(item, 6),
         height: wire::word_at(item, 8),
+    }
+}
+
+// The trace is ready with the setup that a whole item carries.
+pub fn met_setup(trace: Trace, item: [u8; ITEM_BYTES]) -> TracePrinted
+    ensures { λ r. ⌜ r ≡ quietly (withSetup trace (setupIn item)) ⌝ }
+{
+    let setup = setup_in(&item);
+    let stage = Stage::Ready;
+    TracePrinted {
+        trace: Trace {
+            stage: stage,
+            setup: setup,
+            ..trace
+        },
+        count: 0,
     }
 }

@@ -12,25 +12,15 @@ use crate::Trace;
 use crate::event;
 use crate::lines;
 use crate::records;
-use panel::StartAnswer;
 use text::Line;
-use touch::RECORD_BYTES;
 
 // Writes the last line of a trace that had a setup: the page, or what the start is refused with.
 fn print_last(trace: Trace, table: &[u8], room: &mut [u8]) -> usize
     requires { ⌜ (tableBytes ≤ length (now table)) × (leastText ≤ length (now room)) ⌝ }
     ensures { λ r. ⌜ lays r (now (room .exit)) ≡ prints (endStarted trace (now (table .entry))) (now (room .entry)) ⌝ }
 {
-    let n = records::kept(trace.records) * RECORD_BYTES;
-    let begun = event::begin(trace, &table[0..n]);
-    let answer = begun.answer;
-    let panel = begun.panel;
-    match answer {
-        StartAnswer::Started => lines::print_line(Line::End(panel.page()), room),
-        StartAnswer::WrongSetup => lines::print_line(Line::Failed(11), room),
-        StartAnswer::NotRecords => lines::print_line(Line::Failed(12), room),
-        StartAnswer::WrongRecord(i) => lines::print_line(Line::WrongRecord(i as u8), room),
-    }
+    let begun = event::begin(trace, &table[0..records::table_length(trace)]);
+    lines::print_line(lines::last_line(begun), room)
 }
 
 // Writes the last line of any trace; one that has failed has none.

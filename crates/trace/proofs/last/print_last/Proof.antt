@@ -1,7 +1,7 @@
 -- `trace::last::print_last` meets its contract.
 use borrow.Author.Needs.{needs}
-use Rattle.trace.proofs.Events.{wrong-below}
-use Rattle.trace.proofs.Ending.{page-last, setup-last, table-last, record-last}
+use Rattle.trace.proofs.Events.{named-below}
+use Rattle.trace.proofs.Ending.{last-printed}
 use Rattle.trace.proofs.last.print_last.Statement.{statement}
 use Rattle.trace.proofs.last.print_last.Tie as tie
 
@@ -13,23 +13,8 @@ print-last-spec =
     (λ c. search needs)
     (λ c. search needs)
     (λ c. search needs)
-    (λ c. search needs)
+    (λ c κs. search needs)
+    (λ c κs. search named-below)
     (λ c κs. search needs)
     (λ c. search needs)
-    (λ c κs. search needs)
-    (λ c κs. search needs)
-    (λ c. search needs)
-    (λ c κs. search needs)
-    (λ c. search needs)
-    (λ c κs. search needs)
-    (λ c. search needs)
-    (λ c. search (needs, wrong-below))
-    (λ c κs. search needs)
-    (λ c. search needs)
-    (λ c. search page-last)
-    (λ c. search needs)
-    (λ c. search setup-last)
-    (λ c. search needs)
-    (λ c. search table-last)
-    (λ c. search needs)
-    (λ c. search record-last))
+    (λ c. search last-printed))
