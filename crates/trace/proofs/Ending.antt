@@ -49,9 +49,9 @@ module _ (answer : StartAnswer) (panel : Panel) where
   unfolding lastLine
   table-line is = ap (λ (a : StartAnswer). lastLine a panel) (sym is)
 
-  pub record-line : (i : ℕ) → answer ≡ start.WrongRecord i → line.WrongRecord i ≡ lastLine answer panel
+  pub wrong-record-line : (i : ℕ) → answer ≡ start.WrongRecord i → line.WrongRecord i ≡ lastLine answer panel
   unfolding lastLine
-  record-line i is = ap (λ (a : StartAnswer). lastLine a panel) (sym is)
+  wrong-record-line i is = ap (λ (a : StartAnswer). lastLine a panel) (sym is)
 
 pub number-below : (answer : StartAnswer) (i : ℕ) → named answer < 256 → answer ≡ start.WrongRecord i → i < 256
 unfolding named
