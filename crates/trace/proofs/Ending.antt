@@ -37,9 +37,9 @@ use Rattle.trace.proofs.Items.{table-part}
 -- ---- The last line of a trace that had a setup
 
 module _ (answer : StartAnswer) (panel : Panel) where
-  pub page-line : (page : ℕ) → answer ≡ start.Started → page ≡ pageOf (panel .registers) → line.End page ≡ lastLine answer panel
+  pub started-line : (page : ℕ) → answer ≡ start.Started → page ≡ pageOf (panel .registers) → line.End page ≡ lastLine answer panel
   unfolding lastLine
-  page-line page is is-page = ap line.End is-page ∙ ap (λ (a : StartAnswer). lastLine a panel) (sym is)
+  started-line page is is-page = ap line.End is-page ∙ ap (λ (a : StartAnswer). lastLine a panel) (sym is)
 
   pub setup-line : answer ≡ start.WrongSetup → line.Failed 11 ≡ lastLine answer panel
   unfolding lastLine
