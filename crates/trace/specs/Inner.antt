@@ -11,6 +11,7 @@ use Rattle.panel.specs.declared.StartAnswer.the-variants as start
 use Rattle.text.specs.declared.Line.{Line}
 use Rattle.text.specs.declared.Line.the-variants as line
 use Rattle.telling.specs.Memory.{Memory}
+use Rattle.telling.specs.declared.PanelPrinted.{PanelPrinted}
 use Rattle.telling.specs.Told.{Told}
 use Rattle.trace.specs.declared.Trace.{Trace}
 use Rattle.trace.specs.declared.TracePrinted.{TracePrinted}
@@ -61,6 +62,10 @@ stepPrinting s room =
     leavesStep
     (record { trace = shown .held .trace; used = s .used; count = length (shown .text) })
     (shown .held .table) (shown .held .memory) (over (shown .text) room)
+
+-- the trace behind what was told of its panel
+abbrev pub afterTold : Trace → PanelPrinted → TracePrinted
+afterTold trace done = record { trace = withPanel trace (done .panel); count = done .count }
 
 -- what prints nothing
 abbrev pub quietly : Trace → TracePrinted
