@@ -31,8 +31,8 @@ use Rattle.telling.specs.Events.{event}
 use Rattle.telling.proofs.Telling.{printed-in}
 use Rattle.trace.specs.declared.Trace.{Trace}
 use Rattle.trace.specs.declared.TracePrinted.{TracePrinted}
-use Rattle.trace.specs.Inner.{bytePrinting, leavesByte, eventPrinting, leavesEvent, EventLeft, isBegun, named, lastLine}
-use Rattle.trace.specs.State.{Held, Shown, keptRecords, tableOf, metTable, isStarted, withPanel, stopped, tableBytes, holds, showsTold, fails}
+use Rattle.trace.specs.Inner.{bytePrinting, leavesByte, eventPrinting, leavesEvent, EventLeft, isBegun, named, lastLine, afterTold}
+use Rattle.trace.specs.State.{Held, Shown, keptRecords, tableOf, metTable, isStarted, stopped, tableBytes, holds, showsTold, fails}
 use Rattle.trace.specs.Lines.{refusalText}
 use Rattle.trace.specs.Events.{startedBy, eventAnswered, eventDone}
 use Rattle.trace.proofs.Items.{table-part}
@@ -84,12 +84,11 @@ refused-shows start.WrongSetup panel held item is = refl
 refused-shows start.NotRecords panel held item is = refl
 refused-shows (start.WrongRecord i) panel held item is = refl
 
-pub started-left : (trace : Trace) (told : Told) (panel : Panel) (done : PanelPrinted) (memory memory′ : Memory) (room left : List ℕ) → leastText ≤ length room
-    → leavesPanel done memory′ left ≡ printedIn told panel memory room
-    → leavesEvent (record { trace = withPanel trace (done .panel); count = done .count }) memory′ left ≡ eventPrinting trace told room
-started-left trace told panel done memory memory′ room left wide e =
-    ap (λ (l : PanelLeft). leavesEvent (record { trace = withPanel trace (l .printed .panel); count = l .printed .count }) (l .memory) (l .room))
-    (printed-in told panel memory room done memory′ left wide e)
+pub started-left : (trace : Trace) (told : Told) (panel : Panel) (done : PanelPrinted) (memory memory′ : Memory) (room left : List ℕ) (r : TracePrinted) → leastText ≤ length room
+    → leavesPanel done memory′ left ≡ printedIn told panel memory room → r ≡ afterTold trace done → leavesEvent r memory′ left ≡ eventPrinting trace told room
+started-left trace told panel done memory memory′ room left r wide e is =
+    ap (λ (p : TracePrinted). leavesEvent p memory′ left) is
+    ∙ ap (λ (l : PanelLeft). leavesEvent (afterTold trace (l .printed)) (l .memory) (l .room)) (printed-in told panel memory room done memory′ left wide e)
 
 module _ (trace : Trace) (table : List ℕ) (n : ℕ) (is-n : n ≡ min (trace .records) keptRecords * recordBytes) (begun : Start)
     (is-begun : begun ≡ startedBy trace (take (n - 0) table)) where

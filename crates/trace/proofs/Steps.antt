@@ -20,7 +20,7 @@ use Rattle.trace.specs.declared.Trace.{Trace}
 use Rattle.trace.specs.declared.TracePrinted.{TracePrinted}
 use Rattle.trace.specs.declared.Took.{Took}
 use Rattle.trace.specs.declared.Answer.the-variants.{Done, NotLent}
-use Rattle.trace.specs.Inner.{stepPrinting, leavesStep, StepLeft, bytePrinting, leavesByte, ByteLeft, eventPrinting, leavesEvent, EventLeft}
+use Rattle.trace.specs.Inner.{stepPrinting, leavesStep, StepLeft, bytePrinting, leavesByte, ByteLeft, eventPrinting, leavesEvent, EventLeft, takingSo, goesInRuns}
 use Rattle.trace.specs.State.{waits, isStarted, tableBytes, lentTo, isLent, holds}
 use Rattle.trace.specs.Events.{tookByte}
 use Rattle.trace.specs.Steps.{lineRun, longestRun, ranBytes, tookOne, tookLines, tookInput, step, steps, stepping}
@@ -34,13 +34,13 @@ module _ (trace : Trace) (table : List ℕ) (memory : Memory) (room : List ℕ) 
   no-input [] is = ap (λ (l : List ℕ). leavesStep (record { trace = trace; used = 0; count = 0 }) table memory l) (sym (over-nil room))
   no-input (b ∷ input) is = absurd (omega arith)
 
-  pub one-byte : (input : List ℕ) (done : TracePrinted) (table′ : List ℕ) (memory′ : Memory) (left : List ℕ) → (length input ≡ 0 → ⊥)
-      → leavesByte done table′ memory′ left ≡ bytePrinting (tookByte (holds trace table memory) (getD input 0 0)) room
-      → leavesStep (record { trace = done .trace; used = 1; count = done .count }) table′ memory′ left ≡ stepPrinting (tookOne (holds trace table memory) input) room
+  pub one-byte : (input : List ℕ) (done : TracePrinted) (table′ : List ℕ) (memory′ : Memory) (left : List ℕ) (took : Took) → (length input ≡ 0 → ⊥)
+      → leavesByte done table′ memory′ left ≡ bytePrinting (tookByte (holds trace table memory) (getD input 0 0)) room → took ≡ takingSo done 1
+      → leavesStep took table′ memory′ left ≡ stepPrinting (tookOne (holds trace table memory) input) room
   unfolding tookOne
-  one-byte [] done table′ memory′ left some e = absurd (some refl)
-  one-byte (b ∷ input) done table′ memory′ left some e =
-      ap (λ (l : ByteLeft). leavesStep (record { trace = l .printed .trace; used = 1; count = l .printed .count }) (l .table) (l .memory) (l .room)) e
+  one-byte [] done table′ memory′ left took some e so = absurd (some refl)
+  one-byte (b ∷ input) done table′ memory′ left took some e so =
+      ap (λ (t : Took). leavesStep t table′ memory′ left) so ∙ ap (λ (l : ByteLeft). leavesStep (takingSo (l .printed) 1) (l .table) (l .memory) (l .room)) e
 
 -- ---- A step
 
@@ -79,25 +79,28 @@ module _ (trace : Trace) (table : List ℕ) (memory : Memory) (room input run : 
       (ap (λ (t : Took). leavesStep t table memory room) same
       ∙ ap (λ (l : List ℕ). leavesStep (ranBytes trace (lineRun longestRun input)) table memory l) (sym (over-nil room)))
 
-module _ (trace : Trace) (table : List ℕ) (memory : Memory) (room input : List ℕ) (took : Took) (table′ : List ℕ) (memory′ : Memory) (left : List ℕ) (b : Bool) (is-b : b ≡ isStarted (trace .stage)) where
-  pub takes-lines : (b && eqb (trace .have) 0) ≡ true → leavesStep took table′ memory′ left ≡ stepPrinting (tookLines (holds trace table memory) input) room
-      → leavesStep took table′ memory′ left ≡ stepPrinting (tookInput (holds trace table memory) input) room
-  unfolding tookInput
-  takes-lines is e = rw (rw is-b at is) e
+pub in-runs : (trace : Trace) (b : Bool) → b ≡ isStarted (trace .stage) → (b && eqb (trace .have) 0) ≡ goesInRuns trace
+in-runs trace b is = ap (λ (c : Bool). c && eqb (trace .have) 0) is
 
-  pub takes-one : (b && eqb (trace .have) 0) ≡ false → leavesStep took table′ memory′ left ≡ stepPrinting (tookOne (holds trace table memory) input) room
+module _ (trace : Trace) (table : List ℕ) (memory : Memory) (room input : List ℕ) (took : Took) (table′ : List ℕ) (memory′ : Memory) (left : List ℕ) (b : Bool) (is-b : b ≡ goesInRuns trace) where
+  pub takes-lines : b ≡ true → leavesStep took table′ memory′ left ≡ stepPrinting (tookLines (holds trace table memory) input) room
       → leavesStep took table′ memory′ left ≡ stepPrinting (tookInput (holds trace table memory) input) room
   unfolding tookInput
-  takes-one is e = rw (rw is-b at is) e
+  takes-lines is e = rw (sym is-b ∙ is) e
+
+  pub takes-one : b ≡ false → leavesStep took table′ memory′ left ≡ stepPrinting (tookOne (holds trace table memory) input) room
+      → leavesStep took table′ memory′ left ≡ stepPrinting (tookInput (holds trace table memory) input) room
+  unfolding tookInput
+  takes-one is e = rw (sym is-b ∙ is) e
 
 module _ (trace : Trace) (table : List ℕ) (memory : Memory) (room input : List ℕ) (w : Bool) (is-w : w ≡ waits trace) where
-  pub hands-one : (done : TracePrinted) (memory′ : Memory) (left : List ℕ) → w ≡ true
-      → leavesEvent done memory′ left ≡ eventPrinting trace (askedOnce (trace .panel) memory) room
-      → leavesStep (record { trace = done .trace; used = 0; count = done .count }) table memory′ left ≡ stepPrinting (step (holds trace table memory) input) room
+  pub hands-one : (done : TracePrinted) (memory′ : Memory) (left : List ℕ) (took : Took) → w ≡ true
+      → leavesEvent done memory′ left ≡ eventPrinting trace (askedOnce (trace .panel) memory) room → took ≡ takingSo done 0
+      → leavesStep took table memory′ left ≡ stepPrinting (step (holds trace table memory) input) room
   unfolding step
-  hands-one done memory′ left is e =
+  hands-one done memory′ left took is e so =
       rw (sym is-w ∙ is)
-      (ap (λ (l : EventLeft). leavesStep (record { trace = l .printed .trace; used = 0; count = l .printed .count }) table (l .memory) (l .room)) e)
+      (ap (λ (t : Took). leavesStep t table memory′ left) so ∙ ap (λ (l : EventLeft). leavesStep (takingSo (l .printed) 0) table (l .memory) (l .room)) e)
 
   pub takes-input : (took : Took) (table′ : List ℕ) (memory′ : Memory) (left : List ℕ) → w ≡ false
       → leavesStep took table′ memory′ left ≡ stepPrinting (tookInput (holds trace table memory) input) room

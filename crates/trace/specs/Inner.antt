@@ -1,7 +1,8 @@
 -- No public promise cites this file: what private functions of the code leave, for their contracts. Text is laid over the room that is lent for it.
 use Prim.Native.Nat.{ℕ}
-use mathlib.Core.Bool.{Bool, true, false}
+use mathlib.Core.Bool.{Bool, true, false, _&&_}
 use mathlib.Core.List.{List}
+use lib.Dec.{eqb}
 use lib.ListN.{length}
 use Rattle.wire.specs.Room.{over}
 use Rattle.registers.specs.Touched.{pageOf}
@@ -11,11 +12,12 @@ use Rattle.panel.specs.declared.StartAnswer.the-variants as start
 use Rattle.text.specs.declared.Line.{Line}
 use Rattle.text.specs.declared.Line.the-variants as line
 use Rattle.telling.specs.Memory.{Memory}
+use Rattle.telling.specs.declared.PanelPrinted.{PanelPrinted}
 use Rattle.telling.specs.Told.{Told}
 use Rattle.trace.specs.declared.Trace.{Trace}
 use Rattle.trace.specs.declared.TracePrinted.{TracePrinted}
 use Rattle.trace.specs.declared.Took.{Took}
-use Rattle.trace.specs.State.{Shown, withPanel}
+use Rattle.trace.specs.State.{Shown, withPanel, isStarted}
 use Rattle.trace.specs.Steps.{Step}
 
 -- what an event or a report leaves, and its text over the room
@@ -62,6 +64,10 @@ stepPrinting s room =
     (record { trace = shown .held .trace; used = s .used; count = length (shown .text) })
     (shown .held .table) (shown .held .memory) (over (shown .text) room)
 
+-- the trace behind what was told of its panel
+abbrev pub afterTold : Trace → PanelPrinted → TracePrinted
+afterTold trace done = record { trace = withPanel trace (done .panel); count = done .count }
+
 -- what prints nothing
 abbrev pub quietly : Trace → TracePrinted
 quietly trace = record { trace = trace; count = 0 }
@@ -87,3 +93,11 @@ lastLine start.Started panel = line.End (pageOf (panel .registers))
 lastLine start.WrongSetup panel = line.Failed 11
 lastLine start.NotRecords panel = line.Failed 12
 lastLine (start.WrongRecord i) panel = line.WrongRecord i
+
+-- what a step took that printed this
+abbrev pub takingSo : TracePrinted → (used : ℕ) → Took
+takingSo done used = record { trace = done .trace; used = used; count = done .count }
+
+-- line bytes go in a run: the panel is started, and no item is begun
+abbrev pub goesInRuns : Trace → Bool
+goesInRuns trace = isStarted (trace .stage) && eqb (trace .have) 0

@@ -5,7 +5,7 @@ ghost use lib.ListN.{length};
 ghost use Rattle.telling.specs.Told.{leastText};
 ghost use Rattle.telling.specs.Memory.{remembering};
 ghost use Rattle.telling.specs.Events.{event};
-ghost use Rattle.trace.specs.Inner.{bytePrinting, leavesByte, eventPrinting, leavesEvent, isBegun};
+ghost use Rattle.trace.specs.Inner.{bytePrinting, leavesByte, eventPrinting, leavesEvent, isBegun, afterTold};
 ghost use Rattle.trace.specs.State.{tableBytes, holds};
 ghost use Rattle.trace.specs.Events.{startedBy, eventDone};
 use crate::Stage;
@@ -18,6 +18,7 @@ use panel::Panel;
 use panel::Start;
 use panel::StartAnswer;
 use telling::ITEM_BYTES;
+use telling::PanelPrinted;
 
 // The panel with which an event or the end is answered: started now, unless it was.
 pub fn begin(trace: Trace, part: &[u8]) -> Start
@@ -47,6 +48,22 @@ pub fn has_begun(begun: Start) -> bool
     }
 }
 
+// The trace behind what was told of its panel.
+pub fn after_told(trace: Trace, done: PanelPrinted) -> TracePrinted
+    ensures { λ r. ⌜ r ≡ afterTold trace done ⌝ }
+{
+    let next = done.panel;
+    let stage = Stage::Started;
+    TracePrinted {
+        trace: Trace {
+            stage: stage,
+            panel: next,
+            ..trace
+        },
+        count: done.count,
+    }
+}
+
 // An event of a panel that is started.
 fn started_event(
     trace: Trace,
@@ -61,16 +78,7 @@ fn started_event(
 {
     let panel = begun.panel;
     let done = telling::tell_event(panel, item, part, words, room);
-    let next = done.panel;
-    let stage = Stage::Started;
-    TracePrinted {
-        trace: Trace {
-            stage: stage,
-            panel: next,
-            ..trace
-        },
-        count: done.count,
-    }
+    after_told(trace, done)
 }
 
 // An event, the first of which starts the panel; where the start is refused, the trace fails.

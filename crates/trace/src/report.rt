@@ -6,9 +6,9 @@ ghost use Rattle.telling.specs.Told.{leastText};
 ghost use Rattle.telling.specs.Memory.{remembering};
 ghost use Rattle.telling.specs.Events.{askedOnce};
 ghost use Rattle.trace.specs.Inner.{eventPrinting, leavesEvent};
-use crate::Stage;
 use crate::Trace;
 use crate::TracePrinted;
+use crate::event;
 
 // Asks for one report of the trace's panel.
 pub(crate) fn hand_over(trace: Trace, words: &mut [u16], room: &mut [u8]) -> TracePrinted
@@ -17,14 +17,5 @@ pub(crate) fn hand_over(trace: Trace, words: &mut [u16], room: &mut [u8]) -> Tra
 {
     let panel = trace.panel;
     let done = telling::tell_report(panel, words, room);
-    let next = done.panel;
-    let stage = Stage::Started;
-    TracePrinted {
-        trace: Trace {
-            stage: stage,
-            panel: next,
-            ..trace
-        },
-        count: done.count,
-    }
+    event::after_told(trace, done)
 }

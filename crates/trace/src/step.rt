@@ -5,12 +5,13 @@ ghost use lib.ListN.{length};
 ghost use Rattle.telling.specs.Told.{leastText};
 ghost use Rattle.telling.specs.Memory.{remembering};
 ghost use Rattle.trace.specs.State.{lentTo, tableBytes, holds};
-ghost use Rattle.trace.specs.Inner.{stepPrinting, leavesStep};
+ghost use Rattle.trace.specs.Inner.{stepPrinting, leavesStep, takingSo, goesInRuns};
 ghost use Rattle.trace.specs.Steps.{tookOne, tookLines, tookInput, step};
 use crate::LEAST_TEXT;
 use crate::TABLE_BYTES;
 use crate::Took;
 use crate::Trace;
+use crate::TracePrinted;
 use crate::byte;
 use crate::report;
 use crate::run;
@@ -22,6 +23,26 @@ pub fn is_lent(table: usize, words: usize, room: usize) -> bool
     ensures { λ r. ⌜ r ≡ lentTo table words room ⌝ }
 {
     (TABLE_BYTES <= table) & (words == WORD_COUNT) & (LEAST_TEXT <= room)
+}
+
+// What a step took that printed this.
+fn taking(done: TracePrinted, used: usize) -> Took
+    ensures { λ r. ⌜ r ≡ takingSo done used ⌝ }
+{
+    let trace = done.trace;
+    Took {
+        trace: trace,
+        used: used,
+        count: done.count,
+    }
+}
+
+// Whether line bytes go in a run: the panel is started, and no item is begun.
+fn goes_in_runs(trace: Trace) -> bool
+    ensures { λ r. ⌜ r ≡ goesInRuns trace ⌝ }
+{
+    let stage = trace.stage;
+    stages::is_started(stage) & (trace.have == 0)
 }
 
 // Takes the first byte of the input.
@@ -43,12 +64,7 @@ fn take_one(
         };
     }
     let done = byte::take_byte(trace, input[0], table, words, room);
-    let next = done.trace;
-    Took {
-        trace: next,
-        used: 1,
-        count: done.count,
-    }
+    taking(done, 1)
 }
 
 // Takes the run of line bytes at the front of the input, or one byte where there is none.
@@ -81,8 +97,7 @@ fn take_input(
     requires { ⌜ (tableBytes ≤ length (now table)) × (leastText ≤ length (now room)) ⌝ }
     ensures { λ r. ⌜ leavesStep r (now (table .exit)) (remembering (now (words .exit))) (now (room .exit)) ≡ stepPrinting (tookInput (holds trace (now (table .entry)) (remembering (now (words .entry)))) (now (input .entry))) (now (room .entry)) ⌝ }
 {
-    let stage = trace.stage;
-    if stages::is_started(stage) & (trace.have == 0) {
+    if goes_in_runs(trace) {
         return take_lines(trace, input, table, words, room);
     }
     take_one(trace, input, table, words, room)
@@ -101,12 +116,7 @@ pub(crate) fn take_step(
 {
     if trace.is_waiting() {
         let done = report::hand_over(trace, words, room);
-        let next = done.trace;
-        return Took {
-            trace: next,
-            used: 0,
-            count: done.count,
-        };
+        return taking(done, 0);
     }
     take_input(trace, input, table, words, room)
 }

@@ -11,6 +11,7 @@ take-one-spec =
     (λ c. search no-input)
     (λ c. search needs)
     (λ c κs. search needs)
+    (λ c κs. search needs)
     (λ c. search needs)
     (λ c. search needs)
     (λ c. search needs)
