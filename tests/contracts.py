@@ -157,10 +157,7 @@ def main():
     wrong += more
     wrong += [f"{where(each)}: it is `pub` and has a `requires`" for each in declared if each.pub and re.search(r"\brequires\b", each.contract)]
     wrong += [f"{where(each)}: {fault}" for each in functions for fault in faults(each, functions, known, excepted)]
-    print(f"{len(functions)} public functions: {len(known)} in docs/CONTRACTS.md, {len(excepted)} exceptions", flush=True)
-    if wrong:
-        print("\n".join(wrong), f"faults: {len(wrong)}; the first: {wrong[0]}", sep="\n", file=sys.stderr)
-    return 1 if wrong else 0
+    return source.verdict(f"{len(functions)} public functions: {len(known)} in docs/CONTRACTS.md, {len(excepted)} exceptions", wrong)
 
 
 if __name__ == "__main__":

@@ -299,10 +299,7 @@ def main():
         print("\n".join(f"{each.told()}: {each.comment}" for each in found if not quotes(each)))
     wrong = [*faults(), *(misquoted(asked.paper) if asked.paper else [])]
     outer = to_be_believed("specs")
-    print(f"{len(definitions('specs'))} definitions: {len(outer)} to be believed, {sum(map(quotes, outer))} of them under a quotation", flush=True)
-    if wrong:
-        print("\n".join(wrong), f"faults: {len(wrong)}; the first: {wrong[0]}", sep="\n", file=sys.stderr)
-    return 1 if wrong else 0
+    return source.verdict(f"{len(definitions('specs'))} definitions: {len(outer)} to be believed, {sum(map(quotes, outer))} of them under a quotation", wrong)
 
 
 if __name__ == "__main__":

@@ -145,7 +145,7 @@ def runs():
     os.close(written)
     yield trouble("./panel >&-", run(SCRIPT, first, capture_output=False, stderr=subprocess.PIPE, preexec_fn=lambda: os.close(1)), 2, said="standard output is closed")
     yield trouble("./panel <&-", run(SCRIPT, stdin=None, preexec_fn=lambda: os.close(0)), 2, b"", "standard input is closed")
-    yield trouble("./panel < /", run("/bin/sh", "-c", f"exec '{SCRIPT}' < /"), 2, b"", "panel_trace: standard input: ")
+    yield trouble("./panel < /", run("sh", "-c", f"exec '{SCRIPT}' < /"), 2, b"", "panel_trace: standard input: ")
 
 
 def main():

@@ -9,6 +9,7 @@ A crate's root is src/lib.rt or src/main.rt; each other file of src/ is a module
 import dataclasses
 import pathlib
 import re
+import sys
 
 TOP = pathlib.Path(__file__).resolve().parent.parent
 CLOSING = {"(": ")", "{": "}", "[": "]"}
@@ -188,3 +189,14 @@ def declared(crate, word):
         text = blank(file.read_text())
         for found in re.finditer(rf"\b{word}\s+(\w+)\s*\{{", text):
             yield found.group(1), split_items(text[found.end():behind(text, found.end() - 1) - 1])
+
+
+# ---- What a test says
+
+
+def verdict(counted, wrong):
+    """Prints what was counted and each fault, the first once more at the end, where tests/run reads it. Answers the exit status."""
+    print(counted, flush=True)
+    if wrong:
+        print("\n".join(wrong), f"faults: {len(wrong)}; the first: {wrong[0]}", sep="\n", file=sys.stderr)
+    return 1 if wrong else 0
