@@ -1,3 +1,4 @@
 pub mod Going
 pub mod Passes
 pub mod Whole
+pub mod WholeExample

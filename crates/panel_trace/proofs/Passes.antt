@@ -84,7 +84,7 @@ module _ (before : Held) (input : List ℕ) (trace : Trace) (table words : List 
 
 -- ---- Reading
 
-reads-new : ReadSoFar newHeld
+pub reads-new : ReadSoFar newHeld
 unfolding traceOutput newHeld
 reads-new = record { input = []; text = []; prints = λ rest. sym (quiet-output newHeld rest new-quiet); quiet = new-quiet }
 
