@@ -10,7 +10,7 @@ use lib.Dec.{eqb, ltb}
 use Rattle.wire.specs.Addresses.{wordCount}
 use Rattle.reading.specs.Place as Place
 use Rattle.reading.specs.Place.{badCheck, acceptedFrame}
-use Rattle.line.proofs.Truths.{never}
+use Rattle.wire.proofs.Truths.{never}
 use Rattle.commands.specs.Outcome as Outcome
 use Rattle.commands.specs.Outcome.{outcome}
 use Rattle.panel.specs.State.{fixedFor}

@@ -7,7 +7,7 @@ use native.Mathlib.Omega.{arith}
 use lib.ListN.{length, take}
 use Rattle.wire.specs.Bytes.{Bytes}
 use Rattle.line.specs.Methods.{asked}
-use Rattle.line.proofs.Truths.{never}
+use Rattle.wire.proofs.Truths.{never}
 use Rattle.registers.specs.declared.Registers.{Registers}
 use Rattle.registers.specs.Touched.{isDown, pageOf, withPage, withStatus, withPlace}
 use Rattle.words.specs.Words.{wordAtAddress}

@@ -13,7 +13,7 @@ use Rattle.reading.proofs.Accepting.{accepted-begun}
 use Rattle.line.specs.State.{padded, keptOf}
 use Rattle.line.specs.Methods.{asked}
 use Rattle.line.specs.Reached.{payloadAs}
-use Rattle.line.proofs.Truths.{never}
+use Rattle.wire.proofs.Truths.{never}
 use Rattle.panel.specs.declared.Panel.{Panel}
 use Rattle.panel.specs.Sound.{Sound}
 use Rattle.panel.specs.Reachable.{Reachable}

@@ -20,7 +20,7 @@ use Rattle.line.specs.declared.Report.the-variants as line
 use Rattle.line.specs.declared.Asked.{Asked}
 use Rattle.line.specs.Methods.{asked}
 use Rattle.line.specs.Reached.{reportAs}
-use Rattle.line.proofs.Truths.{never}
+use Rattle.wire.proofs.Truths.{never}
 use Rattle.commands.specs.declared.Outcome.{Outcome}
 use Rattle.commands.specs.declared.Outcome.the-variants.{Done, UnknownCommand, WrongData, PastEnd, Unwritable, WrongValue, ReplyTooLong}
 use Rattle.commands.specs.Outcome as Outcome

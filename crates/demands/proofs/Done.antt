@@ -6,7 +6,7 @@ use Prim.Native.Nat.{ℕ, _<_}
 use native.Mathlib.Omega.{arith}
 use borrow.Author.Tests.{ltb-true, not-true}
 use lib.Dec.{ltb}
-use Rattle.line.proofs.Truths.{and-left, and-right}
+use Rattle.wire.proofs.Truths.{and-left, and-right}
 use Rattle.touch.specs.declared.Setup.{Setup}
 use Rattle.demands.specs.Calls.{Moment, Call, lend, byte, bytes, mark, ask, contact, lift}
 use Rattle.demands.specs.Demand1.{Condition, firstNumber, noneHolds, printed, printedStart, printedWriter}

@@ -5,7 +5,7 @@ use mathlib.Core.List.{List, [], _∷_, _++_}
 use Prim.Native.Nat.{ℕ, _<_}
 use native.Mathlib.Omega.{arith}
 use borrow.Author.Tests.{not-true}
-use Rattle.line.proofs.Truths.{and-left, and-right}
+use Rattle.wire.proofs.Truths.{and-left, and-right}
 use Rattle.demands.specs.Demand1.{Condition, firstNumber, noneHolds, GivenUnder}
 
 -- "Given exactly when": the first number of a list is given under its condition, and a number under whose condition it is given is the first

@@ -9,7 +9,7 @@ use lib.Dec.{eqb}
 use lib.ListN.{length, length-append}
 use Rattle.reading.specs.Place.{Report}
 use Rattle.reading.proofs.Stable.{true-is-not-false}
-use Rattle.line.proofs.Truths.{and-left, and-right}
+use Rattle.wire.proofs.Truths.{and-left, and-right}
 use Rattle.touch.specs.declared.Setup.{Setup}
 use Rattle.demands.specs.Calls.{Moment, Call, afterAll, handedOverAll}
 use Rattle.demands.specs.Reports.{reportWaits}

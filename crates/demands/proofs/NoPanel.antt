@@ -9,7 +9,7 @@ use Rattle.wire.specs.Addresses.{wordCount}
 use Rattle.line.specs.declared.Report.the-variants as line
 use Rattle.line.specs.State.{noReader}
 use Rattle.line.specs.Methods.{busy, numberOfAnswer, asked}
-use Rattle.line.proofs.Truths.{never}
+use Rattle.wire.proofs.Truths.{never}
 use Rattle.touch.specs.Judge.{judged}
 use Rattle.commands.specs.Lent.{Lent}
 use Rattle.panel.specs.declared.ContactAnswer.the-variants as contact-answer

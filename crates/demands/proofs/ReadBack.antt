@@ -31,7 +31,7 @@ use Rattle.line.specs.Reached.{reportAs, payloadAs}
 use Rattle.line.specs.Methods.{asked, busy, givenByte, givenBytes, gave}
 use Rattle.line.proofs.Padding.{take-padded}
 use Rattle.line.proofs.Carried.{kept-is, ask-carried}
-use Rattle.line.proofs.Truths.{never}
+use Rattle.wire.proofs.Truths.{never}
 use Rattle.touch.specs.Setup.{checkingOf}
 use Rattle.panel.specs.declared.Panel.{Panel}
 use Rattle.panel.specs.State.{headerOf}

@@ -11,7 +11,7 @@ use Rattle.wire.specs.ByteOrder.{highFirst, byteAt, wordAt}
 use Rattle.frame.specs.Frame.{checkLength, mostData}
 use Rattle.frame.proofs.Writers.{length-most}
 use Rattle.reading.specs.Place.{acceptedFrame}
-use Rattle.line.proofs.Truths.{never, and-left, and-right}
+use Rattle.wire.proofs.Truths.{never, and-left, and-right}
 use Rattle.wire.specs.Addresses.{registerCount, wordCount}
 use Rattle.registers.specs.Table.{writable}
 use Rattle.registers.specs.Run.{allWritable, halfPage, unwritableRun}

@@ -16,7 +16,7 @@ use Rattle.touch.specs.declared.Verdict.the-variants.{Good, NotRecords, Wrong}
 use Rattle.touch.specs.Setup.{checkingOf, acknowledgingOf, goodSetup}
 use Rattle.touch.specs.Judge.{judged}
 use Rattle.line.specs.Methods.{asked}
-use Rattle.line.proofs.Truths.{never}
+use Rattle.wire.proofs.Truths.{never}
 use Rattle.panel.specs.declared.Panel.{Panel}
 use Rattle.panel.specs.declared.StartAnswer.the-variants as start
 use Rattle.panel.specs.State as State

@@ -8,7 +8,7 @@ use borrow.Author.Tests.{eqb-true, eqb-false}
 use lib.Dec.{eqb, ltb}
 use lib.IntN.{ℤ, pos, negsuc}
 use Rattle.wire.specs.ByteOrder.{highByte, lowByte}
-use Rattle.line.proofs.Truths.{never}
+use Rattle.wire.proofs.Truths.{never}
 use Rattle.stores.specs.Store.{inMode, signed, placed}
 use Rattle.stores.specs.Step.{stepStores}
 use Rattle.stores.specs.Slider.{sliderStores}

@@ -7,7 +7,7 @@ use native.Mathlib.Omega.{arith}
 use lib.Dec.{eqb, ltb}
 use lib.ListN.{length}
 use Rattle.line.specs.Methods.{busy}
-use Rattle.line.proofs.Truths.{never}
+use Rattle.wire.proofs.Truths.{never}
 use Rattle.registers.specs.Touched.{isTouchOff}
 use Rattle.wire.specs.Addresses.{wordCount}
 use Rattle.touch.specs.declared.Setup.{Setup}

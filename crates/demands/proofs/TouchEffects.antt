@@ -11,7 +11,7 @@ use lib.Seq.{getD-set-same}
 use Rattle.wire.specs.Bytes.{Bytes}
 use Rattle.wire.specs.ByteOrder.{wordAt}
 use Rattle.line.specs.Methods.{busy}
-use Rattle.line.proofs.Truths.{never}
+use Rattle.wire.proofs.Truths.{never}
 use Rattle.registers.specs.Touched.{isDown, isTouchOff, pageOf, withStatus, withPlace}
 use Rattle.stores.specs.Store.{signed, valueIn, keyStores}
 use Rattle.stores.specs.Step.{stepped, fenced}

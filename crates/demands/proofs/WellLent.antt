@@ -6,7 +6,7 @@ use lib.Dec.{eqb, leb}
 use lib.ListN.{length}
 use Rattle.wire.specs.Addresses.{wordCount}
 use Rattle.frame.specs.Writer.{leastRoom}
-use Rattle.line.proofs.Truths.{and-left, and-right}
+use Rattle.wire.proofs.Truths.{and-left, and-right}
 use Rattle.commands.specs.Lent.{Lent}
 use Rattle.panel.specs.Reporting.{enough, wellLent}
 use Rattle.demands.specs.Calls.{WellLent}

@@ -18,7 +18,7 @@ use Rattle.line.specs.declared.Asked.{Asked}
 use Rattle.line.specs.State.{padded, settledReader}
 use Rattle.line.specs.Methods.{bodyLength, span, told, asked}
 use Rattle.line.proofs.Padding.{drop-take}
-use Rattle.line.proofs.Truths.{or-left, or-right}
+use Rattle.wire.proofs.Truths.{or-left, or-right}
 
 -- an answer to an ask
 abbrev pub askGives : Report → List ℕ → Reader → Asked

@@ -11,7 +11,7 @@ use Rattle.frame.specs.Frame.{leastLength}
 use Rattle.reading.specs.Place.{Rules, pass, wait, cutShort, decidedByCheck, afterHeader, behind, look}
 use Rattle.reading.specs.Moves.{isPass}
 use Rattle.line.specs.Inner.{decidedAt}
-use Rattle.line.proofs.Truths.{never}
+use Rattle.wire.proofs.Truths.{never}
 
 -- while fewer than w bytes are held, with these in front, the front waits
 unfoldable pub Blind : Rules → List ℕ → ℕ → Type 0

@@ -26,7 +26,7 @@ use Rattle.line.specs.Methods.{isAnswer, takes, busy, givenByte, gave, p
 use Rattle.line.proofs.Padding.{take-padded}
 use Rattle.line.proofs.Blindness.{Blind, blind-whole}
 use Rattle.line.proofs.Settling.{left-stands}
-use Rattle.line.proofs.Truths.{and-left, and-right}
+use Rattle.wire.proofs.Truths.{and-left, and-right}
 
 -- the loop's test
 module _ (i m : ℕ) (t : Bool) (goes : (ltb i m && t) ≡ true) where

@@ -21,7 +21,7 @@ use Rattle.line.specs.declared.Reader.{Reader}
 use Rattle.line.specs.declared.Answer.the-variants.{Done, Waits}
 use Rattle.line.specs.State.{rulesFor, padded, readerOf, settledReader, noReader}
 use Rattle.line.specs.Methods.{isAnswer, takes, busy, gives, givenByte, givenMark}
-use Rattle.line.proofs.Truths.{and-left}
+use Rattle.wire.proofs.Truths.{and-left}
 
 -- an input that is taken finds room
 module _ (n : ℕ) (head : Look) (r : Bool) (is : r ≡ takes n head) (free : r ≡ true) where

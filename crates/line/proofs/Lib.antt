@@ -1,4 +1,3 @@
-pub mod Truths
 pub mod Padding
 pub mod Fronts
 pub mod Settling

@@ -23,7 +23,7 @@ use Rattle.line.specs.declared.Gave.{Gave}
 use Rattle.line.specs.Inner.{opened, noiseLength}
 use Rattle.line.specs.State.{rulesFor, padded, settledReader}
 use Rattle.line.specs.Methods.{takes, givenByte, gave, plus, givenBytes}
-use Rattle.line.proofs.Truths.{and-left, and-right}
+use Rattle.wire.proofs.Truths.{and-left, and-right}
 use Rattle.line.proofs.Feeding.{more-left, taking, plus-plus, given-is, head-free}
 
 settled-passed : (line : Line) (b : ℕ) → eqb b (line .header .h1) ≡ false → settled (rulesFor line) false (b ∷ []) ≡ record { closed = false; bytes = [] }

@@ -19,19 +19,12 @@ ghost use Rattle.line.specs.Front.{reportSaid, frontSaid};
 ghost use Rattle.line.specs.Inner.{askedWith, answerWithReport};
 ghost use Rattle.line.specs.Methods.{bodyLength, span, told, asked};
 
-// How much a is above b.
-fn above(a: usize, b: usize) -> usize
-    ensures { λ r. ⌜ r ≡ a - b ⌝ }
-{
-    if a < b { 0 } else { a - b }
-}
-
 // The report on a frame, by what stands there and its L bytes.
 fn report_on(checking: bool, look: Look, body: &[u8]) -> Report
     ensures { λ r. ⌜ r ≡ told checking look (now (body .entry)) ⌝ }
 {
     let command = wire::byte_at(body, 0);
-    let len = above(body.len(), 1 + frame::check_length(checking));
+    let len = wire::above(body.len(), 1 + frame::check_length(checking));
     match look {
         Look::Pass => Report::Nothing,
         Look::Wait => Report::Nothing,
@@ -71,7 +64,7 @@ fn put_payload(reader: Reader, out: &mut [u8])
     let head = reader.head;
     let from = line.header.length() + 1;
     let l = head::body_length(head);
-    let end = above(l, frame::check_length(line.checking));
+    let end = wire::above(l, frame::check_length(line.checking));
     if end < 5 {
         let held = reader.held;
         put_short(&held[from..from + l], end, out);

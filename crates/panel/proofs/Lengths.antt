@@ -37,6 +37,7 @@ use Rattle.panel.specs.State.{headerOf, fixedFor, answering, padOf}
 use Rattle.panel.specs.Reporting.{acknowledged, accepting, handingOver, handing, reporting}
 use Rattle.panel.specs.Contacts.{Contact, contacting}
 use Rattle.panel.proofs.Ways.{contact-ways, report-ways}
+use Rattle.wire.proofs.Truths.{and-right}
 use Rattle.line.specs.Methods.{asked}
 
 -- a run that is laid where it fits
@@ -44,13 +45,6 @@ laid-long : (run room : List ℕ) (may : Bool) → (may ≡ true → length run 
 unfolding laid
 laid-long run room true fits = length-over run room (fits refl)
 laid-long run room false fits = refl
-
-and-right : (a b : Bool) → (a && b) ≡ true → b ≡ true
-and-right true b is = is
-and-right false b is = false-is-not is
-  where
-    false-is-not : false ≡ true → b ≡ true
-    false-is-not z = absurd (let n : _≡_ {A = ℕ} 0 1 = cc in omega arith)
 
 frame-long : (checking : Bool) (header : List ℕ) (command : ℕ) (payload room : List ℕ) → length (frameLaid checking header command payload room .room) ≡ length room
 unfolding frameLaid

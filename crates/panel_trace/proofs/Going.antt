@@ -13,7 +13,7 @@ use Rattle.wire.specs.Bytes.{Bytes}
 use Rattle.wire.specs.Room.{over}
 use Rattle.wire.proofs.Parts.{part-whole, part-end}
 use Rattle.reading.proofs.ByteLists.{bytes-drop}
-use Rattle.line.proofs.Truths.{never, and-left, and-right}
+use Rattle.wire.proofs.Truths.{never, and-left, and-right}
 use Rattle.telling.specs.Memory.{remembering}
 use Rattle.telling.specs.Told.{leastText}
 use Rattle.trace.specs.declared.Stepped.{Stepped}

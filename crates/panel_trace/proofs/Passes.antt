@@ -11,10 +11,11 @@ use lib.ListN.{length, take, drop, replicate, length-drop, drop-of-length-le}
 use lib.Seq.{drop-drop}
 use Rattle.wire.specs.Addresses.{wordCount}
 use Rattle.wire.proofs.Parts.{part-whole}
-use Rattle.line.proofs.Truths.{never, and-right}
+use Rattle.wire.proofs.Truths.{never, and-right}
 use Rattle.telling.specs.Memory.{remembering, newMemory}
 use Rattle.trace.specs.declared.Trace.{Trace}
-use Rattle.trace.specs.State.{Held, holds, newTrace, tableBytes, waits}
+use Rattle.items.specs.Records.{tableBytes}
+use Rattle.trace.specs.State.{Held, holds, newTrace, waits}
 use Rattle.trace.specs.Output.{newHeld, traceOutput}
 use Rattle.printing.proofs.HeldSound.{HeldSound, new-quiet, new-held-sound}
 use Rattle.printing.proofs.Outputs.{outputFrom, quiet-output}

@@ -12,7 +12,9 @@ use Rattle.wire.proofs.Over.{take-over}
 use Rattle.telling.specs.Told.{leastText}
 use Rattle.trace.specs.declared.Ended.{Ended}
 use Rattle.trace.specs.declared.Trace.{Trace}
-use Rattle.trace.specs.State.{Held, isOver, tableBytes}
+use Rattle.items.specs.Stages.{isOver}
+use Rattle.items.specs.Records.{tableBytes}
+use Rattle.trace.specs.State.{Held}
 use Rattle.trace.specs.Output.{endText, Ending, ends, ending, traceOutput}
 use Rattle.printing.proofs.ByTest.{by-test}
 use Rattle.printing.proofs.HeldSound.{HeldSound}

@@ -4,8 +4,8 @@ use mathlib.Core.Bool.{true, false}
 use mathlib.Core.List.{List, [], _∷_}
 use Prim.Native.Nat.{ℕ}
 use native.Mathlib.Omega.{arith}
-use Rattle.trace.specs.State.{newTrace, isStarted, isOver, waits}
-use Rattle.trace.specs.Items.{mayCome}
+use Rattle.items.specs.Stages.{isStarted, isOver, mayCome}
+use Rattle.trace.specs.State.{newTrace, waits}
 use Rattle.trace.specs.Lines.{wrongText}
 use Rattle.trace.specs.Events.{tookByte}
 use Rattle.trace.specs.Output.{newHeld, traceOutput}

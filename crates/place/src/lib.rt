@@ -29,13 +29,6 @@ pub struct Stop {
     pub look: Look,
 }
 
-// How much a is above b.
-fn above(a: usize, b: usize) -> usize
-    ensures { λ r. ⌜ r ≡ a - b ⌝ }
-{
-    if a < b { 0 } else { a - b }
-}
-
 // A place whose frame the stretch's end cuts off.
 fn cut_short(closed: bool) -> Look
     ensures { λ r. ⌜ r ≡ shown (cutShort closed) ⌝ }
@@ -48,7 +41,7 @@ fn right_check(checking: bool, body: &[u8]) -> bool
     ensures { λ r. ⌜ r ≡ rightCheck checking (now (body .entry)) ⌝ }
 {
     if checking {
-        let n = above(body.len(), 2);
+        let n = wire::above(body.len(), 2);
         let value = check_value::check_value(&body[..n]);
         let low = wire::byte_at(body, n);
         let high = wire::byte_at(body, n + 1);

@@ -16,13 +16,14 @@ use Rattle.line.specs.declared.Asked.{Asked}
 use Rattle.line.specs.State.{rulesFor, readerOf}
 use Rattle.line.specs.Methods.{busy, asked}
 use Rattle.line.proofs.Carried.{waiting-is, ask-carried}
-use Rattle.line.proofs.Truths.{and-right}
+use Rattle.wire.proofs.Truths.{and-right}
 use Rattle.panel.specs.declared.Panel.{Panel}
 use Rattle.panel.specs.Reporting.{enough as lengths-lent, wellLent, handing, reporting}
 use Rattle.panel.specs.Sound.{lineOf, Sound}
 use Rattle.telling.specs.Memory.{Memory, lentFrom, Whole}
 use Rattle.telling.specs.Events.{replyRoom, askedOnce}
-use Rattle.trace.specs.State.{Held, Shown, shows, following, waits, isStarted}
+use Rattle.items.specs.Stages.{isStarted}
+use Rattle.trace.specs.State.{Held, Shown, shows, following, waits}
 use Rattle.trace.specs.Events.{reportShown}
 use Rattle.trace.specs.Output.{allReports}
 use Rattle.printing.proofs.ByTest.{by-test}

@@ -34,9 +34,11 @@ use Rattle.text.specs.Text.{hexDigit, hexByte, decimal, spaced, lined, lineText
 use Rattle.telling.specs.Memory.{newMemory}
 use Rattle.telling.specs.Lines.{framesText, reportText}
 use Rattle.telling.specs.Events.{touchText, contactTold, liftTold, event, replyRoom, askedOnce}
-use Rattle.trace.specs.State.{noItem, tableOf, newTrace, isStarted, isOver}
-use Rattle.trace.specs.Items.{bodyLength, mayCome, setupIn, recordPut, recordCounted}
-use Rattle.trace.specs.Events.{startedBy, eventAnswered, eventDone, itemDone, grown, tookByte}
+use Rattle.items.specs.Items.{noItem, bodyLength, setupIn}
+use Rattle.items.specs.Stages.{isStarted, isOver, mayCome}
+use Rattle.items.specs.Records.{tableOf, recordCounted}
+use Rattle.trace.specs.State.{newTrace}
+use Rattle.trace.specs.Events.{recordPut, startedBy, eventAnswered, eventDone, itemDone, grown, tookByte}
 use Rattle.trace.specs.Output.{allReports, endAnswered, endStarted, endAt, endText, inputText, newHeld, traceOutput}
 
 -- "Input: 00 5A A5 01 00 02 03 20 01 E0"

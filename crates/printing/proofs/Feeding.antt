@@ -13,10 +13,12 @@ use Rattle.wire.specs.Bytes.{Bytes}
 use Rattle.wire.specs.Addresses.{wordCount}
 use Rattle.wire.proofs.Over.{take-over}
 use Rattle.reading.proofs.ByteLists.{bytes-nil, bytes-cons, bytes-append, bytes-drop}
-use Rattle.line.proofs.Truths.{never, or-left, or-right}
+use Rattle.wire.proofs.Truths.{never, or-left, or-right}
 use Rattle.telling.specs.Told.{leastText}
 use Rattle.trace.specs.declared.Answer.the-variants.{Done}
-use Rattle.trace.specs.State.{Held, newTrace, isStarted, tableBytes, waits, lentTo, isLent}
+use Rattle.items.specs.Stages.{isStarted}
+use Rattle.items.specs.Records.{tableBytes}
+use Rattle.trace.specs.State.{Held, newTrace, waits, lentTo, isLent}
 use Rattle.trace.specs.Steps.{step, Stepping, stepping}
 use Rattle.trace.specs.Output.{endText, Ending, ending, newHeld, traceOutput}
 use Rattle.printing.specs.Feeding.{stepCalled, heldAfter, endCalled, Fed, by-step, by-end, by-stop, Caller, calls, callsEach}

@@ -12,7 +12,7 @@ use Rattle.wire.specs.ByteOrder.{byteAt, wordAt}
 use Rattle.wire.specs.Addresses.{wordCount}
 use Rattle.wire.proofs.LaidAt.{length-laidAt}
 use Rattle.line.specs.Methods.{busy}
-use Rattle.line.proofs.Truths.{never, and-left}
+use Rattle.wire.proofs.Truths.{never, and-left}
 use Rattle.touch.specs.Table.{recordBytes}
 use Rattle.panel.specs.declared.Panel.{Panel}
 use Rattle.panel.specs.declared.Start.{Start}
@@ -24,11 +24,13 @@ use Rattle.panel.proofs.Soundness.{byte-sound, mark-sound, bytes-sound, report-
 use Rattle.panel.proofs.Invariant.{started-sound}
 use Rattle.telling.specs.Memory.{Memory, newMemory, Whole, lentFrom}
 use Rattle.telling.specs.Told.{Told, tells}
-use Rattle.telling.specs.Events.{contactTold, liftTold, event, itemBytes, replyRoom, askedOnce}
+use Rattle.items.specs.Items.{itemBytes, noItem, bodyLength}
+use Rattle.items.specs.Stages.{isStarted, isOver, mayCome}
+use Rattle.items.specs.Records.{keptRecords, tableBytes}
+use Rattle.telling.specs.Events.{contactTold, liftTold, event, replyRoom, askedOnce}
 use Rattle.trace.specs.declared.Trace.{Trace}
-use Rattle.trace.specs.State.{Held, Shown, showsTold, withTrace, metTable, noItem, keptRecords, tableBytes, newTrace, idle, withPanel, stopped, waits, isStarted, isOver}
-use Rattle.trace.specs.Items.{bodyLength, mayCome, recordPut}
-use Rattle.trace.specs.Events.{startedBy, eventAnswered, eventDone, itemDone, grown, tookByte, reportShown}
+use Rattle.trace.specs.State.{Held, Shown, showsTold, withTrace, metTable, newTrace, idle, withPanel, stopped, waits}
+use Rattle.trace.specs.Events.{recordPut, startedBy, eventAnswered, eventDone, itemDone, grown, tookByte, reportShown}
 use Rattle.trace.specs.Output.{newHeld}
 use Rattle.printing.proofs.ByTest.{by-test}
 use Rattle.panel.specs.Contacts.{Contact, contactAt}

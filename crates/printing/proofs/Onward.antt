@@ -12,15 +12,18 @@ use Rattle.wire.specs.Bytes.{Bytes}
 use Rattle.frame.specs.Frame.{longestFrame}
 use Rattle.reading.proofs.ByteLists.{bytes-nil, bytes-cons}
 use Rattle.line.specs.Methods.{busy, givenBytes}
-use Rattle.line.proofs.Truths.{never, and-left, and-right}
+use Rattle.wire.proofs.Truths.{never, and-left, and-right}
 use Rattle.panel.specs.declared.Panel.{Panel}
 use Rattle.panel.specs.Inputs.{fedByte, fedBytes}
 use Rattle.telling.specs.Memory.{Memory}
-use Rattle.trace.specs.declared.Stage.{Stage}
-use Rattle.trace.specs.declared.Stage.the-variants.{Bare, Ready, Started, Over}
+use Rattle.items.specs.declared.Stage.{Stage}
+use Rattle.items.specs.declared.Stage.the-variants.{Bare, Ready, Started, Over}
 use Rattle.trace.specs.declared.Trace.{Trace}
-use Rattle.trace.specs.State.{Held, holds, shows, noItem, withPanel, withTrace, waits, isStarted}
-use Rattle.trace.specs.Steps.{lineRun, Step, takes, ranBytes, tookOne, longestRun, tookLines, tookInput, step}
+use Rattle.items.specs.Items.{noItem}
+use Rattle.items.specs.Stages.{isStarted}
+use Rattle.items.specs.Runs.{lineRun}
+use Rattle.trace.specs.State.{Held, holds, shows, withPanel, withTrace, waits}
+use Rattle.trace.specs.Steps.{Step, takes, ranBytes, tookOne, longestRun, tookLines, tookInput, step}
 use Rattle.printing.specs.Feeding.{callsEach}
 use Rattle.printing.proofs.ByTest.{by-test}
 use Rattle.printing.proofs.HeldSound.{HeldSound, byte-held-sound, report-held-sound, run-held-sound}

@@ -9,20 +9,21 @@ use lib.Dec.{eqb}
 use lib.ListN.{drop, set}
 use Rattle.frame.specs.Frame.{longestFrame}
 use Rattle.line.specs.Methods.{busy, givenBytes}
-use Rattle.line.proofs.Truths.{never}
+use Rattle.wire.proofs.Truths.{never}
 use Rattle.touch.specs.declared.Setup.{Setup}
 use Rattle.panel.specs.declared.Panel.{Panel}
 use Rattle.panel.specs.declared.FedBytes.{FedBytes}
 use Rattle.panel.specs.Inputs.{fedByte, fedBytes}
 use Rattle.telling.specs.Events.{event}
 use Rattle.telling.specs.Memory.{Memory}
-use Rattle.trace.specs.declared.Stage.{Stage}
-use Rattle.trace.specs.declared.Stage.the-variants.{Bare, Ready, Started, Over}
+use Rattle.items.specs.declared.Stage.{Stage}
+use Rattle.items.specs.declared.Stage.the-variants.{Bare, Ready, Started, Over}
 use Rattle.trace.specs.declared.Trace.{Trace}
-use Rattle.trace.specs.State.{Held, holds, Shown, shows, noItem, gathering, waits, isStarted, isOver}
-use Rattle.trace.specs.Items.{bodyLength, mayCome}
+use Rattle.items.specs.Items.{noItem, bodyLength}
+use Rattle.items.specs.Stages.{isStarted, isOver, mayCome}
+use Rattle.items.specs.Runs.{lineRun}
+use Rattle.trace.specs.State.{Held, holds, Shown, shows, gathering, waits}
 use Rattle.trace.specs.Events.{startedBy, eventAnswered, eventDone, itemDone, grown, tookByte, reportShown}
-use Rattle.trace.specs.Steps.{lineRun}
 use Rattle.trace.specs.Output.{allReports, endAt, endText, inputText}
 use Rattle.printing.proofs.HeldSound.{HeldSound}
 use Rattle.printing.proofs.AllReports.{none-reported, first-reported}

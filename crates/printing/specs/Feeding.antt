@@ -8,7 +8,8 @@ use lib.ListN.{length, take, drop}
 use Rattle.frame.specs.Frame.{longestFrame}
 use Rattle.telling.specs.Told.{leastText}
 use Rattle.trace.specs.declared.Answer.the-variants.{Done}
-use Rattle.trace.specs.State.{Held, holds, waits, isOver}
+use Rattle.items.specs.Stages.{isOver}
+use Rattle.trace.specs.State.{Held, holds, waits}
 use Rattle.trace.specs.Steps.{Stepping, stepping}
 use Rattle.trace.specs.Output.{Ending, ending}
 

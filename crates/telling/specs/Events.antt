@@ -1,12 +1,11 @@
 -- 01, "The trace program": what an event of a panel does and prints, and a report that is asked for.
-use Prim.Native.Nat.{ℕ, _+_}
+use Prim.Native.Nat.{ℕ}
 use mathlib.Core.Bool.{cond}
 use mathlib.Core.List.{List, []}
 use lib.Dec.{eqb}
 use lib.ListN.{replicate}
 use Rattle.wire.specs.ByteOrder.{byteAt, wordAt}
 use Rattle.frame.specs.Writer.{leastRoom}
-use Rattle.touch.specs.Table.{recordBytes}
 use Rattle.panel.specs.declared.Panel.{Panel}
 use Rattle.panel.specs.Numbers.{contactNumber, liftNumber}
 use Rattle.panel.specs.Inputs.{fedByte, fedMark}
@@ -31,10 +30,6 @@ contactTold panel c memory =
 -- "`T r` contact or lift": a lift and its line
 unfoldable pub liftTold : Panel → Memory → Told
 liftTold panel memory = tells (lifting panel .panel) memory (touchText (liftNumber (lifting panel .answer)))
-
--- "one byte of kind, then a body whose length the kind fixes": the longest such item is a touch record's
-abbrev pub itemBytes : ℕ
-itemBytes = recordBytes + 1
 
 -- "01 a line byte; 02 quiet, none; 03 contact X Y, 4; 04 lift, none"
 unfoldable pub event : Panel → List ℕ → Memory → List ℕ → Told

@@ -11,10 +11,10 @@ ghost use Rattle.telling.specs.Inner.{prints};
 ghost use Rattle.telling.specs.Told.{leavesPanel, panelPrinting, leastText};
 ghost use Rattle.telling.specs.Events.{touchText, contactTold, event};
 ghost use Rattle.telling.specs.Memory.{remembering};
-use crate::ITEM_BYTES;
 use crate::PanelPrinted;
 use crate::lines;
 use crate::numbers;
+use items::ITEM_BYTES;
 use panel::Panel;
 use text::Line;
 

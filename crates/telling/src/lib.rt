@@ -3,8 +3,8 @@ ghost use mathlib.Core.Path.{_≡_};
 ghost use Rattle.telling.specs.Told.{leavesPanel, printedIn};
 ghost use Rattle.telling.specs.Events.{event, askedOnce};
 ghost use Rattle.telling.specs.Memory.{remembering};
+use items::ITEM_BYTES;
 use panel::Panel;
-use touch::RECORD_BYTES;
 
 mod events;
 mod lines;
@@ -13,9 +13,6 @@ mod reports;
 
 // Room for the lines of any report; `leastText` in specs/.
 pub const LEAST_TEXT: usize = 1024;
-
-// The longest item of a trace, its kind and a touch record behind it; `itemBytes` in specs/.
-pub const ITEM_BYTES: usize = RECORD_BYTES + 1;
 
 // The panel as it goes on, and how many bytes of text were written.
 pub struct PanelPrinted {

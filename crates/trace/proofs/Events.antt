@@ -7,7 +7,7 @@ use native.Mathlib.Nat.{min-le-left}
 use native.Mathlib.Omega.{arith}
 use lib.ListN.{length, take, length-take}
 use Rattle.wire.specs.Room.{over, Laid, lays}
-use Rattle.line.proofs.Truths.{never}
+use Rattle.wire.proofs.Truths.{never}
 use Rattle.touch.specs.declared.Setup.{Setup}
 use Rattle.touch.specs.declared.Verdict.{Verdict}
 use Rattle.touch.specs.declared.Verdict.the-variants.{Good, NotRecords, Wrong}
@@ -32,7 +32,9 @@ use Rattle.telling.proofs.Telling.{printed-in}
 use Rattle.trace.specs.declared.Trace.{Trace}
 use Rattle.trace.specs.declared.TracePrinted.{TracePrinted}
 use Rattle.trace.specs.Inner.{bytePrinting, leavesByte, eventPrinting, leavesEvent, EventLeft, isBegun, named, lastLine, afterTold}
-use Rattle.trace.specs.State.{Held, Shown, keptRecords, tableOf, metTable, isStarted, stopped, tableBytes, holds, showsTold, fails}
+use Rattle.items.specs.Stages.{isStarted}
+use Rattle.items.specs.Records.{keptRecords, tableOf, tableBytes}
+use Rattle.trace.specs.State.{Held, Shown, metTable, stopped, holds, showsTold, fails}
 use Rattle.trace.specs.Lines.{refusalText}
 use Rattle.trace.specs.Events.{startedBy, eventAnswered, eventDone}
 use Rattle.trace.proofs.Items.{table-part}

@@ -13,7 +13,8 @@ use Rattle.trace.specs.declared.Trace.{Trace}
 use Rattle.trace.specs.declared.Stepped.{Stepped}
 use Rattle.trace.specs.declared.Ended.{Ended}
 use Rattle.trace.specs.declared.Answer.the-variants.{Done, NotLent}
-use Rattle.trace.specs.State.{Held, tableBytes, isLent}
+use Rattle.items.specs.Records.{tableBytes}
+use Rattle.trace.specs.State.{Held, isLent}
 use Rattle.trace.specs.Steps.{numberOfStep, stepSaid, saidOfStep, Step, step, Stepping, steps, stepDone, stepping}
 use Rattle.trace.specs.Output.{endText, Ending, ends, ending, endSaid, saidOfEnd}
 

@@ -1,6 +1,6 @@
--- Laws of the steps that take input or hand over a report: one for each way the code answers.
+-- Laws of a step: what it finds at the front of the input, and what that leaves.
 use mathlib.Core.Path.{_≡_, refl, sym, ap, _∙_}
-use mathlib.Core.Bool.{Bool, true, false, _&&_}
+use mathlib.Core.Bool.{Bool, true, false, cond, _&&_}
 use mathlib.Core.List.{List, [], _∷_}
 use Prim.Native.Nat.{ℕ, _-_, _≤_}
 use native.Mathlib.Nat.{sub-zero}
@@ -10,9 +10,10 @@ use lib.Dec.{eqb, leb}
 use lib.ListN.{length, take, getD}
 use lib.Seq.{length-take-le}
 use Rattle.wire.specs.Addresses.{wordCount}
+use Rattle.wire.specs.Room.{lays}
 use Rattle.wire.proofs.Over.{over-nil}
 use Rattle.line.specs.Methods.{busy}
-use Rattle.line.proofs.Truths.{and-left, and-right}
+use Rattle.wire.proofs.Truths.{and-left, and-right}
 use Rattle.telling.specs.Memory.{Memory}
 use Rattle.telling.specs.Told.{leastText}
 use Rattle.telling.specs.Events.{askedOnce}
@@ -20,29 +21,20 @@ use Rattle.trace.specs.declared.Trace.{Trace}
 use Rattle.trace.specs.declared.TracePrinted.{TracePrinted}
 use Rattle.trace.specs.declared.Took.{Took}
 use Rattle.trace.specs.declared.Answer.the-variants.{Done, NotLent}
-use Rattle.trace.specs.Inner.{stepPrinting, leavesStep, StepLeft, bytePrinting, leavesByte, ByteLeft, eventPrinting, leavesEvent, EventLeft, takingSo, goesInRuns}
-use Rattle.trace.specs.State.{waits, isStarted, tableBytes, lentTo, isLent, holds}
+use Rattle.trace.specs.declared.AtFront.{AtFront}
+use Rattle.trace.specs.declared.AtFront.the-variants.{Waits, Ran, First}
+use Rattle.trace.specs.declared.Found.{Found}
+use Rattle.trace.specs.Inner.{stepPrinting, leavesStep, StepLeft, bytePrinting, leavesByte, ByteLeft, eventPrinting, leavesEvent, EventLeft, takingSo}
+use Rattle.trace.specs.Inner.{goesInRuns, finds, ranFound, firstByte, firstLines, found, frontStep, foundStep}
+use Rattle.items.specs.Stages.{isStarted}
+use Rattle.items.specs.Records.{tableBytes}
+use Rattle.items.specs.Runs.{lineRun, gathered}
+use Rattle.items.proofs.Gathering.{gathered-run, gathered-long}
+use Rattle.trace.specs.State.{waits, lentTo, isLent, holds}
 use Rattle.trace.specs.Events.{tookByte}
-use Rattle.trace.specs.Steps.{lineRun, longestRun, ranBytes, tookOne, tookLines, tookInput, step, steps, stepping}
+use Rattle.trace.specs.Steps.{Step, longestRun, ranBytes, tookOne, tookLines, tookInput, step, steps, stepping}
 
--- ---- One byte of the input
-
-module _ (trace : Trace) (table : List ℕ) (memory : Memory) (room : List ℕ) where
-  pub no-input : (input : List ℕ) → length input ≡ 0
-      → leavesStep (record { trace = trace; used = 0; count = 0 }) table memory room ≡ stepPrinting (tookOne (holds trace table memory) input) room
-  unfolding tookOne
-  no-input [] is = ap (λ (l : List ℕ). leavesStep (record { trace = trace; used = 0; count = 0 }) table memory l) (sym (over-nil room))
-  no-input (b ∷ input) is = absurd (omega arith)
-
-  pub one-byte : (input : List ℕ) (done : TracePrinted) (table′ : List ℕ) (memory′ : Memory) (left : List ℕ) (took : Took) → (length input ≡ 0 → ⊥)
-      → leavesByte done table′ memory′ left ≡ bytePrinting (tookByte (holds trace table memory) (getD input 0 0)) room → took ≡ takingSo done 1
-      → leavesStep took table′ memory′ left ≡ stepPrinting (tookOne (holds trace table memory) input) room
-  unfolding tookOne
-  one-byte [] done table′ memory′ left took some e so = absurd (some refl)
-  one-byte (b ∷ input) done table′ memory′ left took some e so =
-      ap (λ (t : Took). leavesStep t table′ memory′ left) so ∙ ap (λ (l : ByteLeft). leavesStep (takingSo (l .printed) 1) (l .table) (l .memory) (l .room)) e
-
--- ---- A step
+-- ---- What stands at the front of the input
 
 module _ (trace : Trace) (w : Bool) (is-w : w ≡ busy (trace .panel .reader)) where
   pub waits-once-started : (b : Bool) → w ≡ true → b ≡ isStarted (trace .stage) → b ≡ waits trace
@@ -59,68 +51,115 @@ module _ (trace : Trace) (w : Bool) (is-w : w ≡ busy (trace .panel .reader)) w
       go true c so = so
       go false c so = refl
 
-module _ (trace : Trace) (table : List ℕ) (memory : Memory) (room input run : List ℕ) (n : ℕ) (is-run : take n run ≡ lineRun longestRun input) where
-  pub no-lines : (took : Took) (table′ : List ℕ) (memory′ : Memory) (left : List ℕ) → n ≡ 0
-      → leavesStep took table′ memory′ left ≡ stepPrinting (tookOne (holds trace table memory) input) room
-      → leavesStep took table′ memory′ left ≡ stepPrinting (tookLines (holds trace table memory) input) room
-  unfolding tookLines
-  no-lines took table′ memory′ left is e =
-      let none : eqb (length (lineRun longestRun input)) 0 ≡ true = ap (λ (l : List ℕ). eqb (length l) 0) (sym is-run ∙ ap (λ (k : ℕ). take k run) is) in
-      rw none e
+module _ (trace : Trace) where
+  pub no-input : (input : List ℕ) (f : Found) → length input ≡ 0 → f ≡ ranFound 0 trace → f ≡ firstByte trace input
+  unfolding firstByte
+  no-input [] f is is-f = is-f
+  no-input (b ∷ input) f is is-f = absurd (omega arith)
 
-  pub some-lines : (took : Took) → (n ≡ 0 → ⊥) → n ≤ longestRun → length run ≡ longestRun → took ≡ ranBytes trace (take (n - 0) run)
-      → leavesStep took table memory room ≡ stepPrinting (tookLines (holds trace table memory) input) room
-  unfolding tookLines ranBytes
-  some-lines took some few long is-took =
-      let long-run : length (lineRun longestRun input) ≡ n = ap length (sym is-run) ∙ length-take-le n run (omega arith) in
-      let some-run : eqb (length (lineRun longestRun input)) 0 ≡ false = ne-eqb (length (lineRun longestRun input)) 0 (λ z. some (sym long-run ∙ z)) in
-      let same : took ≡ ranBytes trace (lineRun longestRun input) = is-took ∙ ap (λ (k : ℕ). ranBytes trace (take k run)) (sub-zero n) ∙ ap (ranBytes trace) is-run in
-      rw some-run
-      (ap (λ (t : Took). leavesStep t table memory room) same
-      ∙ ap (λ (l : List ℕ). leavesStep (ranBytes trace (lineRun longestRun input)) table memory l) (sym (over-nil room)))
+  pub one-byte : (input : List ℕ) → (length input ≡ 0 → ⊥) → finds First 0 (getD input 0 0) trace ≡ firstByte trace input
+  unfolding firstByte
+  one-byte [] some = absurd (some refl)
+  one-byte (b ∷ input) some = refl
+
+module _ (trace : Trace) (input empty run : List ℕ) (n : ℕ) (is : lays n run ≡ gathered input empty) (long : length empty ≡ longestRun) where
+  is-run : take n run ≡ lineRun longestRun input
+  is-run = gathered-run input empty run n longestRun is long
+
+  module _ (f : Found) where
+    pub no-lines : n ≡ 0 → f ≡ firstByte trace input → f ≡ firstLines trace input
+    unfolding firstLines
+    no-lines none is-f =
+        let no-run : eqb (length (lineRun longestRun input)) 0 ≡ true = ap (λ (l : List ℕ). eqb (length l) 0) (sym is-run ∙ ap (λ (k : ℕ). take k run) none) in
+        rw no-run is-f
+
+    pub some-lines : (took : Took) → (n ≡ 0 → ⊥) → n ≤ length empty → took ≡ ranBytes trace (take (n - 0) run)
+        → f ≡ ranFound (took .used) (took .trace) → f ≡ firstLines trace input
+    unfolding firstLines
+    some-lines took some few is-took is-f =
+        let long-run : length (lineRun longestRun input) ≡ n = ap length (sym is-run) ∙ length-take-le n run (omega (arith, few, gathered-long input empty run n is few)) in
+        let some-run : eqb (length (lineRun longestRun input)) 0 ≡ false = ne-eqb (length (lineRun longestRun input)) 0 (λ z. some (sym long-run ∙ z)) in
+        let same : took ≡ ranBytes trace (lineRun longestRun input) = is-took ∙ ap (λ (k : ℕ). ranBytes trace (take k run)) (sub-zero n) ∙ ap (ranBytes trace) is-run in
+        rw some-run (is-f ∙ ap (λ (t : Took). ranFound (t .used) (t .trace)) same)
 
 pub in-runs : (trace : Trace) (b : Bool) → b ≡ isStarted (trace .stage) → (b && eqb (trace .have) 0) ≡ goesInRuns trace
 in-runs trace b is = ap (λ (c : Bool). c && eqb (trace .have) 0) is
 
-module _ (trace : Trace) (table : List ℕ) (memory : Memory) (room input : List ℕ) (took : Took) (table′ : List ℕ) (memory′ : Memory) (left : List ℕ) (b : Bool) (is-b : b ≡ goesInRuns trace) where
-  pub takes-lines : b ≡ true → leavesStep took table′ memory′ left ≡ stepPrinting (tookLines (holds trace table memory) input) room
-      → leavesStep took table′ memory′ left ≡ stepPrinting (tookInput (holds trace table memory) input) room
-  unfolding tookInput
-  takes-lines is e = rw (sym is-b ∙ is) e
+module _ (trace : Trace) (input : List ℕ) (w : Bool) (is-w : w ≡ waits trace) where
+  pub finds-report : w ≡ true → finds Waits 0 0 trace ≡ found trace input
+  unfolding found
+  finds-report is = rw (sym is-w ∙ is)
 
-  pub takes-one : b ≡ false → leavesStep took table′ memory′ left ≡ stepPrinting (tookOne (holds trace table memory) input) room
-      → leavesStep took table′ memory′ left ≡ stepPrinting (tookInput (holds trace table memory) input) room
-  unfolding tookInput
-  takes-one is e = rw (sym is-b ∙ is) e
+  module _ (none : w ≡ false) (f : Found) (b : Bool) (is-b : b ≡ goesInRuns trace) where
+    pub finds-lines : b ≡ true → f ≡ firstLines trace input → f ≡ found trace input
+    unfolding found
+    finds-lines is e = rw (sym is-w ∙ none, sym is-b ∙ is) e
 
-module _ (trace : Trace) (table : List ℕ) (memory : Memory) (room input : List ℕ) (w : Bool) (is-w : w ≡ waits trace) where
-  pub hands-one : (done : TracePrinted) (memory′ : Memory) (left : List ℕ) (took : Took) → w ≡ true
-      → leavesEvent done memory′ left ≡ eventPrinting trace (askedOnce (trace .panel) memory) room → took ≡ takingSo done 0
-      → leavesStep took table memory′ left ≡ stepPrinting (step (holds trace table memory) input) room
-  unfolding step
-  hands-one done memory′ left took is e so =
-      rw (sym is-w ∙ is)
-      (ap (λ (t : Took). leavesStep t table memory′ left) so ∙ ap (λ (l : EventLeft). leavesStep (takingSo (l .printed) 0) table (l .memory) (l .room)) e)
+    pub finds-byte : b ≡ false → f ≡ firstByte trace input → f ≡ found trace input
+    unfolding found
+    finds-byte is e = rw (sym is-w ∙ none, sym is-b ∙ is) e
 
-  pub takes-input : (took : Took) (table′ : List ℕ) (memory′ : Memory) (left : List ℕ) → w ≡ false
-      → leavesStep took table′ memory′ left ≡ stepPrinting (tookInput (holds trace table memory) input) room
-      → leavesStep took table′ memory′ left ≡ stepPrinting (step (holds trace table memory) input) room
-  unfolding step
-  takes-input took table′ memory′ left is e = rw (sym is-w ∙ is) e
+-- ---- A step
+
+module _ (table : List ℕ) (memory : Memory) where
+  module _ (room : List ℕ) (f : Found) where
+    so : (front : AtFront) → f .front ≡ front
+        → stepPrinting (frontStep table memory front (f .used) (f .first) (f .trace)) room ≡ stepPrinting (foundStep table memory f) room
+    so front is = ap (λ (a : AtFront). stepPrinting (frontStep table memory a (f .used) (f .first) (f .trace)) room) (sym is)
+
+    pub ran-lines : f .front ≡ Ran → leavesStep (record { trace = f .trace; used = f .used; count = 0 }) table memory room ≡ stepPrinting (foundStep table memory f) room
+    unfolding frontStep
+    ran-lines is = ap (λ (l : List ℕ). leavesStep (record { trace = f .trace; used = f .used; count = 0 }) table memory l) (sym (over-nil room)) ∙ so Ran is
+
+    module _ (done : TracePrinted) (memory′ : Memory) (left : List ℕ) (took : Took) where
+      pub hands-one : f .front ≡ Waits → leavesEvent done memory′ left ≡ eventPrinting (f .trace) (askedOnce (f .trace .panel) memory) room → took ≡ takingSo done 0
+          → leavesStep took table memory′ left ≡ stepPrinting (foundStep table memory f) room
+      unfolding frontStep
+      hands-one is e is-took =
+          ap (λ (t : Took). leavesStep t table memory′ left) is-took
+          ∙ ap (λ (l : EventLeft). leavesStep (takingSo (l .printed) 0) table (l .memory) (l .room)) e
+          ∙ so Waits is
+
+      pub takes-byte : (table′ : List ℕ) → f .front ≡ First → leavesByte done table′ memory′ left ≡ bytePrinting (tookByte (holds (f .trace) table memory) (f .first)) room
+          → took ≡ takingSo done 1 → leavesStep took table′ memory′ left ≡ stepPrinting (foundStep table memory f) room
+      unfolding frontStep
+      takes-byte table′ is e is-took =
+          ap (λ (t : Took). leavesStep t table′ memory′ left) is-took
+          ∙ ap (λ (l : ByteLeft). leavesStep (takingSo (l .printed) 1) (l .table) (l .memory) (l .room)) e
+          ∙ so First is
+
+  either : (b : Bool) (f g : Found) (s t : Step) → s ≡ foundStep table memory f → t ≡ foundStep table memory g → cond b s t ≡ foundStep table memory (cond b f g)
+  either true f g s t is-s is-t = is-s
+  either false f g s t is-s is-t = is-t
+
+  module _ (trace : Trace) where
+    one-taken : (input : List ℕ) → tookOne (holds trace table memory) input ≡ foundStep table memory (firstByte trace input)
+    unfolding tookOne firstByte frontStep
+    one-taken [] = refl
+    one-taken (b ∷ input) = refl
+
+    -- what is found and then done is the step
+    step-taken : (input : List ℕ) → step (holds trace table memory) input ≡ foundStep table memory (found trace input)
+    unfolding step tookInput tookLines found firstLines frontStep
+    step-taken input =
+        let lines = either (eqb (length (lineRun longestRun input)) 0) _ _ _ _ (one-taken input) refl in
+        either (waits trace) _ _ _ _ refl (either (goesInRuns trace) _ _ _ _ lines (one-taken input))
 
 pub lent-judged : (table words room : ℕ) → (leb tableBytes table && eqb words wordCount && leb leastText room) ≡ lentTo table words room
 unfolding lentTo
 lent-judged table words room = refl
 
 module _ (trace : Trace) (table : List ℕ) (memory : Memory) (room input : List ℕ) (l : Bool) (is-l : l ≡ isLent (holds trace table memory) room) where
-  pub lent-steps : (took : Took) (table′ : List ℕ) (memory′ : Memory) (left : List ℕ) → l ≡ true
-      → leavesStep took table′ memory′ left ≡ stepPrinting (step (holds trace table memory) input) room
+  pub lent-steps : (f : Found) (took : Took) (table′ : List ℕ) (memory′ : Memory) (left : List ℕ) → l ≡ true → f ≡ found trace input
+      → leavesStep took table′ memory′ left ≡ stepPrinting (foundStep table memory f) room
       → steps (record { answer = Done; used = took .used; count = took .count; trace = took .trace }) table′ memory′ left
       ≡ stepping (holds trace table memory) input room
   unfolding stepping
-  lent-steps took table′ memory′ left is e =
+  lent-steps f took table′ memory′ left is is-f e =
+      let is-step : foundStep table memory f ≡ step (holds trace table memory) input = ap (λ (g : Found). foundStep table memory g) is-f ∙ sym (step-taken table memory trace input) in
       rw (sym is-l ∙ is)
-      (ap (λ (s : StepLeft). steps (record { answer = Done; used = s .took .used; count = s .took .count; trace = s .took .trace }) (s .table) (s .memory) (s .room)) e)
+      (ap (λ (s : StepLeft). steps (record { answer = Done; used = s .took .used; count = s .took .count; trace = s .took .trace }) (s .table) (s .memory) (s .room))
+      (e ∙ ap (λ (s : Step). stepPrinting s room) is-step))
 
   pub not-lent-steps : l ≡ false
       → steps (record { answer = NotLent; used = 0; count = 0; trace = trace }) table memory room ≡ stepping (holds trace table memory) input room

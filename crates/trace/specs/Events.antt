@@ -1,10 +1,12 @@
 -- 01, "The trace program": what an item does that has come whole.
-use Prim.Native.Nat.{ℕ, _+_}
+use Prim.Native.Nat.{ℕ, _+_, _*_}
 use mathlib.Core.Bool.{cond, not, _&&_}
 use mathlib.Core.List.{List, []}
-use lib.Dec.{eqb, leb}
-use lib.ListN.{set}
+use lib.Dec.{eqb, ltb, leb}
+use lib.ListN.{drop, set}
 use Rattle.wire.specs.ByteOrder.{byteAt}
+use Rattle.wire.specs.Room.{laidAt}
+use Rattle.touch.specs.Table.{recordBytes}
 use Rattle.panel.specs.declared.Panel.{Panel}
 use Rattle.panel.specs.declared.Start.{Start}
 use Rattle.panel.specs.declared.StartAnswer.{StartAnswer}
@@ -12,8 +14,10 @@ use Rattle.panel.specs.declared.StartAnswer.the-variants as start
 use Rattle.panel.specs.Start.{started}
 use Rattle.telling.specs.Events.{event, askedOnce}
 use Rattle.trace.specs.declared.Trace.{Trace}
-use Rattle.trace.specs.State.{Held, holds, Shown, shows, metTable, gathering, idle, withSetup, withRecords, withTrace, showsTold, fails, isStarted, isOver}
-use Rattle.trace.specs.Items.{bodyLength, mayCome, setupIn, recordPut, recordCounted}
+use Rattle.items.specs.Items.{bodyLength, setupIn}
+use Rattle.items.specs.Stages.{isStarted, isOver, mayCome}
+use Rattle.items.specs.Records.{keptRecords, recordCounted}
+use Rattle.trace.specs.State.{Held, holds, Shown, shows, metTable, gathering, idle, withSetup, withRecords, withTrace, showsTold, fails}
 use Rattle.trace.specs.Lines.{refusalText, wrongText}
 
 -- "Start is made at the first whole event or, without one, at the end of input"; `part` is the table of the records met
@@ -36,6 +40,10 @@ eventDone held item =
 -- "00 setup": one that has come whole
 abbrev pub metSetup : Held → List ℕ → Held
 metSetup held item = withTrace held (withSetup (held .trace) (setupIn item))
+
+-- the table with one record more, while it is kept
+unfoldable pub recordPut : ℕ → List ℕ → List ℕ → List ℕ
+recordPut records item table = cond (ltb records keptRecords) (laidAt (records * recordBytes) (drop 1 item) table) table
 
 -- "05 touch record": one that has come whole
 abbrev pub metRecord : Held → List ℕ → Held

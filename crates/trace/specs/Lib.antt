@@ -1,5 +1,4 @@
 pub mod State
-pub mod Items
 pub mod Lines
 pub mod Events
 pub mod Steps

@@ -15,13 +15,14 @@ use Rattle.text.specs.declared.Line.the-variants as line
 use Rattle.text.specs.Text.{lineText}
 use Rattle.telling.specs.Memory.{newMemory}
 use Rattle.telling.specs.Told.{leastText}
-use Rattle.trace.specs.declared.Stage.{Stage}
-use Rattle.trace.specs.declared.Stage.the-variants.{Bare, Ready, Started, Over}
+use Rattle.items.specs.declared.Stage.{Stage}
+use Rattle.items.specs.declared.Stage.the-variants.{Bare, Ready, Started, Over}
 use Rattle.trace.specs.declared.Trace.{Trace}
 use Rattle.trace.specs.declared.Ended.{Ended}
 use Rattle.trace.specs.declared.Answer.{Answer}
 use Rattle.trace.specs.declared.Answer.the-variants.{Done, NotLent}
-use Rattle.trace.specs.State.{Held, holds, Shown, shows, following, newTrace, tableBytes, tableOf, waits}
+use Rattle.items.specs.Records.{tableBytes, tableOf}
+use Rattle.trace.specs.State.{Held, holds, Shown, shows, following, newTrace, waits}
 use Rattle.trace.specs.Lines.{refusalText, wrongText}
 use Rattle.trace.specs.Events.{startedBy, tookByte, reportShown}
 use Rattle.trace.specs.Steps.{numberOfStep}

@@ -1,20 +1,20 @@
 -- The trace's own state by value, and what is lent to it.
-use Prim.Native.Nat.{ℕ, _+_, _*_, min}
-use mathlib.Core.Bool.{Bool, true, false, _&&_}
+use Prim.Native.Nat.{ℕ}
+use mathlib.Core.Bool.{Bool, _&&_}
 use mathlib.Core.List.{List, _++_}
 use lib.Dec.{eqb, leb}
-use lib.ListN.{length, take, replicate}
+use lib.ListN.{length}
 use Rattle.wire.specs.Addresses.{wordCount}
 use Rattle.line.specs.Methods.{busy}
 use Rattle.touch.specs.declared.Setup.{Setup}
-use Rattle.touch.specs.Table.{mostRecords, recordBytes}
 use Rattle.panel.specs.declared.Panel.{Panel}
 use Rattle.panel.specs.Start.{noPanel}
-use Rattle.telling.specs.Events.{itemBytes}
+use Rattle.items.specs.Items.{noItem}
+use Rattle.items.specs.Stages.{isStarted}
+use Rattle.items.specs.Records.{tableBytes, tableOf}
 use Rattle.telling.specs.Memory.{Memory}
 use Rattle.telling.specs.Told.{Told, leastText}
-use Rattle.trace.specs.declared.Stage.{Stage}
-use Rattle.trace.specs.declared.Stage.the-variants.{Bare, Ready, Started, Over}
+use Rattle.items.specs.declared.Stage.the-variants.{Bare, Ready, Started, Over}
 use Rattle.trace.specs.declared.Trace.{Trace}
 
 -- what a trace is and what it is lent: the table so far, and the panel's memory
@@ -39,22 +39,6 @@ shows held text = record { held = held; text = text }
 -- more text before
 abbrev pub following : List ℕ → Shown → Shown
 following text shown = shows (shown .held) (text ++ shown .text)
-
--- no item is being gathered
-unfoldable pub noItem : List ℕ
-noItem = replicate itemBytes 0
-
--- "table longer than 128 records": one record more is kept, and that shows it; further ones need not be
-abbrev pub keptRecords : ℕ
-keptRecords = mostRecords + 1
-
--- how long the table is that is lent to a trace
-abbrev pub tableBytes : ℕ
-tableBytes = keptRecords * recordBytes
-
--- the table of so many records
-unfoldable pub tableOf : ℕ → List ℕ → List ℕ
-tableOf records table = take (min records keptRecords * recordBytes) table
 
 -- a trace that has met nothing yet
 unfoldable pub newTrace : Trace
@@ -115,23 +99,9 @@ fails held text = shows (withTrace held (stopped (held .trace))) text
 
 -- ---- What is asked of a trace
 
--- "Start is made": whether it has been
-unfoldable pub isStarted : Stage → Bool
-isStarted Bare = false
-isStarted Ready = false
-isStarted Started = true
-isStarted Over = false
-
 -- "a report waits": there is none before a start, and none after an X
 abbrev pub waits : Trace → Bool
 waits trace = isStarted (trace .stage) && busy (trace .panel .reader)
-
--- "and the program stops": whether it has
-unfoldable pub isOver : Stage → Bool
-isOver Bare = false
-isOver Ready = false
-isOver Started = false
-isOver Over = true
 
 -- the table of the records met so far
 abbrev pub metTable : Held → List ℕ

@@ -1,5 +1,5 @@
 -- What one step of the library does, on every trace: it hands over one report, or takes a run of line bytes, or takes one byte.
-use Prim.Native.Nat.{ℕ, zero, suc, _*_}
+use Prim.Native.Nat.{ℕ, _*_}
 use mathlib.Core.Bool.{cond, not, _&&_}
 use mathlib.Core.List.{List, [], _∷_}
 use lib.Dec.{eqb}
@@ -7,13 +7,15 @@ use lib.ListN.{length}
 use Rattle.wire.specs.Numbers.{Said, says, _when_, firstSaid}
 use Rattle.wire.specs.Room.{over}
 use Rattle.panel.specs.Inputs.{fedBytes}
+use Rattle.items.specs.Runs.{lineRun}
 use Rattle.telling.specs.Memory.{Memory}
 use Rattle.trace.specs.declared.Trace.{Trace}
 use Rattle.trace.specs.declared.Answer.{Answer}
 use Rattle.trace.specs.declared.Answer.the-variants.{Done, NotLent}
 use Rattle.trace.specs.declared.Stepped.{Stepped}
 use Rattle.trace.specs.declared.Took.{Took}
-use Rattle.trace.specs.State.{Held, Shown, shows, withPanel, withTrace, waits, isStarted, isLent}
+use Rattle.items.specs.Stages.{isStarted}
+use Rattle.trace.specs.State.{Held, Shown, shows, withPanel, withTrace, waits, isLent}
 use Rattle.trace.specs.Events.{tookByte, reportShown}
 
 -- "0: done"; "14: words lent aren't 28,672", and the same number where the table or the room for text is too small, of which 01 does not speak
@@ -25,13 +27,6 @@ numberOfStep NotLent = 14
 unfoldable pub stepSaid : Answer → (used count : ℕ) → Said
 stepSaid Done used count = says (numberOfStep Done) (used ∷ count ∷ [])
 stepSaid NotLent used count = says (numberOfStep NotLent) []
-
--- "01 a line byte": the bytes of the whole items of this kind at the front, at most so many
-unfoldable pub lineRun : ℕ → List ℕ → List ℕ
-lineRun zero input = []
-lineRun (suc n) [] = []
-lineRun (suc n) (kind ∷ []) = []
-lineRun (suc n) (kind ∷ b ∷ input) = cond (eqb kind 1) (b ∷ lineRun n input) []
 
 -- how much of the input a step took, and what it shows
 pub record Step : Type 0 where

@@ -6,18 +6,17 @@ ghost use Rattle.telling.specs.Told.{leastText};
 ghost use Rattle.telling.specs.Memory.{remembering};
 ghost use Rattle.telling.specs.Events.{event};
 ghost use Rattle.trace.specs.Inner.{bytePrinting, leavesByte, eventPrinting, leavesEvent, isBegun, afterTold};
-ghost use Rattle.trace.specs.State.{tableBytes, holds};
+ghost use Rattle.items.specs.Records.{tableBytes};
+ghost use Rattle.trace.specs.State.{holds};
 ghost use Rattle.trace.specs.Events.{startedBy, eventDone};
-use crate::Stage;
 use crate::Trace;
 use crate::TracePrinted;
 use crate::lines;
-use crate::records;
-use crate::stages;
+use items::ITEM_BYTES;
+use items::Stage;
 use panel::Panel;
 use panel::Start;
 use panel::StartAnswer;
-use telling::ITEM_BYTES;
 use telling::PanelPrinted;
 
 // The panel with which an event or the end is answered: started now, unless it was.
@@ -25,7 +24,7 @@ pub fn begin(trace: Trace, part: &[u8]) -> Start
     ensures { λ r. ⌜ r ≡ startedBy trace (now (part .entry)) ⌝ }
 {
     let stage = trace.stage;
-    if stages::is_started(stage) {
+    if items::is_started(stage) {
         let panel = trace.panel;
         return Start {
             answer: StartAnswer::Started,
@@ -92,7 +91,7 @@ pub(crate) fn any_event(
     requires { ⌜ (tableBytes ≤ length (now table)) × (leastText ≤ length (now room)) ⌝ }
     ensures { λ r. ⌜ leavesByte r (now (table .entry)) (remembering (now (words .exit))) (now (room .exit)) ≡ bytePrinting (eventDone (holds trace (now (table .entry)) (remembering (now (words .entry)))) item) (now (room .entry)) ⌝ }
 {
-    let part = &table[0..records::table_length(trace)];
+    let part = &table[0..items::table_length(trace.records)];
     let begun = begin(trace, part);
     if has_begun(begun) {
         return started_event(trace, begun, item, part, words, room);

@@ -1,60 +1,13 @@
-// One item of the input: its kind, and the body whose length the kind fixes.
+// The item that a trace gathers, and what comes of one without a word.
 ghost use mathlib.Core.Path.{_≡_};
-ghost use lib.ListN.{set};
-ghost use Rattle.wire.specs.ByteOrder.{byteAt};
-ghost use Rattle.trace.specs.State.{noItem, gathering, withSetup};
-ghost use Rattle.trace.specs.Items.{bodyLength, setupIn};
-ghost use Rattle.trace.specs.Inner.{quietly};
-use crate::Stage;
+ghost use Rattle.items.specs.Items.{setupIn};
+ghost use Rattle.trace.specs.State.{gathering, idle, withSetup};
+ghost use Rattle.trace.specs.Inner.{quietJudged};
+use crate::Comes;
+use crate::Judged;
 use crate::Trace;
-use crate::TracePrinted;
-use telling::ITEM_BYTES;
-use touch::RECORD_BYTES;
-use touch::Setup;
-
-// What is gathered between two items.
-pub fn no_item() -> [u8; ITEM_BYTES]
-    ensures { λ r. ⌜ r ≡ noItem ⌝ }
-{
-    [0u8; ITEM_BYTES]
-}
-
-// The kind of an item. A function of its own, since an array that is indexed among lent slices makes the check long.
-pub fn kind_of(item: [u8; ITEM_BYTES]) -> u8
-    ensures { λ r. ⌜ r ≡ byteAt item 0 ⌝ }
-{
-    item[0]
-}
-
-// How long the body of an item of this kind is.
-pub fn body_length(kind: u8) -> usize
-    ensures { λ r. ⌜ r ≡ bodyLength kind ⌝ }
-{
-    if kind == 0 {
-        return 9;
-    }
-    if kind == 1 {
-        return 1;
-    }
-    if kind == 3 {
-        return 4;
-    }
-    if kind == 5 {
-        return RECORD_BYTES;
-    }
-    0
-}
-
-// An array with one byte set, where it has that place.
-pub fn with_byte(item: [u8; ITEM_BYTES], at: usize, b: u8) -> [u8; ITEM_BYTES]
-    ensures { λ r. ⌜ r ≡ set item at b ⌝ }
-{
-    let mut next = item;
-    if at < ITEM_BYTES {
-        next[at] = b;
-    }
-    next
-}
+use items::ITEM_BYTES;
+use items::Stage;
 
 // The trace with another item, and how many of its bytes have come.
 pub fn gather(trace: Trace, item: [u8; ITEM_BYTES], have: usize) -> Trace
@@ -67,32 +20,34 @@ pub fn gather(trace: Trace, item: [u8; ITEM_BYTES], have: usize) -> Trace
     }
 }
 
-// The setup that an item of kind 00 carries.
-pub fn setup_in(item: &[u8]) -> Setup
-    ensures { λ r. ⌜ r ≡ setupIn (now (item .entry)) ⌝ }
+// The trace between two items.
+pub fn between(trace: Trace) -> Trace
+    ensures { λ r. ⌜ r ≡ idle trace ⌝ }
 {
-    Setup {
-        h1: wire::byte_at(item, 1),
-        h2: wire::byte_at(item, 2),
-        flags: wire::byte_at(item, 3),
-        pages: wire::word_at(item, 4),
-        width: wire::word_at(item, 6),
-        height: wire::word_at(item, 8),
+    gather(trace, items::no_item(), 0)
+}
+
+// A byte that prints nothing.
+pub fn quiet(trace: Trace) -> Judged
+    ensures { λ r. ⌜ r ≡ quietJudged trace ⌝ }
+{
+    let comes = Comes::Quiet;
+    Judged {
+        comes: comes,
+        trace: trace,
+        item: items::no_item(),
     }
 }
 
 // The trace is ready with the setup that a whole item carries.
-pub fn met_setup(trace: Trace, item: [u8; ITEM_BYTES]) -> TracePrinted
-    ensures { λ r. ⌜ r ≡ quietly (withSetup trace (setupIn item)) ⌝ }
+pub fn with_setup(trace: Trace, item: [u8; ITEM_BYTES]) -> Trace
+    ensures { λ r. ⌜ r ≡ withSetup trace (setupIn item) ⌝ }
 {
-    let setup = setup_in(&item);
+    let setup = items::setup_in(&item);
     let stage = Stage::Ready;
-    TracePrinted {
-        trace: Trace {
-            stage: stage,
-            setup: setup,
-            ..trace
-        },
-        count: 0,
+    Trace {
+        stage: stage,
+        setup: setup,
+        ..trace
     }
 }

@@ -5,37 +5,49 @@ ghost use lib.ListN.{length};
 ghost use Rattle.wire.specs.Room.{lays};
 ghost use Rattle.telling.specs.Inner.{prints};
 ghost use Rattle.telling.specs.Told.{leastText};
-ghost use Rattle.trace.specs.Output.{endStarted, endText};
-ghost use Rattle.trace.specs.State.{tableBytes};
-use crate::Stage;
+ghost use Rattle.trace.specs.Inner.{pageOrRefusal, lastOf};
+ghost use Rattle.trace.specs.Output.{endText};
+ghost use Rattle.items.specs.Records.{tableBytes};
+use crate::Closing;
 use crate::Trace;
 use crate::event;
 use crate::lines;
-use crate::records;
+use items::Stage;
 use text::Line;
 
-// Writes the last line of a trace that had a setup: the page, or what the start is refused with.
-fn print_last(trace: Trace, table: &[u8], room: &mut [u8]) -> usize
-    requires { ⌜ (tableBytes ≤ length (now table)) × (leastText ≤ length (now room)) ⌝ }
-    ensures { λ r. ⌜ lays r (now (room .exit)) ≡ prints (endStarted trace (now (table .entry))) (now (room .entry)) ⌝ }
+// The last line of a trace that had a setup: the page, or what the start is refused with.
+fn page_or_refusal(trace: Trace, table: &[u8]) -> Line
+    requires { ⌜ tableBytes ≤ length (now table) ⌝ }
+    ensures { λ r. ⌜ r ≡ pageOrRefusal trace (now (table .entry)) ⌝ }
 {
-    let begun = event::begin(trace, &table[0..records::table_length(trace)]);
-    lines::print_line(lines::last_line(begun), room)
+    lines::last_line(event::begin(trace, &table[0..items::table_length(trace.records)]))
 }
 
-// Writes the last line of any trace; one that has failed has none.
-pub(crate) fn print_end(trace: Trace, table: &[u8], room: &mut [u8]) -> usize
-    requires { ⌜ (tableBytes ≤ length (now table)) × (leastText ≤ length (now room)) ⌝ }
-    ensures { λ r. ⌜ lays r (now (room .exit)) ≡ prints (endText trace (now (table .entry))) (now (room .entry)) ⌝ }
+// The last line of any trace; one that has failed has none.
+fn find(trace: Trace, table: &[u8]) -> Closing
+    requires { ⌜ tableBytes ≤ length (now table) ⌝ }
+    ensures { λ r. ⌜ r ≡ lastOf trace (now (table .entry)) ⌝ }
 {
     if trace.have == 0 {
         let stage = trace.stage;
         return match stage {
-            Stage::Bare => lines::print_line(Line::Failed(15), room),
-            Stage::Ready => print_last(trace, table, room),
-            Stage::Started => print_last(trace, table, room),
-            Stage::Over => 0,
+            Stage::Bare => Closing::Says(Line::Failed(15)),
+            Stage::Ready => Closing::Says(page_or_refusal(trace, table)),
+            Stage::Started => Closing::Says(page_or_refusal(trace, table)),
+            Stage::Over => Closing::Nothing,
         };
     }
-    lines::print_line(Line::Failed(15), room)
+    Closing::Says(Line::Failed(15))
+}
+
+// Writes it.
+pub(crate) fn print_end(trace: Trace, table: &[u8], room: &mut [u8]) -> usize
+    requires { ⌜ (tableBytes ≤ length (now table)) × (leastText ≤ length (now room)) ⌝ }
+    ensures { λ r. ⌜ lays r (now (room .exit)) ≡ prints (endText trace (now (table .entry))) (now (room .entry)) ⌝ }
+{
+    let last = find(trace, table);
+    match last {
+        Closing::Nothing => 0,
+        Closing::Says(line) => text::put_line(line, room),
+    }
 }

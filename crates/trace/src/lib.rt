@@ -1,41 +1,29 @@
 // 01, "The trace program", as a library: a trace is a value that takes the input a piece at a time and writes lines into a lent room.
 ghost use mathlib.Core.Path.{_≡_};
 ghost use Rattle.telling.specs.Memory.{remembering};
-ghost use Rattle.trace.specs.State.{newTrace, waits, isOver, holds};
+ghost use Rattle.items.specs.Stages.{isOver};
+ghost use Rattle.trace.specs.State.{newTrace, waits, holds};
 ghost use Rattle.trace.specs.Steps.{steps, stepping, stepSaid, saidOfStep};
 ghost use Rattle.trace.specs.Output.{ends, ending, endSaid, saidOfEnd};
+use items::ITEM_BYTES;
+use items::Stage;
 use panel::Panel;
-use telling::ITEM_BYTES;
-use touch::MOST_RECORDS;
-use touch::RECORD_BYTES;
+use text::Line;
 use touch::Setup;
 
 mod byte;
 mod event;
+mod front;
 mod item;
 mod last;
 mod lines;
 mod records;
 mod report;
 mod run;
-mod stages;
 mod step;
 
+pub use items::TABLE_BYTES;
 pub use telling::LEAST_TEXT;
-
-// "table longer than 128 records": one record more is kept, and that shows it; `keptRecords` in specs/.
-const KEPT_RECORDS: usize = MOST_RECORDS + 1;
-
-// How many bytes of table must be lent; `tableBytes` in specs/.
-pub const TABLE_BYTES: usize = KEPT_RECORDS * RECORD_BYTES;
-
-// How far the input has come: nothing yet; setup and records; events; after an X.
-pub enum Stage {
-    Bare,
-    Ready,
-    Started,
-    Over,
-}
 
 pub struct Trace {
     stage: Stage,
@@ -80,6 +68,51 @@ struct Took {
     count: usize,
 }
 
+// The types below say what is to be done, which is found before anything lent is touched: a function that hands on what is lent is then short.
+
+// What stands at the front of the input.
+enum AtFront {
+    // A report comes before any input.
+    Waits,
+    // A run of line bytes, which the panel was given; or nothing.
+    Ran,
+    // Any other byte.
+    First,
+}
+
+// How much of the input a run took, the first byte where that is to be taken, and the trace to go on with.
+struct Found {
+    front: AtFront,
+    used: usize,
+    first: u8,
+    trace: Trace,
+}
+
+// What a byte of the input comes to.
+enum Comes {
+    // Nothing is printed.
+    Quiet,
+    // A kind that may not come.
+    Wrong,
+    // A touch record that is whole.
+    Met,
+    // An event that is whole.
+    Happens,
+}
+
+// The trace to go on with, and the item that is whole.
+struct Judged {
+    comes: Comes,
+    trace: Trace,
+    item: [u8; ITEM_BYTES],
+}
+
+// What the end of the input prints.
+enum Closing {
+    Nothing,
+    Says(Line),
+}
+
 impl Trace {
     // A trace that has met nothing.
     pub fn new() -> Trace
@@ -97,7 +130,7 @@ impl Trace {
         let panel = none.panel;
         Trace {
             stage: Stage::Bare,
-            item: item::no_item(),
+            item: items::no_item(),
             have: 0,
             setup: setup,
             records: 0,
@@ -112,7 +145,7 @@ impl Trace {
         let panel = self.panel;
         if panel.is_waiting() {
             let stage = self.stage;
-            return stages::is_started(stage);
+            return items::is_started(stage);
         }
         false
     }
@@ -122,7 +155,7 @@ impl Trace {
         ensures { λ r. ⌜ r ≡ isOver (self .stage) ⌝ }
     {
         let stage = self.stage;
-        stages::is_last(stage)
+        items::is_over(stage)
     }
 
     // Hands over one report, or takes some of the input; writes the lines of it over the front of the room.
@@ -131,7 +164,8 @@ impl Trace {
         ensures { λ r. ⌜ stepSaid (r .answer) (r .used) (r .count) ≡ saidOfStep (holds self (now (table .entry)) (remembering (now (words .entry)))) (now (input .entry)) (now (room .entry)) ⌝ }
     {
         if step::is_lent(table.len(), words.len(), room.len()) {
-            let took = step::take_step(self, input, table, words, room);
+            let found = front::find(self, input);
+            let took = step::take_step(found, table, words, room);
             let next = took.trace;
             return Stepped {
                 answer: Answer::Done,

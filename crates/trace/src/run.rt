@@ -1,33 +1,17 @@
 // Line bytes that follow each other, given to the panel at once.
 ghost use mathlib.Core.Path.{_≡_};
 ghost use Prim.Native.Nat.{_≤_};
-ghost use lib.ListN.{length, take};
+ghost use lib.ListN.{length};
 ghost use Rattle.panel.specs.Inputs.{fedBytes};
-ghost use Rattle.trace.specs.Steps.{lineRun, longestRun, ranBytes};
-use crate::Stage;
+ghost use Rattle.trace.specs.Steps.{longestRun, ranBytes};
 use crate::Took;
 use crate::Trace;
+use items::Stage;
 use panel::FedBytes;
 use panel::Panel;
 
 // How many line bytes go to the panel at once; `longestRun` in specs/.
 const LONGEST_RUN: usize = 256;
-
-// The line bytes of whole items of kind 01 at the front of the input, at the front of `run`; answers how many.
-pub(crate) fn gather_run(input: &[u8], run: &mut [u8]) -> usize
-    requires { ⌜ length (now run) ≡ longestRun ⌝ }
-    ensures { λ r. ⌜ (r ≤ longestRun) × (take r (now (run .exit)) ≡ lineRun longestRun (now (input .entry))) ⌝ }
-{
-    let mut n = 0;
-    while (n < LONGEST_RUN) & (n < input.len() / 2) {
-        if input[2 * n] != 1 {
-            return n;
-        }
-        run[n] = input[2 * n + 1];
-        n += 1;
-    }
-    n
-}
 
 // Gives the bytes of a run to a panel.
 fn feed_run(panel: Panel, bytes: &[u8]) -> FedBytes

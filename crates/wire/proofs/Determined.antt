@@ -4,6 +4,8 @@ use Rattle.wire.proofs.wide.Reads as wide
 use Rattle.wire.proofs.wide.Kinds as wide-kinds
 use Rattle.wire.proofs.count.Reads as count
 use Rattle.wire.proofs.count.Kinds as count-kinds
+use Rattle.wire.proofs.above.Reads as above
+use Rattle.wire.proofs.above.Kinds as above-kinds
 use Rattle.wire.proofs.high_byte.Reads as high-byte
 use Rattle.wire.proofs.high_byte.Kinds as high-byte-kinds
 use Rattle.wire.proofs.low_byte.Reads as low-byte
@@ -20,6 +22,9 @@ wide-determined κs a x y s t p q = cc
 
 pub count-determined : OneAnswer 0 count-kinds.ps count-kinds.r count.Post
 count-determined κs a x y s t p q = cc
+
+pub above-determined : OneAnswer 0 above-kinds.ps above-kinds.r above.Post
+above-determined κs a x y s t p q = cc
 
 pub high-byte-determined : OneAnswer 0 high-byte-kinds.ps high-byte-kinds.r high-byte.Post
 high-byte-determined κs a x y s t p q = cc

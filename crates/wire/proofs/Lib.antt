@@ -1,3 +1,4 @@
+pub mod Truths
 pub mod PastEnd
 pub mod Parts
 pub mod Over

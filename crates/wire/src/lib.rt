@@ -1,7 +1,7 @@
 // How 01's multi-byte numbers stand in bytes, and how a run of bytes is laid over the front of a lent room.
 // The only place where a byte order is written out.
 ghost use mathlib.Core.Path.{_≡_};
-ghost use Prim.Native.Nat.{_<_};
+ghost use Prim.Native.Nat.{_-_, _<_};
 ghost use Rattle.wire.specs.ByteOrder.{highByte, lowByte, word, byteAt, wordAt};
 
 // 01: "There are 256 register bytes and 28,672 variable words, 0x0000 to 0x6FFF"; `registerCount` and `wordCount` in specs/.
@@ -22,6 +22,13 @@ pub fn count(b: u8) -> usize
     ensures { λ r. ⌜ r < 256 ⌝ }
 {
     b as usize
+}
+
+// How much a is above b; 0 where it is not.
+pub fn above(a: usize, b: usize) -> usize
+    ensures { λ r. ⌜ r ≡ a - b ⌝ }
+{
+    if a < b { 0 } else { a - b }
 }
 
 // The first of the two bytes of a number that goes high byte first.

@@ -10,6 +10,7 @@ step-spec =
     tie.close
     (tie.spec
     (λ c κs. search needs)
+    (λ c κs. search needs)
     (λ c κs. search (needs, table-lent, room-lent))
     (λ c. search needs)
     (λ c. search needs)

@@ -1,6 +1,6 @@
 -- `trace::byte::take_byte` meets its contract.
 use borrow.Author.Needs.{needs}
-use Rattle.trace.proofs.Taking.{over-takes, wrong-kind, right-kind}
+use Rattle.trace.proofs.Taking.{quiet-taken, wrong-taken, record-taken, event-taken}
 use Rattle.trace.proofs.byte.take_byte.Statement.{statement}
 use Rattle.trace.proofs.byte.take_byte.Tie as tie
 
@@ -9,13 +9,19 @@ take-byte-spec =
     tie.close
     (tie.spec
     (λ c κs. search needs)
-    (λ c. search over-takes)
-    (λ c κs. search needs)
-    (λ c κs. search needs)
     (λ c. search needs)
-    (λ c. search wrong-kind)
+    (λ c. search needs)
     (λ c κs. search needs)
     (λ c. search needs)
+    (λ c κs. search needs)
+    (λ c. search needs)
+    (λ c κs. search needs)
+    (λ c. search quiet-taken)
+    (λ c. search needs)
+    (λ c. search wrong-taken)
+    (λ c. search needs)
+    (λ c. search record-taken)
     (λ c. search needs)
     (λ c. search needs)
-    (λ c. search right-kind))
+    (λ c. search needs)
+    (λ c. search event-taken))

@@ -1,6 +1,6 @@
 -- `trace::last::print_end` meets its contract.
 use borrow.Author.Needs.{needs}
-use Rattle.trace.proofs.Ending.{no-setup, no-event, last-page, after-failure, cut-item}
+use Rattle.trace.proofs.Ending.{nothing-printed, last-printed}
 use Rattle.trace.proofs.last.print_end.Statement.{statement}
 use Rattle.trace.proofs.last.print_end.Tie as tie
 
@@ -8,20 +8,10 @@ pub print-end-spec : {M : Type 1} → statement M
 print-end-spec =
     tie.close
     (tie.spec
-    (λ c. search needs)
-    (λ c κs. search needs)
-    (λ c. search needs)
-    (λ c κs. search needs)
-    (λ c. search needs)
     (λ c κs. search needs)
     (λ c. search needs)
     (λ c. search needs)
-    (λ c. search no-setup)
-    (λ c. search needs)
-    (λ c. search no-event)
-    (λ c. search needs)
-    (λ c. search last-page)
-    (λ c. search after-failure)
     (λ c κs. search needs)
+    (λ c. search nothing-printed)
     (λ c. search needs)
-    (λ c. search cut-item))
+    (λ c. search last-printed))

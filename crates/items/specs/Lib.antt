@@ -1,0 +1,4 @@
+pub mod Items
+pub mod Stages
+pub mod Records
+pub mod Runs
