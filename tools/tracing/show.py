@@ -32,8 +32,8 @@ def record_lines(run):
     return "".join(record_text(body) + "\n" for body in bodies(RECORD_KIND, run))
 
 
-def contact_text(contact):
-    return "contact %d %d\n" % struct.unpack(">xHH", contact)
+def contact_text(body):
+    return "contact %d %d" % struct.unpack(">HH", body)
 
 
 @functools.lru_cache(1 << 10)
@@ -132,7 +132,7 @@ def turn_lines(setup, turns):
             texts.append(ONE_BYTE[line[1]])
         elif line:
             texts.append(line_lines(setup, line[1::2]))
-        texts.append(plain_lines(plain) if plain else contact_text(contact))
+        texts.append(plain_lines(plain) if plain else contact_text(contact[1:]) + "\n")
     return "".join(texts)
 
 
