@@ -7,13 +7,14 @@ def seed_range(text):
     """The seeds from A to B, both counted. A run over none would pass without a look at anything, so that it is refused."""
     found = re.fullmatch(r"([0-9]+)(?:\.\.([0-9]+))?", text)
     if not found:
-        refuse(text, "allowed is A..B, or A alone, each a whole number from 0 on")
+        refuse(f"--seeds {text}", "allowed is A..B, or A alone, each a whole number from 0 on")
     first, last = int(found[1]), int(found[2] or found[1])
     if last < first:
-        refuse(text, f"there is no seed from {first} to {last}")
+        refuse(f"--seeds {text}", f"there is no seed from {first} to {last}")
     return range(first, last + 1)
 
 
-def refuse(text, why):
-    print(f"--seeds {text}: {why}", file=sys.stderr)
+def refuse(asked, why):
+    """Says in a line what is wrong with what was asked for, and ends."""
+    print(f"{asked}: {why}", file=sys.stderr)
     sys.exit(2)
