@@ -75,6 +75,20 @@ def exchanges(text):
                 yield "exchange", found.start(), left + between + right, right + between + left
 
 
+def conditions(text):
+    """A truth that is asked by its name alone."""
+    for found in re.finditer(rf"\b(?:if|while) ({SIMPLE}) \{{", text):
+        yield "condition", found.start(1), found.group(1), "!" + found.group(1)
+
+
+def calls(text):
+    """A call whose answer nobody takes is left out."""
+    for found in re.finditer(r"^ *((?:\w+(?:::|\.))*\w+)\(", text, re.M):
+        end = source.behind(text, found.end() - 1)
+        if text[end:end + 1] == ";":
+            yield "call left out", found.start(1), text[found.start(1):end + 1], ""
+
+
 def like_fields(crates):
     """For each field's name, the fields of the same type in the structs that have it."""
     others = {}
@@ -125,6 +139,6 @@ def edits_of(crate):
     edits = {}
     for where, file, begin, end in stretches(crate):
         text = source.blank(file.read_text())[begin:end]
-        found = [*operators(text), *constants(text), *names(text), *exchanges(text), *fields(text, field), *cases(text, case)]
+        found = [*operators(text), *constants(text), *names(text), *exchanges(text), *conditions(text), *calls(text), *fields(text, field), *cases(text, case)]
         edits[where] = [(file, kind, begin + at, old, new) for kind, at, old, new in found]
     return edits

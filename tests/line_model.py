@@ -1,16 +1,15 @@
 #!/usr/bin/env python3
 """An independent model of document 01, "Frame" and "Reading the line", and the cases that the program line_cases runs.
 
-python3 tests/line_model.py           prints what line_cases must print (crates/line_cases/stdout)
-python3 tests/line_model.py --stdin   prints what it reads (crates/line_cases/stdin)
-A seed and a count behind that draw other cases, and more of them: tests/line_compare.sh.
+    line_model.py            what line_cases must print (crates/line_cases/stdout)
+    line_model.py --input    what it reads (crates/line_cases/stdin)
+
+`tests/random line` draws other cases, and more of them.
 
 The model keeps all that was given and reads it anew each time: a report waits while fewer reports were handed over than the reading has.
 """
-import random, sys
-
-WANTS_STDIN = "--stdin" in sys.argv
-SEED, COUNT = [int(a) for a in sys.argv[1:] if a != "--stdin"] or (1, 40)
+import random
+import sys
 
 
 def check(content):
@@ -103,8 +102,8 @@ def each(given):
     return [g for b in given for g in (b, "?")]
 
 
-def cases():
-    """Title, header, checking, and what is given: bytes, ("[", bytes), "|" and "?"."""
+def cases(seed=1, count=40):
+    """Title, header, checking, and what is given: bytes, ("[", bytes), "|" and "?". Those listed here, and `count` drawn ones."""
     yield "example e: a false length, a good frame, a mark", H, True, [*H, 0x40, *READ, "?", "|", "?"]
     yield "nested false frames closed by a mark: all good frames inside", H, True, [*nested(), "?", "|", "?", "|", "?", *READ, "?"]
     yield "the same with the false frames whole: bad checks, then the good frames inside", H, True, [*each([*nested(), *[0] * 60]), "|", "?"]
@@ -133,8 +132,8 @@ def cases():
         yield f"header {h[0]:02X} {h[1]:02X}, checking on", h, True, [h[0], *good, "?", *good, "?", "|", "?", *h, *h, h[0], "|", "?", *good, "?"]
         yield f"header {h[0]:02X} {h[1]:02X}, checking off", h, False, [h[0], *short, "?", *short, "?", "|", "?", *short, "?"]
         yield f"header {h[0]:02X} {h[1]:02X}, header bytes only", h, True, [("[", [h[0]] * 300), "?", "|", "?", ("[", [h[0]] * 100), "|", "?"]
-    draw = random.Random(SEED)
-    for k in range(COUNT):
+    draw = random.Random(seed)
+    for k in range(count):
         h = draw.choice([H, H, (0xFF, 0xFF), (0, 0), (3, 4)])
         checking = draw.random() < 0.7
         all_given = []
@@ -159,15 +158,15 @@ def spelled(bs):
     return " ".join(f"{b:02X}" for b in bs)
 
 
-def script():
-    for title, header, checking, given in cases():
+def script(all_cases):
+    for title, header, checking, given in all_cases:
         yield f"# {title}"
         yield f"={spelled([*header, int(checking)])};"
         yield " ".join(g if isinstance(g, str) else f"[{spelled(g[1])}]" if isinstance(g, tuple) else f"{g:02X}" for g in given)
 
 
-def expected():
-    for title, header, checking, given in cases():
+def expected(all_cases):
+    for title, header, checking, given in all_cases:
         yield f"# {title}"
         yield f"= {spelled([*header, int(checking)])}"
         model = Model(header, checking)
@@ -187,5 +186,12 @@ def expected():
                 yield "1"
 
 
-for line in script() if WANTS_STDIN else expected():
-    print(line)
+def main(words):
+    if words not in ([], ["--input"]):
+        sys.exit(__doc__)
+    for line in (script if words else expected)(cases()):
+        print(line)
+
+
+if __name__ == "__main__":
+    main(sys.argv[1:])

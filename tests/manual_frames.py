@@ -37,6 +37,8 @@ def frames(text):
             found[-1].printed.append(rest)
         elif word not in ("", "#"):
             sys.exit(f"{FRAMES.name}: what is this: {line}")
+    if not found:
+        sys.exit(f"{FRAMES.name} has no frame")
     return found
 
 

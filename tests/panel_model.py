@@ -1,10 +1,11 @@
 #!/usr/bin/env python3
 """Scripted calls of a whole panel, and what tests/model.py answers to them: the cases of the program panel_cases.
 
-    panel_model.py                       what panel_cases must print (crates/panel_cases/stdout)
-    panel_model.py --input               the script it reads (crates/panel_cases/stdin)
-    panel_model.py --reached             how often each number was given, and to what
-    panel_model.py --random SEED COUNT [--input | --reached]    the same for COUNT sessions drawn at random
+    panel_model.py              what panel_cases must print (crates/panel_cases/stdout)
+    panel_model.py --input      the script it reads (crates/panel_cases/stdin)
+    panel_model.py --reached    how often each number was given, and to what
+
+`tests/random panel` draws other sessions.
 """
 import collections
 import random
@@ -741,15 +742,13 @@ def draw_session(s, r):
     s.ask_all()
 
 
-def main(arguments):
-    options = {"--input", "--reached"} & set(arguments)
-    rest = [a for a in arguments if a not in options]
-    if len(options) > 1 or (rest and (rest[0] != "--random" or len(rest) != 3)):
+def main(words):
+    if words not in ([], ["--input"], ["--reached"]):
         sys.exit(__doc__)
-    s = drawn(int(rest[1]), int(rest[2])) if rest else fixed()
-    if "--input" in options:
+    s = fixed()
+    if words == ["--input"]:
         sys.stdout.buffer.write(s.input)
-    elif "--reached" in options:
+    elif words == ["--reached"]:
         for what, times in sorted(s.reached.items()):
             print(f"{times:6} {what}")
     else:

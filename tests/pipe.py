@@ -85,7 +85,10 @@ def single(sent):
 
 
 def talks(words):
-    for trace in right_traces():
+    traces = list(right_traces())
+    if not traces:
+        yield "examples/ has no trace that is right to its end"
+    for trace in traces:
         yield talk(words, trace, whole)
         yield talk(words, trace, single)
 

@@ -1,4 +1,4 @@
-"""The panel program under test: where it stands once it is built, and how a program is started on this machine.
+"""The programs under test: where they stand once they are built, and how a program is started on this machine.
 
 Programs are built for x86-64. On another machine they run under the emulator of the Rattle kit, as the kit's own checks run them.
 """
@@ -8,6 +8,8 @@ import platform
 import subprocess
 import sys
 import tempfile
+
+import source
 
 TOP = pathlib.Path(__file__).resolve().parent.parent
 BUILT = TOP / "target" / "bin" / "panel_trace"
@@ -31,32 +33,47 @@ def is_foreign(path):
 def command(path):
     """The words that start the program at `path`: an x86-64 one, one of this machine, or one in Python."""
     path = str(path)
+    if not pathlib.Path(path).is_file():
+        sys.exit(f"{path}: there is no such program")
     if path.endswith(".py"):
         return [sys.executable, path]
     return [*emulator(), path] if is_foreign(path) else [path]
 
 
-def is_old():
-    """Whether the built program is older than the code, as ./panel asks it too."""
-    built = BUILT.stat().st_mtime
-    return any(path.stat().st_mtime > built for path in [TOP / "crates.txt", *TOP.glob("crates/*/src/**/*.rt")])
+def below(name):
+    """A crate and all of the repository that it is built on."""
+    found = [name]
+    for crate in found:
+        found += [each for each in source.known_to(crate) if each not in found]
+    return found
 
 
-def chosen(path=None):
-    """The path given, or that of the built program; None where the tree has no such program."""
+def is_old(built):
+    """Whether a built program is older than the code it is made of, as ./panel asks of the panel program too."""
+    code = [path for crate in below(built.name) for path in source.code_files(crate)]
+    return any(path.stat().st_mtime > built.stat().st_mtime for path in [TOP / "crates.txt", *code])
+
+
+def renewal(built):
+    """What builds a program anew. Where nothing of its code has changed, rt leaves it as it is, and old."""
+    return "./panel < /dev/null" if built == BUILT else f"rt check {built.name} && touch {built.relative_to(TOP)}"
+
+
+def chosen(path=None, built=BUILT):
+    """The path given, or that of a built program, the panel's where no other is named; None where the tree has no such program."""
     if path:
         return path
-    if BUILT.exists():
-        if is_old():
-            sys.exit(f"{BUILT.name} is older than the code: ./panel < /dev/null builds it")
-        return BUILT
-    if (TOP / "crates" / BUILT.name).exists():
-        sys.exit(f"{BUILT.name} is not built: run rt check {BUILT.name}")
+    if built.exists():
+        if is_old(built):
+            sys.exit(f"{built.name} is older than the code: {renewal(built)} builds it")
+        return built
+    if (TOP / "crates" / built.name).exists():
+        sys.exit(f"{built.name} is not built: run rt check {built.name}")
     return None
 
 
 def run(words, trace):
-    """What the program prints for a trace, which it reads from a file, so that every run reads the same pieces.
+    """What a program prints for an input, which it reads from a file, so that every run reads the same pieces.
 
     Running out of time and ending by a signal are said in place of an end.
     """

@@ -1,9 +1,10 @@
 #!/usr/bin/env python3
 """Setup and touch table of document 01, written from the document alone: a model to hold the touch library against.
 
-    touch_model.py                          what crates/touch_cases must print for the cases below
-    touch_model.py --input                  those cases, as that program reads them
-    touch_model.py --random SEED COUNT [--input]    the same for COUNT cases drawn at random
+    touch_model.py            what crates/touch_cases must print for the cases below
+    touch_model.py --input    those cases, as that program reads them
+
+`tests/random touch` draws others.
 """
 import random
 import sys
@@ -390,14 +391,15 @@ def drawn(seed, count):
         yield case(kind, f"{kind} {i}", setup, table, page=r.choice((3, 3, 3, number())), x=x, y=y, old=number())
 
 
+def line_of(c):
+    return f"{c['label']}: {answer(c)}"
+
+
 def main(words):
-    as_input = "--input" in words
-    words = [w for w in words if w != "--input"]
-    if words and (words[0] != "--random" or len(words) != 3):
+    if words not in ([], ["--input"]):
         sys.exit(__doc__)
-    cases = drawn(int(words[1]), int(words[2])) if words else fixed()
-    for c in cases:
-        sys.stdout.buffer.write(encoded(c) if as_input else f"{c['label']}: {answer(c)}\n".encode())
+    for c in fixed():
+        sys.stdout.buffer.write(encoded(c) if words else f"{line_of(c)}\n".encode())
 
 
 if __name__ == "__main__":

@@ -39,6 +39,10 @@ def some_read(r):
     return on_line(frame(SETUP, b"\x83" + r.randbytes(3)))
 
 
+def some_contact(r):
+    return b"\x03" + struct.pack(">HH", r.randrange(800), r.randrange(480))
+
+
 def some_record(r):
     x, y = r.randrange(700), r.randrange(400)
     make = r.choice((key, step, slider))
@@ -49,10 +53,14 @@ def kinds(r):
     yield "noise", OPENING + on_line(r.randbytes(SIZE // 2))
     yield "header pairs, each claiming 255 bytes", OPENING + on_line(b"\x5A\xA5\xFF" * (SIZE // 6))
     yield "frames", filled(lambda: some_write(r))
-    yield "contacts", filled(lambda: b"\x03" + struct.pack(">HH", r.randrange(800), r.randrange(480)))
+    yield "contacts", filled(lambda: some_contact(r))
     yield "touch records", filled(lambda: some_record(r))
     yield "frames and touches in turn", filled(lambda: some_write(r) + b"\x03" + r.randbytes(4) + b"\x04")
     yield "lifts", OPENING + b"\x04" * SIZE
+    yield "line bytes and lifts in turn", OPENING + b"".join(b"\x01%c\x04" % byte for byte in r.randbytes(SIZE // 3))
+    yield "two line bytes and a mark in turn", filled(lambda: on_line(r.randbytes(2)) + b"\x02")
+    yield "lifts and marks in turn", OPENING + b"\x04\x02" * (SIZE // 2)
+    yield "contacts and lifts in turn", filled(lambda: some_contact(r) + b"\x04")
     yield "short reads, each with a mark", filled(lambda: some_read(r) + b"\x02")
     sessions = [trace for trace in (drawn(seed)[0] for seed in range(100)) if all(kind is not None for kind, _ in split(trace))]
     yield "drawn sessions, one behind the other", filled(lambda: r.choice(sessions))
