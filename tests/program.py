@@ -1,6 +1,7 @@
 """The panel program under test: where it stands once it is built, and how a program is started on this machine.
 
-Programs are built for x86-64. On another machine they run under the emulator of the Rattle kit, as the kit's own checks run them.
+Programs are built for x86-64. On another machine they run under the emulator of the Rattle kit, as the kit's own checks run them, but for
+the one that tools/native builds.
 """
 import functools
 import pathlib
@@ -11,6 +12,7 @@ import tempfile
 
 TOP = pathlib.Path(__file__).resolve().parent.parent
 BUILT = TOP / "target" / "bin" / "panel_trace"
+NATIVE = TOP / "target" / "native" / "panel_trace"
 X86_64 = 0x3E       # the machine's number in a program's ELF header
 SECONDS = 60
 
@@ -36,9 +38,9 @@ def command(path):
     return [*emulator(), path] if is_foreign(path) else [path]
 
 
-def is_old():
-    """Whether the built program is older than the code, as ./panel asks it too."""
-    built = BUILT.stat().st_mtime
+def is_old(path=BUILT):
+    """Whether a built program is older than the code, as ./panel asks it too."""
+    built = path.stat().st_mtime
     return any(path.stat().st_mtime > built for path in [TOP / "crates.txt", *TOP.glob("crates/*/src/**/*.rt")])
 
 
@@ -53,6 +55,14 @@ def chosen(path=None):
     if (TOP / "crates" / BUILT.name).exists():
         sys.exit(f"{BUILT.name} is not built: run rt check {BUILT.name}")
     return None
+
+
+def native():
+    """The program compiled for this machine, built where it is not, or where the code is newer."""
+    if not NATIVE.exists() or is_old(NATIVE):
+        if subprocess.run([TOP / "tools" / "native", BUILT.name, NATIVE]).returncode:
+            sys.exit("tools/native did not build the program")
+    return NATIVE
 
 
 def run(words, trace):
