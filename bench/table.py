@@ -30,7 +30,7 @@ def side(unit, plain, proved):
 
 def heading():
     sides = f"{'proved':>{FIGURE}}{'plain C':>{FIGURE}}{'ratio':>{RATIO}}"
-    return f"{'':{WHAT}}{f'on this {platform.machine()}':>{SIDE}}{KIT:>{SIDE}}\n{'':{WHAT}}{sides}{sides}"
+    return f"{'':{WHAT}}{f'native, {platform.machine()}':>{SIDE}}{KIT:>{SIDE}}\n{'':{WHAT}}{sides}{sides}"
 
 
 def main(names):

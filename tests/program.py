@@ -38,9 +38,9 @@ def command(path):
     return [*emulator(), path] if is_foreign(path) else [path]
 
 
-def is_old(path=BUILT):
-    """Whether a built program is older than the code, as ./panel asks it too."""
-    built = path.stat().st_mtime
+def is_old():
+    """Whether the built program is older than the code, as ./panel asks it too."""
+    built = BUILT.stat().st_mtime
     return any(path.stat().st_mtime > built for path in [TOP / "crates.txt", *TOP.glob("crates/*/src/**/*.rt")])
 
 
@@ -58,10 +58,9 @@ def chosen(path=None):
 
 
 def native():
-    """The program compiled for this machine, built where it is not, or where the code is newer."""
-    if not NATIVE.exists() or is_old(NATIVE):
-        if subprocess.run([TOP / "tools" / "native", BUILT.name, NATIVE]).returncode:
-            sys.exit("tools/native did not build the program")
+    """The program compiled for this machine. tools/native compiles it again where the code is newer."""
+    if subprocess.run([TOP / "tools" / "native", BUILT.name, NATIVE]).returncode:
+        sys.exit(f"tools/native could not build {BUILT.name}")
     return NATIVE
 
 

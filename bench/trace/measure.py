@@ -17,7 +17,7 @@ import program  # noqa: E402
 from trace_text import SETUP_KIND, on_line, setup_bytes  # noqa: E402
 
 SIZE = 1 << 20
-RUNS = 15
+LEAST_RUNS, SECONDS = 3, 4   # of each measurement: many runs on a fast machine, a few under an emulator
 SETUP = model.Setup(0x5A, 0xA5, 1, 16, 800, 480)
 OPENING = bytes([SETUP_KIND]) + setup_bytes(SETUP)
 
@@ -76,9 +76,10 @@ class Program:
 
 def least_times(programs, trace):
     """The programs in turns, so that what else the machine does meets both."""
-    least = [float("inf")] * len(programs)
-    for _ in range(RUNS):
+    least, runs, until = [float("inf")] * len(programs), 0, time.monotonic() + SECONDS
+    while runs < LEAST_RUNS or time.monotonic() < until:
         least = [min(t, p.seconds(trace)) for t, p in zip(least, programs)]
+        runs += 1
     return least
 
 
