@@ -24,7 +24,7 @@ kit_link() {
 bench_build() {
     local library=target/staticlib/lib$2.a
     tools/native "$2" "$out/native/$1" "$3"
-    [ "$library" -nt "target/native/$2.o" ] || quietly "$out/kit/$1.log" rt staticlib "$2"
+    [ "$library" -nt "target/native/$2-$machine.o" ] || quietly "$out/kit/$1.log" rt staticlib "$2"
     kit_link "$1" "$3" "$library"
 }
 
