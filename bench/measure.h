@@ -4,9 +4,10 @@ int printf(const char *, ...);
 struct timespec { long sec, nsec; };
 int clock_gettime(int, struct timespec *);
 
+/* What the processor has spent on this program, so that waiting for others does not count. */
 static double now(void) {
     struct timespec t;
-    clock_gettime(1, &t);
+    clock_gettime(2, &t);
     return t.sec + t.nsec * 1e-9;
 }
 
