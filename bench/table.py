@@ -1,6 +1,7 @@
 """table.py NAME..: prints one table of what the measurements NAME.. found, as they left it under bench/out/.
 
-Every line of a file of figures has what was measured, the unit, plain C's figure and that of the proved code.
+Every line of a file of figures has what was measured, the unit, plain C's figure and that of the proved code. What was measured several
+times counts with the best of each.
 """
 import pathlib
 import platform
@@ -12,10 +13,18 @@ WHAT, FIGURE, RATIO = 40, 10, 7     # the columns' widths
 SIDE = 2 * FIGURE + RATIO
 
 
+def best(unit, pairs):
+    """Of plain C's figures, and of the proved code's."""
+    return tuple(map(max if unit == "MB/s" else min, zip(*pairs)))
+
+
 def figures(build, name):
-    """What was measured, in order, each with its unit and its two figures."""
-    lines = (OUT / build / f"{name}.figures").read_text().splitlines()
-    return {what: (unit, float(plain), float(proved)) for what, unit, plain, proved in (line.split("\t") for line in lines)}
+    """What was measured and its unit, in order, each with its two figures."""
+    found = {}
+    for line in (OUT / build / f"{name}.figures").read_text().splitlines():
+        what, unit, plain, proved = line.split("\t")
+        found.setdefault((what, unit), []).append((float(plain), float(proved)))
+    return {(what, unit): best(unit, pairs) for (what, unit), pairs in found.items()}
 
 
 def ratio(unit, plain, proved):
@@ -37,8 +46,8 @@ def main(names):
     print(heading())
     for name in names:
         native, kit = figures("native", name), figures("kit", name)
-        for what in native:
-            print(f"{f'{what}, {native[what][0]}':{WHAT}}{side(*native[what])}{side(*kit[what])}")
+        for what, unit in native:
+            print(f"{f'{what}, {unit}':{WHAT}}{side(unit, *native[what, unit])}{side(unit, *kit[what, unit])}")
 
 
 if __name__ == "__main__":
