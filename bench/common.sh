@@ -1,7 +1,7 @@
 # For the scripts under bench/, sourced from the top of the repository. Each comparison is built twice, both sides by the kit's clang: for
 # this machine by tools/native, into $out/native, and for x86-64 as the kit builds programs, into $out/kit. The second runs under the kit's
-# emulator where the machine is another one; a time of it says nothing there, and its ratios mislead. On x86-64 the two hold the same code,
-# linked by two linkers: where they differ, it is by where a small loop came to lie.
+# emulator where the machine is another one; a time of it says nothing there, and its ratios mislead. On x86-64 the C objects of both are the
+# same, and yet small loops can differ in speed, by how they are linked.
 kit=$(dirname "$(dirname "$(rt doc)")")
 machine=$(uname -m)
 tools=$kit/on/$machine/toolchain
