@@ -1,6 +1,7 @@
 """The programs under test: where they stand once they are built, and how a program is started on this machine.
 
-Programs are built for x86-64. On another machine they run under the emulator of the Rattle kit, as the kit's own checks run them.
+Programs are built for x86-64. On another machine they run under the emulator of the Rattle kit, as the kit's own checks run them, but for
+the one that tools/native builds.
 """
 import functools
 import pathlib
@@ -13,6 +14,7 @@ import source
 
 TOP = pathlib.Path(__file__).resolve().parent.parent
 BUILT = TOP / "target" / "bin" / "panel_trace"
+NATIVE = TOP / "target" / "native" / "panel_trace"
 X86_64 = 0x3E       # the machine's number in a program's ELF header
 SECONDS = 60
 
@@ -70,6 +72,13 @@ def chosen(path=None, built=BUILT):
     if (TOP / "crates" / built.name).exists():
         sys.exit(f"{built.name} is not built: run rt check {built.name}")
     return None
+
+
+def native():
+    """The program compiled for this machine. tools/native compiles it again where the code is newer."""
+    if subprocess.run([TOP / "tools" / "native", BUILT.name, NATIVE]).returncode:
+        sys.exit(f"tools/native could not build {BUILT.name}")
+    return NATIVE
 
 
 def run(words, trace):

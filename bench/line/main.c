@@ -6,7 +6,7 @@
 unsigned long line_bench_chunks(unsigned char h1, unsigned char h2, _Bool checking, const unsigned char *s, unsigned long n, unsigned long chunk);
 unsigned long line_bench_single(unsigned char h1, unsigned char h2, _Bool checking, const unsigned char *s, unsigned long n);
 
-enum { SIZE = 1 << 19, CHUNK = 4096, TURNS = 9 };
+enum { SIZE = 1 << 19, CHUNK = 4096 };
 static unsigned char buffer[SIZE];
 
 /* The same work: reports are asked for after each byte, and the same sum is made of them. */
@@ -80,21 +80,24 @@ static double plain(void) {
 }
 
 /* The fastest of some turns, the three readers one after the other in each. */
-static int measure(const char *name) {
-    double c = 1e9, s = 1e9, p = 1e9, t;
-    unsigned long a = 0, b = 0, d = 0;
-    for (int i = 0; i < TURNS; i++) {
-        if ((t = plain()) < p) p = t;
-        a = kept;
-        if ((t = chunks()) < c) c = t;
-        b = kept;
-        if (i < 3 && (t = single()) < s) s = t;
-        if (i < 3) d = kept;
+static int measure(const char *mix) {
+    double by_bytes = 1e9, by_byte = 1e9, by_plain = 1e9, began = now();
+    for (int turns = 0; goes_on(turns, began); turns++) {
+        keep_least(&by_plain, plain());
+        unsigned long a = kept;
+        keep_least(&by_bytes, chunks());
+        unsigned long b = kept;
+        keep_least(&by_byte, single());
+        if (a != b || a != kept) {
+            printf("line: %s: the readers differ: %lu %lu %lu\n", mix, a, b, kept);
+            return 1;
+        }
     }
-    if (a != b || a != d) printf("%s: the readers differ: %lu %lu %lu\n", name, a, b, d);
-    printf("%-13s plain C %7.2f MB/s   give_bytes %7.2f MB/s, ratio %.2f   give_byte %7.2f MB/s, ratio %.2f\n", name, SIZE / p / 1e6,
-           SIZE / c / 1e6, p / c, SIZE / s / 1e6, p / s);
-    return a != b || a != d;
+    printf("line: %s, give_bytes", mix);
+    tell_speeds(SIZE, by_plain, by_bytes);
+    printf("line: %s, give_byte", mix);
+    tell_speeds(SIZE, by_plain, by_byte);
+    return 0;
 }
 
 int main(void) {

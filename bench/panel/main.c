@@ -6,7 +6,7 @@
 unsigned long panel_bench_stream(const unsigned char *s, unsigned long n, unsigned short *words, unsigned long count, unsigned char *room,
                                  unsigned long size);
 
-enum { SIZE = 1 << 18, WORDS = 28672, ROOM = 265, TURNS = 9 };
+enum { SIZE = 1 << 18, WORDS = 28672, ROOM = 265 };
 static unsigned char buffer[SIZE], room[ROOM];
 static unsigned short words[WORDS];
 static unsigned long used;
@@ -90,10 +90,9 @@ static unsigned long digest(void) {
 }
 
 static int measure(const char *name, unsigned char command) {
-    double ours = 1e9, plain = 1e9;
-    int bad = 0;
+    double proved = 1e9, plain = 1e9, began = now();
     stream(command);
-    for (int i = 0; i < TURNS; i++) {
+    for (int turns = 0; goes_on(turns, began); turns++) {
         double a = now();
         unsigned long x = panel_bench_stream(buffer, used, words, WORDS, room, ROOM);
         double b = now();
@@ -101,13 +100,16 @@ static int measure(const char *name, unsigned char command) {
         double c = now();
         unsigned long y = plain_run();
         double d = now();
-        if (x != y || left != digest()) bad = 1;
-        if (b - a < ours) ours = b - a;
-        if (d - c < plain) plain = d - c;
+        if (x != y || left != digest()) {
+            printf("panel: %s: the panels differ: %lu %lu\n", name, x, y);
+            return 1;
+        }
+        keep_least(&proved, b - a);
+        keep_least(&plain, d - c);
     }
-    if (bad) printf("%s: the panels differ\n", name);
-    printf("%-22s plain C %7.2f MB/s   panel %7.2f MB/s, ratio %.2f\n", name, used / plain / 1e6, used / ours / 1e6, plain / ours);
-    return bad;
+    printf("panel: %s", name);
+    tell_speeds(used, plain, proved);
+    return 0;
 }
 
 int main(void) { return measure("writes of 100 words", 0x82) | measure("reads of 100 words", 0x83); }

@@ -1,7 +1,7 @@
-"""measure.py OURS PLAIN FOLDER: runs two trace programs on the same traces, files under FOLDER, and prints how their times compare.
+"""measure.py OURS PLAIN FOLDER: runs two trace programs on the same traces, files under FOLDER, and prints their figures for bench/table.py.
 
 A time is what the processor spent, the least of some runs, less what a trace without events takes. Both programs are started in the same
-way, on Arm under the emulator; there a time by itself says nothing, only the ratio does.
+way: under the kit's emulator where they are built for x86-64 and the machine is another one.
 """
 import os
 import pathlib
@@ -17,7 +17,7 @@ import program  # noqa: E402
 from trace_text import SETUP_KIND, on_line, setup_bytes  # noqa: E402
 
 SIZE = 1 << 20
-RUNS = 3
+LEAST_RUNS, SECONDS = 3, 4   # of each measurement: many runs on a fast machine, a few under an emulator
 SETUP = model.Setup(0x5A, 0xA5, 1, 16, 800, 480)
 OPENING = bytes([SETUP_KIND]) + setup_bytes(SETUP)
 
@@ -76,9 +76,10 @@ class Program:
 
 def least_times(programs, trace):
     """The programs in turns, so that what else the machine does meets both."""
-    least = [float("inf")] * len(programs)
-    for _ in range(RUNS):
+    least, runs, until = [float("inf")] * len(programs), 0, time.monotonic() + SECONDS
+    while runs < LEAST_RUNS or time.monotonic() < until:
         least = [min(t, p.seconds(trace)) for t, p in zip(least, programs)]
+        runs += 1
     return least
 
 
@@ -92,10 +93,11 @@ def measure(name, trace, ours, plain, starts):
     ours_time, plain_time = (t - s for t, s in zip(least_times((ours, plain), trace), starts))
     if ours.printed() != plain.printed():
         sys.exit(f"{name}: the programs print different lines")
-    speed, plain_speed = (SIZE / t / 1e6 for t in (ours_time, plain_time))
-    lines = ours.printed().count(b"\n")
-    print(f"{name:13} plain C {plain_speed:7.2f} MB/s   panel_trace {speed:7.2f} MB/s, ratio {plain_time / ours_time:.2f}   {lines} lines, the same",
-          flush=True)
+    tell(name, "MB/s", SIZE / plain_time / 1e6, SIZE / ours_time / 1e6)
+
+
+def tell(name, unit, plain, ours):
+    print(f"trace: {name}\t{unit}\t{plain:.6g}\t{ours:.6g}", flush=True)
 
 
 def main(ours, plain, folder):
@@ -107,7 +109,7 @@ def main(ours, plain, folder):
         measure(name, stored(folder, name.replace(" ", "-"), events), ours, plain, starts)
     for times in (1, 8):
         path = stored(folder, "memory", good * times)
-        print(f"peak memory at {times} MiB: plain C {plain.peak(path)} KiB, panel_trace {ours.peak(path)} KiB", flush=True)
+        tell(f"peak memory at {times} MiB", "KiB", plain.peak(path), ours.peak(path))
 
 
 if __name__ == "__main__":
