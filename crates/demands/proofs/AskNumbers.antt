@@ -6,7 +6,7 @@ use Prim.Native.Nat.{ℕ}
 use borrow.Author.Tests.{le-ltb, lt-ltb, leb-true, leb-false, eqb-true}
 use lib.Dec.{eqb, ltb, leb}
 use lib.ListN.{length, take, drop}
-use Rattle.wire.specs.Numbers.{Said, says, firstSaid}
+use Rattle.wire.specs.Numbers.{Said, says, firstSaid, _when_}
 use Rattle.frame.specs.Frame.{mostPayload}
 use Rattle.frame.specs.Writer.{leastRoom}
 use Rattle.reading.specs.Place.{Report, badCheck, acceptedFrame}
@@ -27,7 +27,7 @@ use Rattle.panel.specs.Reporting.{acknowledged, accepting, handing, reporting, 
 use Rattle.panel.specs.Sound.{Sound}
 use Rattle.demands.specs.Calls.{Moment, ask, numberGiven}
 use Rattle.demands.specs.Reports.{waitingReport}
-use Rattle.demands.specs.Demand1.{Condition, _when_, firstNumber, ofFrame, wordsNotLent, roomTooSmall, printed}
+use Rattle.demands.specs.Demand1.{Condition, firstNumber, ofFrame, wordsNotLent, roomTooSmall, printed}
 use Rattle.commands.specs.Lent.{Lent, withRoom}
 use Rattle.panel.specs.State.{fixedFor}
 use Rattle.demands.proofs.Waits.{asked-report, asked-payload}
@@ -46,7 +46,7 @@ frameNumbers setup command content =
 -- the numbers alone of what is said of a command
 numbers-said : (setup : Setup) (room command : ℕ) (content : List ℕ)
     → performSaid (fixedFor setup) wordCount room command content .number ≡ firstNumber (frameNumbers setup command content)
-unfolding performSaid performListed firstSaid firstNumber
+unfolding performSaid performListed firstSaid 
 numbers-said setup room command content =
     go (notCommand command content) (wrongData command content) (passesEnd wordCount command content) (touchesUnwritable command content)
     (valueWrong (setup .pages) command content) (replyPasses (checkingOf setup) command content) _
@@ -89,7 +89,7 @@ accepted-number panel lent whole command content =
 handing-numbers : (panel : Panel) (lent : Lent) → length (lent .words) ≡ wordCount → (a : Asked) (told : Told) (report : List Report) → told ≡ reportAs report
     → a .payload ≡ payloadAs report
     → reportNumber (handing a told panel lent .reported .handed) ≡ firstNumber (waitingNumbers (panel .setup) report)
-unfolding handing handingOver reportNumber reportAs payloadAs ofFrame firstNumber
+unfolding handing handingOver reportNumber reportAs payloadAs ofFrame firstSaid
 handing-numbers panel lent whole a told [] is payload = rw is
 handing-numbers panel lent whole a told (badCheck command ∷ rest) is payload = rw is
 handing-numbers panel lent whole a told (acceptedFrame command content ∷ rest) is payload =
@@ -98,7 +98,7 @@ handing-numbers panel lent whole a told (acceptedFrame command content ∷ rest)
     rw (is, same) (accepted-number panel lent whole command content)
 
 pub ask-number : (now : Moment) → Sound (now .panel) → numberGiven now ask ≡ firstNumber (printed now ask)
-unfolding numberGiven printed reporting reportNumber enough wordsNotLent roomTooSmall firstNumber
+unfolding numberGiven printed reporting reportNumber enough wordsNotLent roomTooSmall firstSaid
 ask-number now sound = go (eqb (length (now .lent .words)) wordCount) refl (leb leastRoom (length (now .lent .room))) refl
   where
     panel : Panel

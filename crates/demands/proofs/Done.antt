@@ -6,6 +6,7 @@ use Prim.Native.Nat.{ℕ, _<_}
 use native.Mathlib.Omega.{arith}
 use borrow.Author.Tests.{ltb-true, not-true}
 use lib.Dec.{ltb}
+use Rattle.wire.specs.Numbers.{firstSaid}
 use Rattle.wire.proofs.Truths.{and-left, and-right}
 use Rattle.touch.specs.declared.Setup.{Setup}
 use Rattle.demands.specs.Calls.{Moment, Call, lend, byte, bytes, mark, ask, contact, lift}
@@ -15,23 +16,23 @@ use Rattle.demands.specs.Done.{DoneExactly}
 -- every number of a list is above 0
 unfoldable pub allAbove : List Condition → Bool
 allAbove [] = true
-allAbove (c ∷ cs) = ltb 0 (c .number) && allAbove cs
+allAbove (c ∷ cs) = ltb 0 (c .said) && allAbove cs
 
 -- "The first number in order whose condition holds is given"; where it is 0, there is none
 done-only : (cs : List Condition) → allAbove cs ≡ true → firstNumber cs ≡ 0 → noneHolds cs ≡ true
-unfolding allAbove firstNumber noneHolds
+unfolding allAbove firstSaid noneHolds
 done-only [] above done = refl
-done-only (c ∷ cs) above done = go (c .holds) (done-only cs (and-right (ltb 0 (c .number)) (allAbove cs) above)) done
+done-only (c ∷ cs) above done = go (c .holds) (done-only cs (and-right (ltb 0 (c .said)) (allAbove cs) above)) done
   where
-    first-above : 0 < c .number
-    first-above = ltb-true 0 (c .number) (and-left (ltb 0 (c .number)) (allAbove cs) above)
+    first-above : 0 < c .said
+    first-above = ltb-true 0 (c .said) (and-left (ltb 0 (c .said)) (allAbove cs) above)
 
-    go : (holds : Bool) → (firstNumber cs ≡ 0 → noneHolds cs ≡ true) → cond holds (c .number) (firstNumber cs) ≡ 0 → (not holds && noneHolds cs) ≡ true
+    go : (holds : Bool) → (firstNumber cs ≡ 0 → noneHolds cs ≡ true) → cond holds (c .said) (firstNumber cs) ≡ 0 → (not holds && noneHolds cs) ≡ true
     go true later done = absurd (omega (arith, first-above))
     go false later done = later done
 
 done-wherever : (cs : List Condition) → noneHolds cs ≡ true → firstNumber cs ≡ 0
-unfolding firstNumber noneHolds
+unfolding firstSaid noneHolds
 done-wherever [] none = refl
 done-wherever (c ∷ cs) none =
     let off : c .holds ≡ false = not-true (c .holds) (and-left (not (c .holds)) (noneHolds cs) none) in

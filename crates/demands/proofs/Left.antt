@@ -7,6 +7,7 @@ use native.Mathlib.Omega.{arith}
 use borrow.Author.Tests.{eqb-false, not-true}
 use lib.Dec.{eqb}
 use lib.ListN.{length, length-append}
+use Rattle.wire.specs.Numbers.{_when_, firstSaid}
 use Rattle.reading.specs.Place.{Report}
 use Rattle.reading.proofs.Stable.{true-is-not-false}
 use Rattle.wire.proofs.Truths.{and-left, and-right}
@@ -14,30 +15,30 @@ use Rattle.touch.specs.declared.Setup.{Setup}
 use Rattle.demands.specs.Calls.{Moment, Call, afterAll, handedOverAll}
 use Rattle.demands.specs.Reports.{reportWaits}
 use Rattle.demands.specs.AsRead.{stillToHand, AsRead}
-use Rattle.demands.specs.Demand1.{Condition, _when_, firstNumber}
+use Rattle.demands.specs.Demand1.{Condition, firstNumber}
 use Rattle.demands.specs.Done.{Exactly}
 use Rattle.demands.specs.Left.{OneIsLeft}
 
 -- no number of a list is 1
 unfoldable pub noneIsOne : List Condition → Bool
 noneIsOne [] = true
-noneIsOne (c ∷ cs) = not (eqb (c .number) 1) && noneIsOne cs
+noneIsOne (c ∷ cs) = not (eqb (c .said) 1) && noneIsOne cs
 
 never-one : (cs : List Condition) → noneIsOne cs ≡ true → firstNumber cs ≡ 1 → ⊥
-unfolding noneIsOne firstNumber
+unfolding noneIsOne firstSaid
 never-one [] none one = omega arith
-never-one (c ∷ cs) none one = go (c .holds) (never-one cs (and-right (not (eqb (c .number) 1)) (noneIsOne cs) none)) one
+never-one (c ∷ cs) none one = go (c .holds) (never-one cs (and-right (not (eqb (c .said) 1)) (noneIsOne cs) none)) one
   where
-    other : c .number ≡ 1 → ⊥
-    other = eqb-false (c .number) 1 (not-true (eqb (c .number) 1) (and-left (not (eqb (c .number) 1)) (noneIsOne cs) none))
+    other : c .said ≡ 1 → ⊥
+    other = eqb-false (c .said) 1 (not-true (eqb (c .said) 1) (and-left (not (eqb (c .said) 1)) (noneIsOne cs) none))
 
-    go : (holds : Bool) → (firstNumber cs ≡ 1 → ⊥) → cond holds (c .number) (firstNumber cs) ≡ 1 → ⊥
+    go : (holds : Bool) → (firstNumber cs ≡ 1 → ⊥) → cond holds (c .said) (firstNumber cs) ≡ 1 → ⊥
     go true later one = other one
     go false later one = later one
 
 -- where 1 is printed first, it is given exactly where its condition holds
 pub one-first : (holds : Bool) (cs : List Condition) → noneIsOne cs ≡ true → Exactly (firstNumber ((1 when holds) ∷ cs) ≡ 1) (holds ≡ true)
-unfolding firstNumber
+unfolding firstSaid
 one-first true cs none = record { only-when = λ one. refl; wherever = λ is. refl }
 one-first false cs none = record { only-when = λ one. absurd (never-one cs none one); wherever = λ is. true-is-not-false (sym is) }
 

@@ -1,6 +1,7 @@
 -- Asking is answered "nothing" exactly where none of the reading's reports is left.
 use mathlib.Core.Path.{_≡_, sym, ap, _∙_}
 use mathlib.Core.List.{List, []}
+use Rattle.wire.specs.Numbers.{_when_}
 use Rattle.reading.proofs.Moves.{nothing-handed, handed-nothing}
 use Rattle.line.specs.State.{keptOf}
 use Rattle.line.specs.Reached.{reportAs}
@@ -14,7 +15,7 @@ use Rattle.panel.proofs.Invariant.{reachable-sound}
 use Rattle.demands.specs.Calls.{Moment, WellLent, Call, begun, afterAll, numberGiven, reportHanded, handedOver, AllTyped}
 use Rattle.demands.specs.Reports.{rulesOf, reportWaits, waitingReport}
 use Rattle.demands.specs.AsRead.{AsRead}
-use Rattle.demands.specs.Demand1.{_when_}
+
 use Rattle.demands.specs.Done.{Exactly}
 use Rattle.demands.specs.Left.{NoneIsLeft, AnswersNothing, HandsNothingOver, AnsweredNothing, NothingWhereNoneLeft}
 use Rattle.demands.proofs.Calls.{calls-reached}

@@ -7,6 +7,7 @@ use native.Mathlib.Omega.{arith}
 use borrow.Author.Tests.{eqb-true, eqb-false, eq-eqb, ne-eqb}
 use lib.Dec.{eqb, ltb}
 use lib.ListN.{length}
+use Rattle.wire.specs.Numbers.{firstSaid}
 use Rattle.wire.specs.Bytes.{Bytes}
 use Rattle.wire.specs.Room.{over}
 use Rattle.frame.specs.Frame.{frameOf, mostData}
@@ -44,11 +45,11 @@ fed-number true r s = refl
 fed-number false r s = refl
 
 pub byte-number : (now : Moment) → Sound (now .panel) → (b : ℕ) → numberGiven now (byte b) ≡ firstNumber (printed now (byte b))
-unfolding numberGiven printed fedByte givenByte firstNumber
+unfolding numberGiven printed fedByte givenByte firstSaid
 byte-number now sound b = rw (← busy-waits (now .panel) sound) (fed-number (busy (now .panel .reader)) (now .panel .reader) _)
 
 pub mark-number : (now : Moment) → Sound (now .panel) → numberGiven now mark ≡ firstNumber (printed now mark)
-unfolding numberGiven printed fedMark givenMark firstNumber
+unfolding numberGiven printed fedMark givenMark firstSaid
 mark-number now sound = rw (← busy-waits (now .panel) sound) (fed-number (busy (now .panel .reader)) (now .panel .reader) _)
 
 -- bytes one after the other: all are taken, or one comes while a report waits
@@ -76,7 +77,7 @@ bytes-used panel reached (b ∷ bs) are =
     go false ih = one-more (next .used) (length bs) ∙ ih
 
 pub bytes-number : (now : Moment) → Reachable (now .panel) → (bs : List ℕ) → Bytes bs → numberGiven now (bytes bs) ≡ firstNumber (printed now (bytes bs))
-unfolding numberGiven printed fedBytes firstNumber
+unfolding numberGiven printed fedBytes firstSaid
 bytes-number now reached bs are = rw (bytes-used (now .panel) reached bs are) (go (oneComesWhileWaiting (now .panel) bs))
   where
     go : (b : Bool) → _≡_ {A = ℕ} (cond (not b) 0 1) (cond b 1 0)
@@ -85,7 +86,7 @@ bytes-number now reached bs are = rw (bytes-used (now .panel) reached bs are) (g
 
 -- a lift: "lift 1, 10"
 pub lift-number : (now : Moment) → Sound (now .panel) → numberGiven now lift ≡ firstNumber (printed now lift)
-unfolding numberGiven printed lifting liftNumber firstNumber
+unfolding numberGiven printed lifting liftNumber firstSaid
 lift-number now sound = rw (← busy-waits (now .panel) sound) (go (busy (now .panel .reader)) (not (isDown (now .panel .registers))))
   where
     panel : Panel
@@ -100,7 +101,7 @@ lift-number now sound = rw (← busy-waits (now .panel) sound) (go (busy (now .p
 
 -- each call, at a panel that is reached
 pub call-as-printed : (now : Moment) → Reachable (now .panel) → (call : Call) → Typed call → numberGiven now call ≡ firstNumber (printed now call)
-unfolding numberGiven printed firstNumber Typed
+unfolding numberGiven printed firstSaid Typed
 call-as-printed now reached (lend lent) typed = refl
 call-as-printed now reached (byte b) typed = byte-number now (reachable-sound (now .panel) reached) b
 call-as-printed now reached (bytes bs) typed = bytes-number now reached bs typed
@@ -112,7 +113,7 @@ call-as-printed now reached lift typed = lift-number now (reachable-sound (now .
 -- frame writer: "it refuses with 14, then 3"
 pub writer-as-printed : (checking : Bool) (header : List ℕ) (command : ℕ) (payload room : List ℕ)
     → Writer.numberOfWritten (writing checking header command payload room .answer) ≡ firstNumber (printedWriter checking payload room)
-unfolding writing Writer.numberOfWritten printedWriter roomTooSmall firstNumber
+unfolding writing Writer.numberOfWritten printedWriter roomTooSmall firstSaid
 writer-as-printed checking header command payload room = go (ltb (length room) leastRoom) (ltb (mostData checking) (length payload))
   where
     frame : List ℕ

@@ -5,6 +5,7 @@ use mathlib.Core.List.{List, [], _∷_, _++_, map, append-nil, append-assoc}
 use Prim.Native.Nat.{ℕ, suc, _<_}
 use borrow.Author.Tests.{eq-eqb}
 use lib.ListN.{length}
+use Rattle.wire.specs.Numbers.{_when_, firstSaid}
 use Rattle.wire.specs.Addresses.{wordCount}
 use Rattle.wire.specs.Bytes.{Bytes}
 use Rattle.reading.proofs.Stable.{true-is-not-false}
@@ -18,7 +19,7 @@ use Rattle.panel.proofs.Invariant.{reachable-sound}
 use Rattle.demands.specs.Calls.{Moment, Call, byte, mark, contact, lift, begun, after, afterAll, numberGiven, Typed, AllTyped}
 use Rattle.demands.specs.Reports.{reportWaits}
 use Rattle.demands.specs.AsRead.{AsRead}
-use Rattle.demands.specs.Demand1.{Condition, _when_, firstNumber, wordsNotLent, oneComesWhileWaiting, notWholeRecords, oneWrong, offScreen, printed}
+use Rattle.demands.specs.Demand1.{Condition, firstNumber, wordsNotLent, oneComesWhileWaiting, notWholeRecords, oneWrong, offScreen, printed}
 use Rattle.demands.specs.Done.{Exactly}
 use Rattle.demands.specs.Left.{OneIsLeft, OneComesWhileLeft, AnsweredOne, OneWhileLeft}
 use Rattle.demands.proofs.Calls.{after-then, calls-reached}
@@ -103,7 +104,7 @@ module _ (setup : Setup) (now : Moment) (reachable : Reachable (now .panel)) (al
       }
 
   answered-one : (calls : List Call) → AllTyped calls → AnsweredOne setup now calls
-  unfolding printed firstNumber noneIsOne wordsNotLent
+  unfolding printed firstSaid noneIsOne wordsNotLent
   answered-one calls typed =
       let last = afterAll now calls in
       let sound = reached calls typed in

@@ -6,6 +6,7 @@ use Prim.Native.Nat.{ℕ, suc, _+_, _<_}
 use native.Mathlib.Omega.{arith}
 use lib.Dec.{eqb, ltb}
 use lib.ListN.{length}
+use Rattle.wire.specs.Numbers.{firstSaid}
 use Rattle.line.specs.Methods.{busy}
 use Rattle.wire.proofs.Truths.{never}
 use Rattle.registers.specs.Touched.{isTouchOff}
@@ -84,7 +85,7 @@ module _ (panel : Panel) (c : Contact) (lent : Lent) where
 
 pub contact-number : (now : Moment) → Sound (now .panel) → (c : Contact)
     → numberGiven now (contact c) ≡ firstNumber (printed now (contact c))
-unfolding numberGiven printed contacting contactNumber wordsNotLent firstNumber
+unfolding numberGiven printed contacting contactNumber wordsNotLent firstSaid
 contact-number now sound c = rw (← busy-waits (now .panel) sound) (go (not (eqb (length (now .lent .words)) wordCount)) (busy (now .panel .reader)))
   where
     panel : Panel
@@ -101,7 +102,7 @@ contact-number now sound c = rw (← busy-waits (now .panel) sound) (go (not (eq
 
 -- "start 11, 12, 13"
 pub start-as-printed : (setup : Setup) (table : List ℕ) → startNumber (started setup table .answer) ≡ firstNumber (printedStart setup table)
-unfolding started startJudged judged startNumber printedStart notWholeRecords firstNumber
+unfolding started startJudged judged startNumber printedStart notWholeRecords firstSaid
 start-as-printed setup table =
     rw (some-wrong setup 0 (recordsOf table)) (go (not (goodSetup setup)) (notWholeRecords table) (firstOf (wrong setup) 0 (recordsOf table)))
   where

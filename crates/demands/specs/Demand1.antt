@@ -10,6 +10,7 @@ use mathlib.Core.List.{List, [], _∷_, _++_, map}
 use lib.Dec.{eqb, ltb}
 use lib.ListN.{length}
 use Rattle.wire.specs.Room.{over}
+use Rattle.wire.specs.Numbers.{Entry, _when_, firstSaid}
 use Rattle.wire.specs.Addresses.{wordCount}
 use Rattle.frame.specs.Frame.{mostData}
 use Rattle.frame.specs.Writer.{leastRoom}
@@ -28,19 +29,12 @@ use Rattle.demands.specs.Calls.{Moment, Call, lend, byte, bytes, mark, a
 use Rattle.demands.specs.Reports.{reportWaits, waitingReport, readBehind, acknowledgementOf}
 
 -- "Given exactly when": a number of the table and whether its condition holds
-pub record Condition : Type 0 where
-  pub number : ℕ
-  pub holds : Bool
-
--- builds one: this number is given where that holds
-infix 20 _when_
-abbrev pub _when_ : ℕ → Bool → Condition
-n when holds = record { number = n; holds = holds }
+abbrev pub Condition : Type 0
+Condition = Entry ℕ
 
 -- "The first number in order whose condition holds is given"; "0: done"
-unfoldable pub firstNumber : List Condition → ℕ
-firstNumber [] = 0
-firstNumber (c ∷ cs) = cond (c .holds) (c .number) (firstNumber cs)
+abbrev pub firstNumber : List Condition → ℕ
+firstNumber cs = firstSaid cs 0
 
 -- no condition of a list holds
 unfoldable pub noneHolds : List Condition → Bool
@@ -53,7 +47,7 @@ pub record GivenUnder (cs : List Condition) (n : ℕ) : Type 0 where
   pub condition : Condition
   pub behind : List Condition
   pub place : cs ≡ before ++ (condition ∷ behind)
-  pub number : condition .number ≡ n
+  pub number : condition .said ≡ n
   pub holds : condition .holds ≡ true
   pub none-before : noneHolds before ≡ true
 
