@@ -46,7 +46,7 @@ frameNumbers setup command content =
 -- the numbers alone of what is said of a command
 numbers-said : (setup : Setup) (room command : ℕ) (content : List ℕ)
     → performSaid (fixedFor setup) wordCount room command content .number ≡ firstNumber (frameNumbers setup command content)
-unfolding performSaid performListed firstSaid 
+unfolding performSaid performListed firstSaid
 numbers-said setup room command content =
     go (notCommand command content) (wrongData command content) (passesEnd wordCount command content) (touchesUnwritable command content)
     (valueWrong (setup .pages) command content) (replyPasses (checkingOf setup) command content) _

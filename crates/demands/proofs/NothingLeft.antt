@@ -15,7 +15,6 @@ use Rattle.panel.proofs.Invariant.{reachable-sound}
 use Rattle.demands.specs.Calls.{Moment, WellLent, Call, begun, afterAll, numberGiven, reportHanded, handedOver, AllTyped}
 use Rattle.demands.specs.Reports.{rulesOf, reportWaits, waitingReport}
 use Rattle.demands.specs.AsRead.{AsRead}
-
 use Rattle.demands.specs.Done.{Exactly}
 use Rattle.demands.specs.Left.{NoneIsLeft, AnswersNothing, HandsNothingOver, AnsweredNothing, NothingWhereNoneLeft}
 use Rattle.demands.proofs.Calls.{calls-reached}

@@ -20,9 +20,8 @@ use Rattle.trace.specs.declared.Stepped.{Stepped}
 use Rattle.trace.specs.declared.Trace.{Trace}
 use Rattle.trace.specs.State.{Held, holds, waits, isLent}
 use Rattle.trace.specs.Steps.{Stepping, steps, stepping}
+use Rattle.printing.specs.Reached.{HeldSound, outputFrom}
 use Rattle.printing.proofs.ByTest.{by-test}
-use Rattle.printing.proofs.HeldSound.{HeldSound}
-use Rattle.printing.proofs.Outputs.{outputFrom}
 use Rattle.printing.proofs.Feeding.{CallOnward, call-onward, call-done}
 use Rattle.panel_trace.specs.Inner.{callsLeft, Filling}
 

@@ -17,8 +17,9 @@ use Rattle.trace.specs.declared.Trace.{Trace}
 use Rattle.items.specs.Records.{tableBytes}
 use Rattle.trace.specs.State.{Held, holds, newTrace, waits}
 use Rattle.trace.specs.Output.{newHeld, traceOutput}
-use Rattle.printing.proofs.HeldSound.{HeldSound, new-quiet, new-held-sound}
-use Rattle.printing.proofs.Outputs.{outputFrom, quiet-output}
+use Rattle.printing.specs.Reached.{HeldSound, outputFrom}
+use Rattle.printing.proofs.HeldSound.{new-quiet, new-held-sound}
+use Rattle.printing.proofs.Outputs.{quiet-output}
 use Rattle.panel_trace.specs.Inner.{callsLeft, Filling, Passing}
 use Rattle.panel_trace.specs.Program.{ReadSoFar}
 use Rattle.panel_trace.proofs.Going.{or-some, or-none-left, or-none-right}

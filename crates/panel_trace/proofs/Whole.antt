@@ -16,8 +16,8 @@ use Rattle.items.specs.Stages.{isOver}
 use Rattle.items.specs.Records.{tableBytes}
 use Rattle.trace.specs.State.{Held}
 use Rattle.trace.specs.Output.{endText, Ending, ends, ending, traceOutput}
+use Rattle.printing.specs.Reached.{HeldSound}
 use Rattle.printing.proofs.ByTest.{by-test}
-use Rattle.printing.proofs.HeldSound.{HeldSound}
 use Rattle.printing.proofs.Outputs.{end-output, over-output}
 use Rattle.panel_trace.specs.Program.{ReadSoFar}
 

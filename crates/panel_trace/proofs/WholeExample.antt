@@ -9,7 +9,8 @@ use Rattle.trace.specs.State.{newTrace, waits}
 use Rattle.trace.specs.Lines.{wrongText}
 use Rattle.trace.specs.Events.{tookByte}
 use Rattle.trace.specs.Output.{newHeld, traceOutput}
-use Rattle.printing.proofs.HeldSound.{HeldSound, new-quiet, new-held-sound, byte-held-sound}
+use Rattle.printing.specs.Reached.{HeldSound}
+use Rattle.printing.proofs.HeldSound.{new-quiet, new-held-sound, byte-held-sound}
 use Rattle.printing.proofs.Outputs.{quiet-output, byte-output}
 use Rattle.panel_trace.specs.Program.{ReadSoFar}
 use Rattle.panel_trace.proofs.Whole.{stopped-whole}

@@ -6,10 +6,8 @@ use mathlib.Core.Bool.{true, false}
 use mathlib.Core.List.{List, _++_}
 use lib.ListN.{length, drop}
 use Rattle.trace.specs.State.{Held, waits}
+use Rattle.printing.specs.Reached.{HeldSound, keptBy, outputFrom}
 use Rattle.printing.specs.Feeding.{callsEach}
-use Rattle.printing.proofs.HeldSound.{HeldSound}
-use Rattle.printing.proofs.AllReports.{keptBy}
-use Rattle.printing.proofs.Outputs.{outputFrom}
 
 -- how many calls of `step` are enough for what is held and what is left of the input
 abbrev pub callsLeft : Held → List ℕ → ℕ

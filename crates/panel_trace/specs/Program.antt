@@ -5,7 +5,7 @@ use mathlib.Core.Bool.{false}
 use mathlib.Core.List.{List, _++_}
 use Rattle.trace.specs.State.{Held, waits}
 use Rattle.trace.specs.Output.{traceOutput}
-use Rattle.printing.proofs.Outputs.{outputFrom}
+use Rattle.printing.specs.Reached.{outputFrom}
 
 -- This input was read, and the texts laid in the room, one after the other, are this text: whatever else is read, what the program prints for all of it is this text and then what is printed from what is held; and no report waits.
 pub record ReadSoFar (held : Held) : Type 0 where

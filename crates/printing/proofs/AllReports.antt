@@ -1,6 +1,6 @@
 -- Laws of `allReports`: each report leaves fewer of the bytes kept, at most as many as the longest frame has, so asking more often changes nothing.
 use mathlib.Core.Path.{_≡_, refl, sym, ap, _∙_}
-use mathlib.Core.Bool.{Bool, true, false, cond}
+use mathlib.Core.Bool.{Bool, true, false}
 use mathlib.Core.List.{[]}
 use Prim.Native.Nat.{ℕ, zero, suc, _-_, _≤_, _<_}
 use native.Mathlib.Omega.{arith}
@@ -26,8 +26,9 @@ use Rattle.items.specs.Stages.{isStarted}
 use Rattle.trace.specs.State.{Held, Shown, shows, following, waits}
 use Rattle.trace.specs.Events.{reportShown}
 use Rattle.trace.specs.Output.{allReports}
+use Rattle.printing.specs.Reached.{HeldSound, keptBy}
 use Rattle.printing.proofs.ByTest.{by-test}
-use Rattle.printing.proofs.HeldSound.{HeldSound, waits-started, report-held-sound}
+use Rattle.printing.proofs.HeldSound.{waits-started, report-held-sound}
 
 -- ---- A report that waits is handed over, and leaves fewer bytes
 
@@ -62,10 +63,6 @@ module _ (panel : Panel) (memory : Memory) (sound : Sound panel) (is-busy : busy
       omega (arith, report-shorter (rulesFor line-is) kept-is is-waiting)
 
 -- ---- Asking again and again
-
--- how many bytes the reader of a panel keeps that is started
-abbrev pub keptBy : Held → ℕ
-keptBy held = cond (isStarted (held .trace .stage)) (held .trace .panel .reader .len) 0
 
 pub report-fewer : (held : Held) → HeldSound held → waits (held .trace) ≡ true → keptBy (reportShown held .held) < keptBy held
 unfolding isStarted

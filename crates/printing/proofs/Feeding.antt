@@ -21,11 +21,11 @@ use Rattle.items.specs.Records.{tableBytes}
 use Rattle.trace.specs.State.{Held, newTrace, waits, lentTo, isLent}
 use Rattle.trace.specs.Steps.{step, Stepping, stepping}
 use Rattle.trace.specs.Output.{endText, Ending, ending, newHeld, traceOutput}
+use Rattle.printing.specs.Reached.{HeldSound, keptBy, outputFrom}
 use Rattle.printing.specs.Feeding.{stepCalled, heldAfter, endCalled, Fed, by-step, by-end, by-stop, Caller, calls, callsEach}
 use Rattle.printing.proofs.ByTest.{by-test}
-use Rattle.printing.proofs.HeldSound.{HeldSound, new-quiet, new-held-sound}
-use Rattle.printing.proofs.AllReports.{keptBy}
-use Rattle.printing.proofs.Outputs.{outputFrom, quiet-output, end-output, over-output}
+use Rattle.printing.proofs.HeldSound.{new-quiet, new-held-sound}
+use Rattle.printing.proofs.Outputs.{quiet-output, end-output, over-output}
 use Rattle.printing.proofs.Onward.{step-onward}
 
 -- what a call of `step` that is done leaves

@@ -32,25 +32,10 @@ use Rattle.trace.specs.declared.Trace.{Trace}
 use Rattle.trace.specs.State.{Held, Shown, showsTold, withTrace, metTable, newTrace, idle, withPanel, stopped, waits}
 use Rattle.trace.specs.Events.{recordPut, startedBy, eventAnswered, eventDone, itemDone, grown, tookByte, reportShown}
 use Rattle.trace.specs.Output.{newHeld}
+use Rattle.printing.specs.Reached.{ItemSound, HeldSound}
 use Rattle.printing.proofs.ByTest.{by-test}
 use Rattle.panel.specs.Contacts.{Contact, contactAt}
 use Rattle.panel.proofs.Lengths.{reported-words-long, contacted-words-long}
-
--- an item is gathered in the bytes of the longest, all 0 between two items
-pub record ItemSound (trace : Trace) : Type 0 where
-  pub long : length (trace .item) ≡ itemBytes
-  pub are-bytes : Bytes (trace .item)
-  pub none : trace .have ≡ 0 → trace .item ≡ noItem
-
--- what is known of all that is held, from the first byte of the input on
-pub record HeldSound (held : Held) : Type 0 where
-  -- the panel is sound once it is started
-  pub panel : isStarted (held .trace .stage) ≡ true → Sound (held .trace .panel)
-  -- after an X no item is gathered
-  pub over : isOver (held .trace .stage) ≡ true → held .trace .have ≡ 0
-  pub item : ItemSound (held .trace)
-  pub table : tableBytes ≤ length (held .table)
-  pub memory : Whole (held .memory)
 
 bytes-zeros : (n : ℕ) → Bytes (replicate n 0)
 bytes-zeros zero i = omega arith

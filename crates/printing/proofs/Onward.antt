@@ -24,11 +24,12 @@ use Rattle.items.specs.Stages.{isStarted}
 use Rattle.items.specs.Runs.{lineRun}
 use Rattle.trace.specs.State.{Held, holds, shows, withPanel, withTrace, waits}
 use Rattle.trace.specs.Steps.{Step, takes, ranBytes, tookOne, longestRun, tookLines, tookInput, step}
+use Rattle.printing.specs.Reached.{HeldSound, keptBy, outputFrom}
 use Rattle.printing.specs.Feeding.{callsEach}
 use Rattle.printing.proofs.ByTest.{by-test}
-use Rattle.printing.proofs.HeldSound.{HeldSound, byte-held-sound, report-held-sound, run-held-sound}
-use Rattle.printing.proofs.AllReports.{keptBy, report-fewer, kept-at-most}
-use Rattle.printing.proofs.Outputs.{outputFrom, report-output, byte-output, fed-none, fed-more, between, run-output}
+use Rattle.printing.proofs.HeldSound.{byte-held-sound, report-held-sound, run-held-sound}
+use Rattle.printing.proofs.AllReports.{report-fewer, kept-at-most}
+use Rattle.printing.proofs.Outputs.{report-output, byte-output, fed-none, fed-more, between, run-output}
 
 -- a step leaves what is sound, what is printed before it is its text and what is printed behind it, and one that has something to do comes nearer to the end
 pub record Onward (held : Held) (chunk rest : List ℕ) (s : Step) : Type 0 where

@@ -25,12 +25,8 @@ use Rattle.items.specs.Runs.{lineRun}
 use Rattle.trace.specs.State.{Held, holds, Shown, shows, gathering, waits}
 use Rattle.trace.specs.Events.{startedBy, eventAnswered, eventDone, itemDone, grown, tookByte, reportShown}
 use Rattle.trace.specs.Output.{allReports, endAt, endText, inputText}
-use Rattle.printing.proofs.HeldSound.{HeldSound}
+use Rattle.printing.specs.Reached.{HeldSound, outputFrom}
 use Rattle.printing.proofs.AllReports.{none-reported, first-reported}
-
--- the reports that wait, and then what the input prints
-unfoldable pub outputFrom : Held → List ℕ → List ℕ
-outputFrom held input = allReports longestFrame held .text ++ inputText (allReports longestFrame held .held) input
 
 pub quiet-output : (held : Held) (input : List ℕ) → waits (held .trace) ≡ false → outputFrom held input ≡ inputText held input
 unfolding outputFrom

@@ -6,7 +6,7 @@ use lib.ListN.{length}
 use Rattle.telling.specs.Memory.{remembering}
 use Rattle.telling.specs.Told.{leastText}
 use Rattle.trace.specs.State.{holds}
-use Rattle.printing.proofs.HeldSound.{HeldSound}
+use Rattle.printing.specs.Reached.{HeldSound}
 use Rattle.panel_trace.specs.Program.{ReadSoFar}
 use Rattle.panel_trace.proofs.Passes.{begins-sound, reads-first, reads-if-well, reads-kept, reads-none}
 use Rattle.panel_trace.proofs.read_all.Statement.{statement}
