@@ -25,9 +25,6 @@ pub const ITEM_BYTES: usize = RECORD_BYTES + 1;
 // "table longer than 128 records": one record more is kept, and that shows it; `keptRecords` in specs/.
 pub const KEPT_RECORDS: usize = MOST_RECORDS + 1;
 
-// How many bytes a table of that many records has; `tableBytes` in specs/.
-pub const TABLE_BYTES: usize = KEPT_RECORDS * RECORD_BYTES;
-
 // How far the input has come: nothing yet; setup and records; events; after an X.
 pub enum Stage {
     Bare,

@@ -6,9 +6,11 @@ ghost use Rattle.trace.specs.State.{newTrace, waits, holds};
 ghost use Rattle.trace.specs.Steps.{steps, stepping, stepSaid, saidOfStep};
 ghost use Rattle.trace.specs.Output.{ends, ending, endSaid, saidOfEnd};
 use items::ITEM_BYTES;
+use items::KEPT_RECORDS;
 use items::Stage;
 use panel::Panel;
 use text::Line;
+use touch::RECORD_BYTES;
 use touch::Setup;
 
 mod byte;
@@ -22,8 +24,10 @@ mod report;
 mod run;
 mod step;
 
-pub use items::TABLE_BYTES;
 pub use telling::LEAST_TEXT;
+
+// How many bytes of table must be lent; `tableBytes` in specs/.
+pub const TABLE_BYTES: usize = KEPT_RECORDS * RECORD_BYTES;
 
 pub struct Trace {
     stage: Stage,
