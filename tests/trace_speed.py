@@ -61,6 +61,7 @@ def kinds(r):
     yield "two line bytes and a mark in turn", filled(lambda: on_line(r.randbytes(2)) + b"\x02")
     yield "lifts and marks in turn", OPENING + b"\x04\x02" * (SIZE // 2)
     yield "contacts and lifts in turn", filled(lambda: some_contact(r) + b"\x04")
+    yield "contacts on and off the screen and lifts in turn", filled(lambda: b"\x03" + r.randbytes(4) + b"\x04")
     yield "short reads, each with a mark", filled(lambda: some_read(r) + b"\x02")
     sessions = [trace for trace in (drawn(seed)[0] for seed in range(100)) if all(kind is not None for kind, _ in split(trace))]
     yield "drawn sessions, one behind the other", filled(lambda: r.choice(sessions))

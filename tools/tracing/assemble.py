@@ -1,4 +1,5 @@
 """A whole text into the bytes of a trace, or the first mistake in it."""
+import functools
 import re
 
 from . import layout
@@ -106,29 +107,83 @@ class Assembler:
         return frame
 
 
-def lines_of(text):
-    """A block at a time: all lines at once would take several times the room of the text."""
+# ---- Marks, lifts, contacts and single bytes
+
+# A trace of 10 MB may have millions of them one behind the other. Where they are spelled as `show` spells them, a whole run is read at once.
+# The line feed in front is that of the line before, and makes the search fast.
+PLAIN_RUN = re.compile("\n((?:(?:lift|quiet|line [0-9A-F]{2}|contact [0-9]{1,5} [0-9]{1,5})\n){8,})")
+
+
+@functools.cache
+def spelled_words():
+    """Each word of such a run, a line byte behind its name, with its bytes."""
+    kinds = {"lift": layout.LIFT_KIND, "quiet": layout.QUIET_KIND, "contact": layout.CONTACT_KIND}
+    words = {word: bytes([kind]) for word, kind in kinds.items()}
+    words |= {f"line{byte:02X}": bytes([layout.BYTE_KIND, byte]) for byte in range(256)}
+    return words | {str(n): n.to_bytes(2, "big") for n in range(1 << 16)}
+
+
+def run_bytes(run):
+    """The bytes of a run; None where a number is out of range or spelled otherwise, so that its lines have to be read one by one."""
+    try:
+        return b"".join(map(spelled_words().__getitem__, run.replace("line ", "line").split()))
+    except KeyError:
+        return None
+
+
+# ---- The whole
+
+def pieces_of(text):
+    """Runs, and the lines between them. A block at a time: all lines at once would take several times the room of the text."""
     at = 0
     while at < len(text):
         end = text.find("\n", at + BLOCK) + 1 or len(text)
-        yield from text[at:end].removesuffix("\n").split("\n")
+        block, done = text[at:end], 0
+        for found in PLAIN_RUN.finditer(block):
+            yield block[done:found.start(1)], None
+            yield found[1], run_bytes(found[1])
+            done = found.end()
+        yield block[done:], None
         at = end
+
+
+class Trace:
+    """The bytes so far, and how many lines they are made of."""
+
+    def __init__(self, source, tick):
+        self.source, self.tick = source, tick
+        self.assembler, self.bytes, self.lines = Assembler(), bytearray(), 0
+
+    def take_run(self, run, found):
+        before = self.lines
+        self.bytes += found
+        self.lines += run.count("\n")
+        if before >> 16 != self.lines >> 16:
+            self.tick(self.lines)
+
+    def take_lines(self, piece):
+        known, assemble, trace = self.assembler.known, self.assembler.assemble, self.bytes
+        for at, line in enumerate(piece.removesuffix("\n").split("\n"), self.lines + 1):
+            try:
+                trace += known.get(line) or assemble(line)
+                if len(trace) > MOST_BYTES:
+                    check_length(len(trace))
+            except Mistake as mistake:
+                raise Mistake(f"{self.source}, line {at}: {mistake}") from None
+            if not at & 0xFFFF:
+                self.tick(at)
+        self.lines = at
 
 
 def trace_of(text, source="text", tick=lambda lines: None):
     """The bytes of a text. A mistake is told with the source's name and the line's number; `tick` hears now and then how many lines are done."""
-    assembler, trace = Assembler(), bytearray()
-    known = assembler.known
-    for at, line in enumerate(lines_of(text), 1):
-        try:
-            trace += known.get(line) or assembler.assemble(line)
-            if len(trace) > MOST_BYTES:
-                check_length(len(trace))
-        except Mistake as mistake:
-            raise Mistake(f"{source}, line {at}: {mistake}") from None
-        if not at & 0xFFFF:
-            tick(at)
-    return bytes(trace)
+    trace = Trace(source, tick)
+    for piece, found in pieces_of(text):
+        if found is not None and len(trace.bytes) + len(found) <= MOST_BYTES:
+            trace.take_run(piece, found)
+        elif piece:
+            trace.take_lines(piece)
+    return bytes(trace.bytes)
 
 
 def refuse(data, at, source, reason):
