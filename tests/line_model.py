@@ -29,6 +29,12 @@ def frame(header, checking, command, data):
     return [*header, len(content) + len(tail), *content, *tail]
 
 
+def acknowledgement(header, command, verdict):
+    """02, §1: the length byte is 02, though the check bytes follow."""
+    v = check([command, verdict])
+    return [*header, 2, command, verdict, v & 255, v >> 8]
+
+
 def read_stretch(header, checking, stretch, closed):
     """The reports of a stretch, as lines."""
     reports, p = [], 0
@@ -132,6 +138,14 @@ def cases(seed=1, count=40):
         yield f"header {h[0]:02X} {h[1]:02X}, checking on", h, True, [h[0], *good, "?", *good, "?", "|", "?", *h, *h, h[0], "|", "?", *good, "?"]
         yield f"header {h[0]:02X} {h[1]:02X}, checking off", h, False, [h[0], *short, "?", *short, "?", "|", "?", *short, "?"]
         yield f"header {h[0]:02X} {h[1]:02X}, header bytes only", h, True, [("[", [h[0]] * 300), "?", "|", "?", ("[", [h[0]] * 100), "|", "?"]
+    for verdict in (0xFF, 0x00):
+        echoes = [acknowledgement(H, command, verdict) for command in range(256)]
+        yield f"acknowledgements with {verdict:02X}, of every command byte, each before a good frame", H, True, [
+            g for echo in echoes for g in (("[", echo), "?", ("[", READ), "?", "|")]
+        yield f"acknowledgements with {verdict:02X}, eight behind each other, closed by a mark behind a good frame", H, True, [
+            g for k in range(0, 256, 8) for g in (("[", sum(echoes[k:k + 8], [])), "?", ("[", WRITE), "?", "|", "?")]
+    inside, lost = acknowledgement((2, 2), 0x08, 0xFF), frame((2, 2), True, 0xF2, [0x78, 0x00])
+    yield "an acknowledgement with the header inside: a good frame behind it is lost", (2, 2), True, [*inside, *lost, "?", "|", "?", *lost, "?"]
     draw = random.Random(seed)
     for k in range(count):
         h = draw.choice([H, H, (0xFF, 0xFF), (0, 0), (3, 4)])

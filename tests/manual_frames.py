@@ -11,14 +11,17 @@ from trace_text import QUIET_KIND, SETUP_KIND, on_line, setup_bytes
 FRAMES = pathlib.Path(__file__).with_name("manual_frames.txt")
 
 
+FLAGS = {"off": 0, "on": 1, "both": 3}
+
+
 class Frame(NamedTuple):
     where: str
-    checking: bool
+    flags: int
     line: bytes
     printed: list       # the lines, which are read behind the frame
 
     def trace(self):
-        setup = model.Setup(self.line[0], self.line[1], int(self.checking), 16, 800, 480)
+        setup = model.Setup(self.line[0], self.line[1], self.flags, 16, 800, 480)
         return bytes([SETUP_KIND]) + setup_bytes(setup) + on_line(self.line) + bytes([QUIET_KIND])
 
     def output(self):
@@ -31,8 +34,8 @@ def frames(text):
         word, _, rest = line.partition(" ")
         if word == "at":
             where = rest
-        elif word in ("on", "off"):
-            found.append(Frame(where, word == "on", bytes.fromhex(rest), []))
+        elif word in FLAGS:
+            found.append(Frame(where, FLAGS[word], bytes.fromhex(rest), []))
         elif word == ">":
             found[-1].printed.append(rest)
         elif word not in ("", "#"):

@@ -1,10 +1,11 @@
 #!/usr/bin/env python3
-"""A model of document 01, "The build and its rules", written from the document alone; to be read beside it, section by section.
+"""A model of document 01, "The build and its rules", written from the document and the requests of 02 that it was changed by (§1); to be read beside them,
+section by section.
 
     model.py < TRACE       prints what the panel program must print for a trace
     model.py --examples    runs 01's printed trace, its examples a to j and the reads and writes it wants run; exit status 0 if all are right
 
-Each part below bears the name of the section of 01 that it states. Numbers are those of 01's table "Numbers given back".
+Each part below bears the name of the section of 01 that it states, and a rule of 02 says so. Numbers are those of 01's table "Numbers given back".
 """
 import sys
 from typing import NamedTuple
@@ -42,6 +43,13 @@ def frame(setup, command, data):
 
 def data_limit(setup):
     return 252 if setup.checking else 254
+
+
+def acknowledgement(setup, command, accepted):
+    """02, §1: the length byte is 02, though the check bytes follow: seven bytes."""
+    content = bytes((command, 0xFF if accepted else 0x00))
+    value = check_value(content)
+    return setup.header + b"\x02" + content + bytes((value % 256, value // 256))
 
 
 # ---- Reading the line
@@ -310,17 +318,17 @@ class Panel:
         if not self.line.waiting:
             return Handed("nothing")
         report = self.line.hand_over()
-        acknowledgement = b""
+        acknowledged = b""
         if self.setup.checking and self.setup.acknowledging:
-            acknowledgement = frame(self.setup, report.command, [0xFF if report.accepted else 0x00])
+            acknowledged = acknowledgement(self.setup, report.command, report.accepted)
         number, reply = 0, b""
         if report.accepted:
             number = self.judge(report.command, report.data)
             if number == 0:
                 reply = self.perform(report.command, report.data, words)
-        written = acknowledgement + reply
+        written = acknowledged + reply
         room[:len(written)] = written
-        return Handed("F" if report.accepted else "B", report, number, len(acknowledgement), len(reply))
+        return Handed("F" if report.accepted else "B", report, number, len(acknowledged), len(reply))
 
     def judge(self, command, data):
         """2 to 7: the first in order whose condition holds."""
@@ -530,13 +538,13 @@ def example_slider(begin, end, x):
 
 
 def examples():
-    """Each: what, what 01 says, what the model says."""
+    """Each: what, what 01 says (c and d as 02, §1, changes them), what the model says."""
     on, off, acking = (Setup(0x5A, 0xA5, flags, 2, 800, 480) for flags in (1, 0, 3))
     yield "trace", PRINTED_OUTPUT, trace_output(PRINTED_TRACE)
     yield "a", 0xFFFF, check_value(b"")
     yield "b", 0x28E0, check_value(b"\x81\x00\x01")
-    yield "c", "5aa50481ff21a0", frame(acking, 0x81, [0xFF]).hex()
-    yield "d", "5aa504810061e0", frame(acking, 0x81, [0x00]).hex()
+    yield "c", "5aa50281ff21a0", acknowledgement(acking, 0x81, True).hex()
+    yield "d", "5aa502810061e0", acknowledgement(acking, 0x81, False).hex()
     yield "e", [("F", 0x81, 0)], given(on, [*bytes.fromhex("5AA540 5AA505810001E028"), None])[0]
     yield "f", 500, given(off, bytes.fromhex("5AA50582001001F4"))[1][0x10]
     yield "g", (100, 0), (example_step(0), example_step(1))

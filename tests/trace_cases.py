@@ -112,9 +112,18 @@ def noisy_line(s):
     s.line(good * 40)
 
 
+def acknowledgements(s):
+    """Of every command byte, for a right check and for a wrong one; each comes back, as on a line of two wires."""
+    for command in range(256):
+        for frame, accepted in ((model.frame(s.setup, command, b""), True), (spoiled(model.frame(s.setup, command, b"")), False)):
+            s.line(frame)
+            s.line(model.acknowledgement(s.setup, command, accepted))
+    s.quiet()
+
+
 def session():
     s = Cases(random.Random(1), SETUP, TABLE)
-    for group in (commands, keys_and_steps, sliders, next_pages, catches, noisy_line):
+    for group in (commands, keys_and_steps, sliders, next_pages, catches, noisy_line, acknowledgements):
         group(s)
     s.show(10)
     return bytes(s.trace)

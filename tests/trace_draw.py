@@ -142,6 +142,14 @@ class Session:
         self.maybe_quiet()
         self.line(self.good_frame())
 
+    def echo(self):
+        """What the panel has sent comes back, as on a line of two wires: acknowledgements alone, or replies too; then good frames."""
+        self.frames()
+        sent = [bytes.fromhex(line[2:]) for line in self.beside.lines[-self.r.randrange(2, 9):] if line[0] == "O"]
+        with_replies = self.r.random() < 0.3
+        self.line(b"".join(frame for frame in sent if with_replies or frame[2:3] == b"\x02") + self.good_frames())
+        self.maybe_quiet()
+
     def longest_frame(self):
         limit = model.data_limit(self.setup)
         head = self.r.choice((b"\x00\x10", b"\x6F\x83", b"\x6F\x84"))
@@ -247,7 +255,7 @@ class Session:
         self.send(0x81, [0x00, 0x1D])
 
     def run(self):
-        pieces = {self.frames: 6, self.noisy: 3, self.false_front: 3, self.frames_inside: 3, self.cut_frame: 2, self.longest_frame: 1,
+        pieces = {self.frames: 6, self.noisy: 3, self.false_front: 3, self.frames_inside: 3, self.cut_frame: 2, self.echo: 2, self.longest_frame: 1,
                   self.limit_read: 1, self.quiet: 1, self.touch: 5, self.press: 4, self.drag: 5, self.change_page: 2,
                   self.contact_while_off: 1, self.look_back: 2}
         for piece in self.r.choices(list(pieces), list(pieces.values()), k=self.r.randrange(5, 30)):

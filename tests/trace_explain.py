@@ -16,7 +16,7 @@ from tracing.explain import Explainer, Known, known_of
 SEEDS = range(75)
 USUAL = Known(b"\x5A\xA5", True)
 PLAIN = USUAL._replace(checking=False)
-ACKNOWLEDGED = "F 81 0\nO 5A A5 04 81 FF 21 A0\nO 5A A5 06 81 00 01 10 28 44\n"
+ACKNOWLEDGED = "F 81 0\nO 5A A5 02 81 FF 21 A0\nO 5A A5 06 81 00 01 10 28 44\n"
 FIRST = known_of(model.PRINTED_TRACE)
 
 # What is known, an output, and what is said of each line. Of these nothing is strange.
@@ -27,7 +27,7 @@ RIGHT = [
     (FIRST, model.PRINTED_OUTPUT, [
         "accepted: 81, read registers: done", "reply to 81, read registers: address 00, count 1, data 10; check right",
         "contact 11 11: done", "lift: done", "end: page 0 is shown"]),
-    (USUAL, ACKNOWLEDGED + "B 5A\nO 5A A5 04 5A 00 3B 10\nF 82 4\nO 5A A5 04 82 FF 21 50\nT 9\nT 10\nE 00FF\n", [
+    (USUAL, ACKNOWLEDGED + "B 5A\nO 5A A5 02 5A 00 3B 10\nF 82 4\nO 5A A5 02 82 FF 21 50\nT 9\nT 10\nE 00FF\n", [
         "accepted: 81, read registers: done", "acknowledgement of 81: accepted (FF); check right",
         "reply to 81, read registers: address 00, count 1, data 10; check right",
         "bad check: 5A: nothing is done", "acknowledgement of 5A: bad check (00); check right",
@@ -70,7 +70,7 @@ STRANGE = [
     (USUAL, "T 0\nX 11\n", 1, "not the program's: start is made before anything is printed"),
     (USUAL, "T 0\n", 1, "not whole: neither E nor X ends the output"),
     (USUAL, "", 0, "not whole: neither E nor X ends the output"),
-    (USUAL, "O 5A A5 04 81 FF 21 A0\nE 0000\n", 0, "not the program's: no frame is due here"),
+    (USUAL, "O 5A A5 02 81 FF 21 A0\nE 0000\n", 0, "not the program's: no frame is due here"),
     (USUAL, "F 82 0\nO 5A A5 06 81 00 01 10 28 44\nE 0000\n", 1, "not the program's: no frame is due here"),
     (USUAL, "F 81 0\nO 12 34 06 81 00 01 10 28 44\nE 0000\n", 1, "not the program's: its header is 12 34, not 5A A5"),
     (USUAL, "F 81 0\nO 5A A5 07 81 00 01 10 28 44\nE 0000\n", 1, "not the program's: its length byte does not say the 6 bytes"),
@@ -79,16 +79,21 @@ STRANGE = [
     (USUAL, "F 81 0\nO 5A A5 03 81 00 00\nE 0000\n", 1, "not the program's: check wrong: 00 00, right is"),
     (PLAIN, "F 81 0\nO 5A A5 00\nE 0000\n", 1, "not the program's: nothing is no reply to 81, read registers"),
     (USUAL, "F 81 0\nO 5A A5 06 81 00 01 11 28 44\nE 0000\n", 1, "not the program's: check wrong: 28 44, right is E9 84; reply to 81"),
-    (USUAL, "F 81 0\nO 5A A5 04 81 00 01 10\nE 0000\n", 1, "not the program's: check wrong: 01 10, right is 61 E0; without check bytes it would be"),
+    (USUAL, "F 81 0\nO 5A A5 04 81 FF 21 A0\nO 5A A5 06 81 00 01 10 28 44\nE 0000\n", 1,
+     "not the program's: its length byte is 04: an acknowledgement carries 02, and every reply is longer"),
+    (USUAL, "B 81\nO 5A A5 02 81 00 61 E1\nE 0000\n", 1, "not the program's: check wrong: 61 E1, right is 61 E0"),
+    (USUAL, "F 81 0\nO 5A A5 04 81 00 01 10\nE 0000\n", 1,
+     "not the program's: its length byte is 04: an acknowledgement carries 02, and every reply is longer; without check bytes it would be a reply"),
+    (PLAIN, "F 82 0\nO 5A A5 02 82 FF 21 50\nE 0000\n", 1, "not the program's: its length byte does not say the 4 bytes that follow it"),
     (PLAIN, "F 81 0\nO 5A A5 06 81 00 01 10 28 44\nE 0000\n", 1, "not the program's: 81 00 01 10 28 44 is no reply to 81"),
     (PLAIN, "F 81 0\nO 5A A5 05 81 FF 02 00 00\nE 0000\n", 1, "not the program's: address FF and count 2 go past the end"),
     (PLAIN, "F 83 0\nO 5A A5 06 83 70 00 01 00 00\nE 0000\n", 1, "not the program's: address 7000 and count 1 go past the end"),
     (PLAIN, "B 81\nE 0000\n", 0, "not the program's: without checking there is no bad check"),
     (USUAL, "F 83 0\nO 5A A5 06 81 00 01 10 28 44\nE 0000\n", 1, "not the program's: 81 00 01 10 is no reply to 83, read words"),
     (USUAL, "F 81 0\nE 0000\n", 1, "not whole: reply of 81 should stand above; end: page 0 is shown"),
-    (USUAL, "B 81\nO 5A A5 04 81 FF 21 A0\nE 0000\n", 1, "not the program's: the acknowledgement of the line above is 81 00, not 81 FF"),
+    (USUAL, "B 81\nO 5A A5 02 81 FF 21 A0\nE 0000\n", 1, "not the program's: the acknowledgement of the line above is 81 00, not 81 FF"),
     (USUAL, ACKNOWLEDGED + "F 82 0\nE 0000\n", 4, "not whole: acknowledgement of 82 should stand above"),
-    (USUAL, ACKNOWLEDGED + ACKNOWLEDGED.replace("O 5A A5 04 81 FF 21 A0\n", "") + "E 0000\n", 4,
+    (USUAL, ACKNOWLEDGED + ACKNOWLEDGED.replace("O 5A A5 02 81 FF 21 A0\n", "") + "E 0000\n", 4,
      "not the program's: the acknowledgement of the line above is 81 FF, not 81 00 01 10"),
     (USUAL, "F 82 0\n" + ACKNOWLEDGED + "E 0000\n", 2, "not the program's: 81 FF is no reply to 81"),
 ]

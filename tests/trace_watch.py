@@ -4,13 +4,17 @@ import collections
 import model
 from panel_model import contact_did
 from trace_draw import BUFFER, WAYS, drawn
-from trace_text import CONTACT_KIND, LIFT_KIND, QUIET_KIND
+from trace_text import BYTE_KIND, CONTACT_KIND, LIFT_KIND, QUIET_KIND
+
+ACKNOWLEDGEMENT = 7
+LONGEST = ACKNOWLEDGEMENT + 258
 
 
 class Watched(model.Trace):
     def __init__(self):
         super().__init__()
         self.reached, self.caught, self.page = collections.Counter(), None, 0
+        self.sent, self.given = set(), b""      # the acknowledgements, and what has come of the stretch, its last bytes
 
     def count(self, what):
         self.reached[what] += 1
@@ -32,6 +36,7 @@ class Watched(model.Trace):
             self.count("started: 128 records")
 
     def event(self, kind, body):
+        self.came(kind, body)
         was_down, self.page, self.caught, before = self.panel.is_down, self.panel.registers.page, self.panel.caught, len(self.lines)
         super().event(kind, body)
         if kind == CONTACT_KIND:
@@ -41,6 +46,14 @@ class Watched(model.Trace):
         elif kind == QUIET_KIND and self.caught and self.panel.caught:
             self.count("catch kept: quiet mark")
         self.reported([line[0] for line in self.lines[before:] if line[0] in "FB"], kind)
+
+    def came(self, kind, body):
+        if kind == QUIET_KIND:
+            self.given = b""
+        elif kind == BYTE_KIND:
+            self.given = (self.given + body)[-LONGEST:]
+            if self.given[-ACKNOWLEDGEMENT:] in self.sent:
+                self.count("an acknowledgement of ours comes back")
 
     def contact_made(self, line, was_down, x, y):
         self.count(f"contact {line}")
@@ -67,7 +80,9 @@ class Watched(model.Trace):
         accepted, command, number = handed.what == "F", handed.report.command, handed.number
         name = f"{command:02X}" if number != 2 else "any other"
         self.count(f"command {name} {number}" if accepted else "bad check")
+        self.behind_echo(handed)
         if handed.acknowledged:
+            self.sent.add(bytes(self.room[:handed.acknowledged]))
             behind = ", a reply behind it" if handed.replied else ""
             self.count(f"acknowledgement {'FF' if accepted else '00'}{', refused' if number else behind}")
         if len(handed.report.data) == model.data_limit(self.setup):
@@ -75,6 +90,13 @@ class Watched(model.Trace):
         if self.caught:
             self.catch(self.frame_name(handed))
         self.page, self.caught = self.panel.registers.page, self.panel.caught
+
+    def behind_echo(self, handed):
+        """A frame that is accepted right where an acknowledgement of ours has come back."""
+        if handed.what == "F":
+            frame = model.frame(self.setup, handed.report.command, handed.report.data)
+            if self.given.endswith(frame) and self.given[:-len(frame)][-ACKNOWLEDGEMENT:] in self.sent:
+                self.count("frame right behind an acknowledgement of ours")
 
     def frame_name(self, handed):
         if handed.what == "B":
@@ -130,6 +152,7 @@ REQUIRED = [
     "bad check", "frame of the longest data", "input past 64 KiB", "output past 64 KiB",
     "several reports after one byte", "several reports after one quiet mark", "good frame inside a bad check",
     "acknowledgement FF", "acknowledgement FF, a reply behind it", "acknowledgement FF, refused", "acknowledgement 00",
+    "an acknowledgement of ours comes back", "frame right behind an acknowledgement of ours",
     *(f"contact T {number}" for number in (0, 8, 9)), *(f"lift T {number}" for number in (0, 10)),
     *(f"contact while up: {kind} mode {mode}{after}" for kind in ("key", "step") for mode in ("00", "01", "02") for after in ("", ", next page")),
     *(f"contact while up: slider mode {mode}" for mode in SLIDER_MODES),

@@ -90,10 +90,13 @@ static unsigned long enclose(u8 *f, unsigned long n) {
 
 static void acknowledge(u8 command, u8 verdict) {
     u8 f[8];
+    unsigned long n;
     if (!checking || !acknowledging) return;
     f[3] = command;
     f[4] = verdict;
-    put_frame(f, enclose(f, 2));
+    n = enclose(f, 2);
+    f[2] = 2;
+    put_frame(f, n);
 }
 
 /* ---- Commands */

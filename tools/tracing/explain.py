@@ -9,7 +9,7 @@ from typing import NamedTuple
 from . import numbers
 from .layout import CONTACT_KIND, LIFT_KIND, RECORD_KIND, SETUP_KIND, setup_of, split
 from .records import record_text
-from .replies import NotOurs, acknowledgement_text, content_of, is_acknowledgement, reply_text
+from .replies import NotOurs, acknowledgement_text, reply_text, taken_apart
 from .show import contact_text
 
 COLUMN = 36
@@ -112,11 +112,11 @@ class Explainer:
 
     def frame(self, frame):
         due, self.due = self.due, self.due[1:]
-        content, wrong = content_of(frame, self.known.header, self.known.checking)
+        content, is_acknowledgement, wrong = taken_apart(frame, self.known.header, self.known.checking)
         if due[:1] == ["acknowledgement"] and self.acknowledging is None:
             if not wrong:
-                self.acknowledging = is_acknowledgement(content)
-            due = due if is_acknowledgement(content) else due[1:]
+                self.acknowledging = is_acknowledgement
+            due = due if is_acknowledgement else due[1:]
             self.due = due[1:]
         try:
             text = self.frame_text(due, content)

@@ -4,34 +4,37 @@ from .layout import spelled, two_checks
 
 
 ENDS = {0x81: 256, 0x83: 28672}
+ACKNOWLEDGEMENT_BYTES, ACKNOWLEDGEMENT_LENGTH = 7, 2
 
 
 class NotOurs(Exception):
     """Why the program cannot have printed a line."""
 
 
-def content_of(frame, header, checking):
-    """Command and data, and what is wrong with the check; nothing is, where it is empty."""
+def taken_apart(frame, header, checking):
+    """Command and data, whether it is an acknowledgement, and what is wrong with the check; nothing is, where it is empty.
+
+    An acknowledgement carries 02, though its check bytes follow; every other frame's length byte counts them, and no reply is as short as that.
+    """
     if frame[:2] != header:
         raise NotOurs(f"its header is {spelled(frame[:2])}, not {spelled(header)}; --header or --trace says another")
-    if len(frame) < 3 or frame[2] != len(frame) - 3:
+    is_acknowledgement = checking and len(frame) == ACKNOWLEDGEMENT_BYTES and frame[2] == ACKNOWLEDGEMENT_LENGTH
+    if len(frame) < 3 or (frame[2] != len(frame) - 3 and not is_acknowledgement):
         raise NotOurs(f"its length byte does not say the {max(0, len(frame) - 3)} bytes that follow it")
     if not checking:
-        return frame[3:], ""
-    content, check = frame[3:-2], frame[-2:]
+        return frame[3:], False, ""
     if len(frame) < 6:
         raise NotOurs("it is too short for a command and two check bytes" + hint(frame))
+    if len(frame) == ACKNOWLEDGEMENT_BYTES and not is_acknowledgement:
+        raise NotOurs(f"its length byte is {frame[2]:02X}: an acknowledgement carries 02, and every reply is longer" + hint(frame))
+    content, check = frame[3:-2], frame[-2:]
     right = two_checks(content)
-    return content, "" if check == right else f"check wrong: {spelled(check)}, right is {spelled(right)}{hint(frame)}"
+    return content, is_acknowledgement, "" if check == right else f"check wrong: {spelled(check)}, right is {spelled(right)}{hint(frame)}"
 
 
 def hint(frame):
     """Where check bytes were looked for in a reply that has none."""
     return "; without check bytes it would be a reply: --no-checking or --trace says so" if reply_parts(frame[3:]) else ""
-
-
-def is_acknowledgement(content):
-    return len(content) == 2
 
 
 def acknowledgement_text(content, command, accepted):

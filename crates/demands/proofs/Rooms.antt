@@ -1,7 +1,7 @@
 -- What an ask lays over the room: the acknowledgement, and right behind it the reply.
 use mathlib.Core.Path.{_≡_, sym, ap}
 use mathlib.Core.Bool.{Bool, true, false, cond, _&&_}
-use mathlib.Core.List.{List, [], _∷_}
+use mathlib.Core.List.{List, []}
 use Prim.Native.Nat.{ℕ, _≤_}
 use native.Mathlib.Omega.{arith}
 use borrow.Author.Tests.{le-leb}
@@ -9,20 +9,20 @@ use lib.Dec.{leb}
 use lib.ListN.{length}
 use Rattle.wire.specs.Room.{over, lays, laid}
 use Rattle.wire.proofs.Over.{over-nil}
-use Rattle.frame.specs.Frame.{headerBytes, checkLength}
-use Rattle.frame.specs.Acknowledgement.{acknowledgementLength, verdict, acknowledgement}
+use Rattle.frame.specs.Frame.{headerBytes}
+use Rattle.frame.specs.Acknowledgement.{acknowledgement}
 use Rattle.frame.specs.Writer.{acknowledgementLaid, leastRoom}
-use Rattle.frame.proofs.Laying.{length-enclosed}
+use Rattle.frame.proofs.Acknowledgements.{length-acknowledgement}
 use Rattle.touch.specs.declared.Setup.{Setup}
 use Rattle.touch.specs.Setup.{checkingOf, acknowledgingOf}
 use Rattle.panel.specs.State.{headerOf}
 use Rattle.panel.specs.Reporting.{acknowledged}
 use Rattle.demands.specs.Reports.{acknowledgementOf}
 
--- "The length byte .. is 4": seven bytes with a header of two
+-- 02, §1: "its frame still has seven bytes"
 acknowledgement-long : (setup : Setup) (command : ℕ) (good : Bool) → length (acknowledgement (headerOf setup) command good) ≡ 7
-unfolding acknowledgement checkLength headerBytes
-acknowledgement-long setup command good = length-enclosed true (headerOf setup) acknowledgementLength (command ∷ verdict good ∷ [])
+unfolding headerBytes
+acknowledgement-long setup command good = length-acknowledgement (headerOf setup) command good
 
 -- a room that is lent holds every acknowledgement
 pub acknowledged-laid : (setup : Setup) (command : ℕ) (good : Bool) (room : List ℕ) → leastRoom ≤ length room

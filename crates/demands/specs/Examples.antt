@@ -96,10 +96,10 @@ examples =
     number (checkValue []) 0xFFFF ∷
     -- b. "Check of 81 00 01: 28E0."
     number (checkValue (0x81 ∷ 0x00 ∷ 0x01 ∷ [])) 0x28E0 ∷
-    -- c. "Good acknowledgement 5A A5 04 81 FF 21 A0."
-    frame (acknowledgement header 0x81 true) (0x5A ∷ 0xA5 ∷ 0x04 ∷ 0x81 ∷ 0xFF ∷ 0x21 ∷ 0xA0 ∷ []) ∷
-    -- d. "Bad one 5A A5 04 81 00 61 E0."
-    frame (acknowledgement header 0x81 false) (0x5A ∷ 0xA5 ∷ 0x04 ∷ 0x81 ∷ 0x00 ∷ 0x61 ∷ 0xE0 ∷ []) ∷
+    -- c. "Good acknowledgement", as 02, §1, changes it: 5A A5 02 81 FF 21 A0
+    frame (acknowledgement header 0x81 true) (0x5A ∷ 0xA5 ∷ 0x02 ∷ 0x81 ∷ 0xFF ∷ 0x21 ∷ 0xA0 ∷ []) ∷
+    -- d. "Bad one", changed in the same way: 5A A5 02 81 00 61 E0
+    frame (acknowledgement header 0x81 false) (0x5A ∷ 0xA5 ∷ 0x02 ∷ 0x81 ∷ 0x00 ∷ 0x61 ∷ 0xE0 ∷ []) ∷
     -- e. "Checking on: 5A A5 40, 5A A5 05 81 00 01 E0 28, quiet: one accepted 81.": of the reading, and of a panel, which replies 9 bytes
     reading (lineReports (checked 0x5A 0xA5) (map byte noiseAndRead ++ (mark ∷ []))) (acceptedFrame 0x81 (0x00 ∷ 0x01 ∷ []) ∷ []) ∷
     answered (firstAsked .reported .handed ∷ secondAsked .reported .handed ∷ []) (handed.Accepted 0x81 2 Done 0 9 ∷ handed.Nothing ∷ []) ∷

@@ -1,5 +1,6 @@
 pub mod Prefix
 pub mod Laying
+pub mod Acknowledgements
 pub mod Writers
 pub mod Said
 pub mod GoodFrames

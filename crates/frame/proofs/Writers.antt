@@ -19,6 +19,7 @@ use Rattle.frame.specs.Frame.{headerBytes, checkLength, checkBytes, leng
 use Rattle.frame.specs.Acknowledgement.{acknowledgementLength, verdict, acknowledgement}
 use Rattle.frame.specs.Writer.{leastRoom, answers, writing, frameLaid, acknowledgementLaid, closedLaid}
 use Rattle.frame.proofs.Laying.{length-prefix, length-enclosed, enclosed-laid}
+use Rattle.frame.proofs.Acknowledgements.{length-acknowledgement, acknowledgement-enclosed}
 
 pub length-frameOf : (checking : Bool) (header : List ℕ) (command : ℕ) (payload : List ℕ)
     → length (frameOf checking header command payload) ≡ length header + 1 + (1 + length payload + checkLength checking)
@@ -101,27 +102,26 @@ module _ (header : List ℕ) (command : ℕ) (accepted : Bool) (room : List ℕ)
   abbrev answer : List ℕ
   answer = acknowledgement header command accepted
 
-  answer-long : length answer ≡ h + 1 + 4
-  unfolding acknowledgement checkLength
-  answer-long = length-enclosed true header acknowledgementLength (command ∷ verdict accepted ∷ []) ∙ rw is-header
+  answer-long : length answer ≡ h + 5
+  answer-long = length-acknowledgement header command accepted ∙ rw is-header
 
-  pub acknowledgement-no-room : length room < h + 1 + 4 → lays 0 room ≡ acknowledgementLaid header command accepted room
+  pub acknowledgement-no-room : length room < h + 5 → lays 0 room ≡ acknowledgementLaid header command accepted room
   unfolding acknowledgementLaid
   acknowledgement-no-room small =
       laid-not (leb (length answer) (length room)) answer room (lt-leb (length answer) (length room) (omega (arith, answer-long)))
 
-  pub acknowledgement-fits : h + 1 + 4 ≤ length room → length header + 1 + (1 + 1 + checkLength true) ≤ length room
+  pub acknowledgement-fits : h + 5 ≤ length room → length header + 1 + (1 + 1 + checkLength true) ≤ length room
   unfolding checkLength
   acknowledgement-fits fits = omega arith
 
-  pub acknowledgement-put : (v r : ℕ) (room′ : List ℕ) → h + 1 + 4 ≤ length room → v ≡ verdict accepted
-      → r ≡ length (enclosed true header 4 (command ∷ v ∷ [])) → room′ ≡ over (enclosed true header 4 (command ∷ v ∷ [])) room
+  pub acknowledgement-put : (v r : ℕ) (room′ : List ℕ) → h + 5 ≤ length room → v ≡ verdict accepted
+      → r ≡ length (enclosed true header 2 (command ∷ v ∷ [])) → room′ ≡ over (enclosed true header 2 (command ∷ v ∷ [])) room
       → lays r room′ ≡ acknowledgementLaid header command accepted room
-  unfolding acknowledgementLaid acknowledgement acknowledgementLength
+  unfolding acknowledgementLaid acknowledgementLength
   acknowledgement-put v r room′ fits is-v is-r is-room =
-      laid-whole (leb (length answer) (length room)) (enclosed true header 4 (command ∷ v ∷ [])) answer room room′ r
+      laid-whole (leb (length answer) (length room)) (enclosed true header 2 (command ∷ v ∷ [])) answer room room′ r
       (le-leb (length answer) (length room) (omega (arith, answer-long)))
-      (ap (λ (x : ℕ). enclosed true header 4 (command ∷ x ∷ [])) is-v) is-r is-room
+      (ap (λ (x : ℕ). enclosed true header 2 (command ∷ x ∷ [])) is-v ∙ acknowledgement-enclosed header command accepted) is-r is-room
 
 module _ (checking : Bool) (header : List ℕ) (n m : ℕ) (room : List ℕ) (is-most : m ≡ mostData checking) where
   abbrev standing : List ℕ

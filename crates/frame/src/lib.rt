@@ -33,8 +33,8 @@ pub const LONGEST_FRAME: usize = 258;
 // "Data is at most 252 bytes with checking and 254 without": the most that any frame carries.
 pub const MOST_PAYLOAD: usize = 254;
 
-// The length byte of an acknowledgement.
-const ACKNOWLEDGEMENT_LENGTH: u8 = 4;
+// "an acknowledgement carries 02": its length byte, which does not count the check bytes.
+const ACKNOWLEDGEMENT_LENGTH: u8 = 2;
 
 impl Header {
     pub fn length(self) -> usize
@@ -154,7 +154,7 @@ fn verdict_byte(accepted: bool) -> u8
 pub fn put_acknowledgement(header: Header, command: u8, accepted: bool, room: &mut [u8]) -> usize
     ensures { λ r. ⌜ lays r (now (room .exit)) ≡ acknowledgementLaid (headerBytes header) command accepted (now (room .entry)) ⌝ }
 {
-    if room.len() < header.length() + 1 + 4 {
+    if room.len() < header.length() + 5 {
         return 0;
     }
     let payload = [verdict_byte(accepted)];

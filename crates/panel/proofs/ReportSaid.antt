@@ -2,7 +2,7 @@
 use mathlib.Core.Path.{_≡_, refl, ap, _∙_}
 use mathlib.Core.Bool.{Bool, true, false, cond, not, _||_}
 use mathlib.Core.List.{List, [], _∷_}
-use Prim.Native.Nat.{ℕ, _+_, _-_, _≤_}
+use Prim.Native.Nat.{ℕ, _-_, _≤_}
 use native.Mathlib.Omega.{arith}
 use borrow.Author.Tests.{le-leb, le-ltb, lt-ltb, leb-true, leb-false, eqb-true}
 use lib.Dec.{eqb, ltb, leb}
@@ -10,10 +10,10 @@ use lib.ListN.{length, take, drop, length-drop}
 use Rattle.wire.specs.Addresses.{wordCount}
 use Rattle.wire.specs.Numbers.{Said, says, firstSaid}
 use Rattle.wire.specs.Room.{over, lays, laid}
-use Rattle.frame.specs.Frame.{headerBytes, checkLength, mostPayload}
-use Rattle.frame.specs.Acknowledgement.{acknowledgementLength, verdict, acknowledgement}
+use Rattle.frame.specs.Frame.{headerBytes, mostPayload}
+use Rattle.frame.specs.Acknowledgement.{acknowledgement, acknowledgementSize}
 use Rattle.frame.specs.Writer.{leastRoom, acknowledgementLaid}
-use Rattle.frame.proofs.Laying.{length-enclosed}
+use Rattle.frame.proofs.Acknowledgements.{length-acknowledgement}
 use Rattle.line.specs.declared.Report.the-variants as line
 use Rattle.line.specs.State.{padded}
 use Rattle.line.specs.Methods.{asked}
@@ -35,15 +35,14 @@ use Rattle.panel.proofs.Lengths.{answer-long}
 -- an acknowledgement is laid whole into every room that is large enough
 answer-counted : (setup : Setup) (command : ℕ) (good : Bool) (room : List ℕ) → leastRoom ≤ length room
     → acknowledged setup command good room .count ≡ answerLength setup
-unfolding acknowledged acknowledgement acknowledgementLaid acknowledgementLength headerBytes checkLength laid answerLength
+unfolding acknowledged acknowledgementLaid headerBytes laid answerLength
 answer-counted setup command good room large =
     let frame = acknowledgement (headerOf setup) command good in
-    let long : length frame ≡ length (headerOf setup) + 1 + acknowledgementLength =
-    length-enclosed true (headerOf setup) acknowledgementLength (command ∷ verdict good ∷ []) in
+    let long : length frame ≡ acknowledgementSize (headerOf setup) = length-acknowledgement (headerOf setup) command good in
     rw (le-leb (length frame) (length room) (omega arith)) (go frame long (answering setup))
   where
-    go : (frame : List ℕ) → length frame ≡ length (headerOf setup) + 1 + acknowledgementLength → (b : Bool)
-        → cond b (lays (length frame) (over frame room)) (lays 0 room) .count ≡ cond b (length (headerOf setup) + 1 + acknowledgementLength) 0
+    go : (frame : List ℕ) → length frame ≡ acknowledgementSize (headerOf setup) → (b : Bool)
+        → cond b (lays (length frame) (over frame room)) (lays 0 room) .count ≡ cond b (acknowledgementSize (headerOf setup)) 0
     go frame long true = long
     go frame long false = refl
 

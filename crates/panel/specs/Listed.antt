@@ -7,7 +7,7 @@ use lib.Dec.{eqb, ltb}
 use lib.ListN.{length}
 use Rattle.wire.specs.Addresses.{wordCount}
 use Rattle.wire.specs.Numbers.{Said, says, Listed, _when_, firstSaid}
-use Rattle.frame.specs.Acknowledgement.{acknowledgementLength}
+use Rattle.frame.specs.Acknowledgement.{acknowledgementSize}
 use Rattle.frame.specs.Writer.{leastRoom}
 use Rattle.line.specs.Methods.{busy}
 use Rattle.line.specs.Front.{handsNothing, isBad, badCommand, frontCommand, frontContent}
@@ -25,9 +25,9 @@ use Rattle.panel.specs.Contacts.{onScreen, Contact}
 unfoldable pub startListed : Setup → (table : List ℕ) → List Listed
 startListed setup table = setupListed setup ++ tableListed setup table
 
--- how long an acknowledgement is: "header, length, command, 0xFF, check"; "The length byte follows the general rule above and is 4."
+-- how long an acknowledgement is: "header, length, command, 0xFF, check". 02, §1: "its frame still has seven bytes with checking on"
 unfoldable pub answerLength : Setup → ℕ
-answerLength setup = cond (answering setup) (length (headerOf setup) + 1 + acknowledgementLength) 0
+answerLength setup = cond (answering setup) (acknowledgementSize (headerOf setup)) 0
 
 -- "asking for a report 14, ..": then "nothing", then a bad check with its command byte and how long its acknowledgement is
 unfoldable pub askListed : Panel → Lent → List Listed

@@ -1,7 +1,7 @@
 -- What a report writes is short: an acknowledgement has 7 bytes, a reply at most 258.
 use mathlib.Core.Path.{_≡_, refl, ap}
 use mathlib.Core.Bool.{Bool, true, false, cond, _&&_}
-use mathlib.Core.List.{List, [], _∷_}
+use mathlib.Core.List.{List}
 use Prim.Native.Nat.{ℕ, _≤_}
 use native.Mathlib.Omega.{arith}
 use borrow.Author.Tests.{leb-true}
@@ -9,10 +9,10 @@ use lib.Dec.{eqb, leb}
 use lib.ListN.{length}
 use Rattle.wire.specs.Room.{over, lays, laid}
 use Rattle.frame.specs.declared.Header.{Header}
-use Rattle.frame.specs.Frame.{headerBytes, checkLength, frameOf, mostData, longestFrame}
-use Rattle.frame.specs.Acknowledgement.{acknowledgementLength, verdict, acknowledgement}
+use Rattle.frame.specs.Frame.{headerBytes, frameOf, mostData, longestFrame}
+use Rattle.frame.specs.Acknowledgement.{acknowledgement}
 use Rattle.frame.specs.Writer.{frameLaid, acknowledgementLaid}
-use Rattle.frame.proofs.Laying.{length-enclosed}
+use Rattle.frame.proofs.Acknowledgements.{length-acknowledgement}
 use Rattle.frame.proofs.Writers.{length-frameOf, length-most, header-short}
 use Rattle.line.specs.declared.Report.{Report}
 use Rattle.line.specs.declared.Report.the-variants as line
@@ -38,9 +38,7 @@ laid-at-most true bytes room n h = h
 laid-at-most false bytes room n h = omega arith
 
 acknowledgement-short : (header : Header) (command : ℕ) (good : Bool) → length (acknowledgement (headerBytes header) command good) ≤ acknowledgementBytes
-unfolding acknowledgement checkLength
-acknowledgement-short header command good =
-    omega (arith, length-enclosed true (headerBytes header) acknowledgementLength (command ∷ verdict good ∷ []), header-short header)
+acknowledgement-short header command good = omega (arith, length-acknowledgement (headerBytes header) command good, header-short header)
 
 acknowledged-short : (setup : Setup) (command : ℕ) (good : Bool) (room : List ℕ) → acknowledged setup command good room .count ≤ acknowledgementBytes
 unfolding acknowledged acknowledgementLaid

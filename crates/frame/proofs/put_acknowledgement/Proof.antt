@@ -10,7 +10,6 @@ put-acknowledgement-spec =
     (tie.spec
     (λ c κs. search needs)
     (λ c. search needs)
-    (λ c. search needs)
     (λ c. search acknowledgement-no-room)
     (λ c κs. search needs)
     (λ c. search needs)
