@@ -13,27 +13,30 @@ use Rattle.commands.specs.Lent.{lending}
 use Rattle.touch.specs.declared.Setup.{Setup}
 use Rattle.panel.specs.declared.StartAnswer.the-variants as start
 use Rattle.panel.specs.Start.{started}
-use Rattle.demands.specs.Calls.{Moment, bytes, begun, after, Typed, Arises, from-start, by-call}
-use Rattle.demands.specs.Counts.{BadCheckCounted, FrameCounted}
+use Rattle.demands.specs.Calls.{Moment, bytes, ask, begun, after, Typed, Arises, from-start, by-call}
+use Rattle.demands.specs.Counts.{replyTo, BadCheckCounted, FrameCounted}
 use Rattle.demands.specs.Story.{version}
 use Rattle.demands.proofs.Computed.{computingStart, computingCalls, computingAcknowledgements}
-use Rattle.demands.proofs.Demand2.{counts-of-frame, counts-of-bad-check}
+use Rattle.demands.proofs.Demand2.{counts-of-frame, counts-of-bad-check, bad-check-acknowledged, frame-acknowledged}
 use Rattle.demands.proofs.Story.{copies-below}
 
-abbrev acknowledging : Setup
+-- header 5A A5, checking and acknowledging on
+abbrev pub acknowledging : Setup
 acknowledging = record { h1 = 0x5A; h2 = 0xA5; flags = 3; pages = 2; width = 800; height = 480 }
 
 -- given a frame, every byte of the room EE
-abbrev fed : List ℕ → Moment
+abbrev pub fed : List ℕ → Moment
 fed frame = after (begun acknowledging [] (lending (replicate wordCount 0) (replicate leastRoom 0xEE))) (bytes frame)
 
--- 81 of 2 registers from FF on; 84; 81 with wrong check bytes
+-- 81 of 2 registers from FF on
 abbrev pastEnd : List ℕ
 pastEnd = 0x5A ∷ 0xA5 ∷ 0x05 ∷ 0x81 ∷ 0xFF ∷ 0x02 ∷ 0xE1 ∷ 0xD9 ∷ []
 
+-- 84
 abbrev unknown : List ℕ
 unknown = 0x5A ∷ 0xA5 ∷ 0x05 ∷ 0x84 ∷ 0x00 ∷ 0x01 ∷ 0xF0 ∷ 0x29 ∷ []
 
+-- 81 with wrong check bytes
 abbrev damaged : List ℕ
 damaged = 0x5A ∷ 0xA5 ∷ 0x05 ∷ 0x81 ∷ 0x00 ∷ 0x01 ∷ 0xE0 ∷ 0x29 ∷ []
 
@@ -41,7 +44,7 @@ starts : started acknowledging [] .answer ≡ start.Started
 unfolding computingStart
 starts = refl
 
-fed-arises : (frame : List ℕ) → allBytes frame ≡ true → Arises (fed frame)
+pub fed-arises : (frame : List ℕ) → allBytes frame ≡ true → Arises (fed frame)
 unfolding Typed
 fed-arises frame are =
     by-call (begun acknowledging [] (lending (replicate wordCount 0) (replicate leastRoom 0xEE))) (bytes frame) (tested-bytes frame are)
@@ -64,3 +67,14 @@ unknown-counted = counts-of-frame (fed unknown) (fed-arises unknown refl) 0x84 2
 pub damaged-counted : BadCheckCounted (fed damaged) 0x81 7
 unfolding computingCalls computingAcknowledgements allBytes
 damaged-counted = counts-of-bad-check (fed damaged) (fed-arises damaged refl) 0x81 7 refl
+
+-- the whole room that the bad check leaves: seven bytes, and EE behind them as before
+pub damaged-acknowledged : after (fed damaged) ask .lent .room ≡ 0x5A ∷ 0xA5 ∷ 0x02 ∷ 0x81 ∷ 0x00 ∷ 0x61 ∷ 0xE0 ∷ replicate 258 0xEE
+unfolding computingCalls computingAcknowledgements allBytes
+damaged-acknowledged = bad-check-acknowledged (fed damaged) (fed-arises damaged refl) 0x81 refl .both-on refl
+
+-- and that the read leaves: seven bytes, nine of reply, and EE behind them
+pub read-acknowledged : after (fed version) ask .lent .room
+    ≡ 0x5A ∷ 0xA5 ∷ 0x02 ∷ 0x81 ∷ 0xFF ∷ 0x21 ∷ 0xA0 ∷ 0x5A ∷ 0xA5 ∷ 0x06 ∷ 0x81 ∷ 0x00 ∷ 0x01 ∷ 0x10 ∷ 0x28 ∷ 0x44 ∷ replicate 249 0xEE
+unfolding computingCalls computingAcknowledgements allBytes replyTo
+read-acknowledged = frame-acknowledged (fed version) (fed-arises version refl) 0x81 (0x00 ∷ 0x01 ∷ []) refl .both-on refl

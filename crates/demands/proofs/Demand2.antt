@@ -38,7 +38,8 @@ use Rattle.panel.specs.State.{headerOf, panelRegister}
 use Rattle.demands.specs.Calls.{Moment, Call, ask, contact, lift, after, afterAll, numberGiven, handedOver, AllTyped, Arises, WellLent}
 use Rattle.demands.specs.Reports.{rulesOf}
 use Rattle.demands.specs.Demand2.{NamesWord, NamesRegister, Some, ReadsBack, DoesCommands, afterBadCheck, AskLeaves, afterContact, afterLift}
-use Rattle.demands.specs.Counts.{handedBy, BadCheckCounted, FrameCounted}
+use Rattle.demands.specs.Counts.{handedBy, replyTo, BadCheckCounted, FrameCounted}
+use Rattle.demands.specs.Acknowledged.{Acknowledges}
 use Rattle.demands.specs.Replied.{Replied}
 use Rattle.demands.specs.Stored.{Stores}
 use Rattle.demands.proofs.Calls.{arises-reachable}
@@ -47,6 +48,7 @@ use Rattle.demands.proofs.ReadBack as ReadBack
 use Rattle.demands.proofs.Access as Access
 use Rattle.demands.proofs.Asking as Asking
 use Rattle.demands.proofs.Counts as Counts
+use Rattle.demands.proofs.Acknowledged as Acknowledged
 use Rattle.demands.proofs.WrittenReads as WrittenReads
 use Rattle.demands.proofs.Sizes as Sizes
 use Rattle.demands.proofs.TouchEffects as TouchEffects
@@ -100,6 +102,14 @@ counts-of-bad-check now arises = Counts.bad-check-counts now (arises-reachable n
 pub counts-of-frame : (now : Moment) → Arises now → (command count : ℕ) (outcome : Outcome) (acknowledged replied : ℕ)
     → handedBy now ≡ Accepted command count outcome acknowledged replied → FrameCounted now command count acknowledged replied
 counts-of-frame now arises = Counts.frame-counts now (arises-reachable now arises)
+
+-- 02, §1: "acknowledgements, whose seven bytes are stated outright": they stand at the front of the room, the reply behind them, and the rest stays
+pub bad-check-acknowledged : (now : Moment) → Arises now → (command : ℕ) → handedOver now ask ≡ badCheck command ∷ [] → Acknowledges now command false []
+bad-check-acknowledged now arises = Acknowledged.bad-check-acknowledged now (arises-reachable now arises)
+
+pub frame-acknowledged : (now : Moment) → Arises now → (command : ℕ) (content : List ℕ) → handedOver now ask ≡ acceptedFrame command content ∷ []
+    → Acknowledges now command true (replyTo now command content)
+frame-acknowledged now arises = Acknowledged.frame-acknowledged now (arises-reachable now arises)
 
 -- what an 0x80 wrote, an 0x81 of any part of its run replies, whatever calls come between that name none of those registers: it is answered 0
 pub what-80-wrote-81-replies : (now : Moment) → Arises now → (content : List ℕ) → handedOver now ask ≡ acceptedFrame 0x80 content ∷ [] → numberGiven now ask ≡ 0
@@ -159,7 +169,8 @@ pub dragged-slider-stores : (now : Moment) → Arises now → (c : Contact) → 
 dragged-slider-stores = Caught.dragged-slider-stores
 
 -- "What our frame writer writes, our reader reads back as the same command and data.": what it wrote into any room, under the header and the choice that
--- are set up, given to the panel while nothing is held or waiting
+-- are set up, given to the panel while nothing is held or waiting. 02, §1: "the read-back of demand 2 is now stated for every frame but acknowledgements": the
+-- frame writer writes none, its length byte is always that of the general rule; crate reading proves that an acknowledgement is not read back
 pub writer-reads-back : (now : Moment) → Arises now → NothingHeldOrWaiting (rulesOf (now .panel)) (keptOf (now .panel .reader))
     → WellLent (now .lent) → (command : ℕ) (payload room : List ℕ) (n : ℕ)
     → writing (checkingOf (now .panel .setup)) (headerOf (now .panel .setup)) command payload room .answer ≡ Frame n

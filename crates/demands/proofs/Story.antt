@@ -45,11 +45,11 @@ pub version-bytes : Bytes version
 unfolding allBytes
 version-bytes = tested-bytes version refl
 
-copies-good : (n : ℕ) → GoodFrames (checked 0x5A 0xA5) (replicate n version)
+pub copies-good : (n : ℕ) → GoodFrames (checked 0x5A 0xA5) (replicate n version)
 copies-good zero = none
 copies-good (suc n) = next version-good (copies-good n)
 
-nothing-cut : Cut (checked 0x5A 0xA5) []
+pub nothing-cut : Cut (checked 0x5A 0xA5) []
 nothing-cut = record { frame = version; good = version-good; rest = version; parts = refl; missing = omega arith }
 
 -- the calls hold bytes
@@ -58,7 +58,7 @@ unfolding AllTyped
 typed-append [] more typed later = later
 typed-append (call ∷ these) more typed later = (typed .0, typed-append these more (typed .1) later)
 
-typed-times : (n : ℕ) (calls : List Call) → AllTyped calls → AllTyped (times n calls)
+pub typed-times : (n : ℕ) (calls : List Call) → AllTyped calls → AllTyped (times n calls)
 unfolding AllTyped times
 typed-times zero calls typed = tt
 typed-times (suc n) calls typed = typed-append calls (times n calls) typed (typed-times n calls typed)
@@ -85,7 +85,7 @@ noise-begins-none : BeginsNone (checked 0x5A 0xA5) noise (joined (replicate 33 v
 unfolding computingReading noneAccepted isAccepted
 noise-begins-none = tested-begins-none (checked 0x5A 0xA5) noise (joined (replicate 33 version) ++ []) refl
 
-long-enough : 257 ≤ length (joined (replicate 33 version) ++ [])
+pub long-enough : 257 ≤ length (joined (replicate 33 version) ++ [])
 unfolding joined
 long-enough = lit≤ tt
 

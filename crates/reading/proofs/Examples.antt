@@ -16,7 +16,7 @@ use Rattle.reading.proofs.ByteLists.{allBytes, tested-bytes}
 use Rattle.reading.proofs.Damage.{isAccepted, noneAccepted, tested-begins-none, open-accepts}
 
 -- 004's frame
-abbrev frame : List ℕ
+abbrev pub frame : List ℕ
 frame = 0x5A ∷ 0xA5 ∷ 0x05 ∷ 0x81 ∷ 0x00 ∷ 0x01 ∷ 0xE0 ∷ 0x28 ∷ []
 
 -- its report
@@ -62,11 +62,11 @@ frame-good : Good (checked 0x5A 0xA5) frame
 unfolding leastLength checkLength rightCheck checkValue checkFrom byteStep bitSteps bitStep polynomial
 frame-good = record { body = 0x81 ∷ 0x00 ∷ 0x01 ∷ 0xE0 ∷ 0x28 ∷ []; whole = refl; least = omega arith; most = omega arith; right = refl }
 
-copies-good : (n : ℕ) → GoodFrames (checked 0x5A 0xA5) (replicate n frame)
+pub copies-good : (n : ℕ) → GoodFrames (checked 0x5A 0xA5) (replicate n frame)
 copies-good zero = none
 copies-good (suc n) = next frame-good (copies-good n)
 
-nothing-cut : Cut (checked 0x5A 0xA5) []
+pub nothing-cut : Cut (checked 0x5A 0xA5) []
 nothing-cut = record { frame = frame; good = frame-good; rest = frame; parts = refl; missing = omega arith }
 
 -- demand 3 at work: its premise holds of 5A A5 40 and 33 of these frames, 264 bytes, so all 33 are accepted on a line still open

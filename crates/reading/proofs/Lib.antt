@@ -6,6 +6,8 @@ pub mod Course
 pub mod Appending
 pub mod Placed
 pub mod ReadBack
+pub mod Acknowledgements
+pub mod Echo
 pub mod Damage
 pub mod Lines
 pub mod Settling
@@ -17,4 +19,5 @@ pub mod Longest
 pub mod Bounded
 pub mod Demand3
 pub mod Examples
+pub mod EchoInstances
 pub mod Figure

@@ -5,3 +5,4 @@ pub mod Moves
 pub mod Demand3
 pub mod Run
 pub mod Figure
+pub mod Echo
