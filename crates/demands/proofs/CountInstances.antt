@@ -15,10 +15,10 @@ use Rattle.panel.specs.declared.StartAnswer.the-variants as start
 use Rattle.panel.specs.Start.{started}
 use Rattle.demands.specs.Calls.{Moment, bytes, ask, begun, after, Typed, Arises, from-start, by-call}
 use Rattle.demands.specs.Counts.{replyTo, BadCheckCounted, FrameCounted}
-use Rattle.demands.specs.Story.{version}
+use Rattle.demands.specs.Story.{version, new}
 use Rattle.demands.proofs.Computed.{computingStart, computingCalls, computingAcknowledgements}
 use Rattle.demands.proofs.Demand2.{counts-of-frame, counts-of-bad-check, bad-check-acknowledged, frame-acknowledged}
-use Rattle.demands.proofs.Story.{copies-below}
+use Rattle.demands.proofs.Story.{copies-below, new-arises}
 
 -- header 5A A5, checking and acknowledging on
 abbrev pub acknowledging : Setup
@@ -78,3 +78,9 @@ pub read-acknowledged : after (fed version) ask .lent .room
     ≡ 0x5A ∷ 0xA5 ∷ 0x02 ∷ 0x81 ∷ 0xFF ∷ 0x21 ∷ 0xA0 ∷ 0x5A ∷ 0xA5 ∷ 0x06 ∷ 0x81 ∷ 0x00 ∷ 0x01 ∷ 0x10 ∷ 0x28 ∷ 0x44 ∷ replicate 249 0xEE
 unfolding computingCalls computingAcknowledgements allBytes replyTo
 read-acknowledged = frame-acknowledged (fed version) (fed-arises version refl) 0x81 (0x00 ∷ 0x01 ∷ []) refl .both-on refl
+
+-- with acknowledging off the bad check leaves every byte of the room
+pub damaged-unacknowledged : after (after new (bytes damaged)) ask .lent .room ≡ replicate leastRoom 0
+unfolding computingCalls computingAcknowledgements Typed allBytes
+damaged-unacknowledged =
+    bad-check-acknowledged (after new (bytes damaged)) (by-call new (bytes damaged) (tested-bytes damaged refl) new-arises) 0x81 refl .one-off refl
