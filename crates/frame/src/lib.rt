@@ -36,6 +36,9 @@ pub const MOST_PAYLOAD: usize = 254;
 // "an acknowledgement carries 02": its length byte, which does not count the check bytes.
 const ACKNOWLEDGEMENT_LENGTH: u8 = 2;
 
+// "its frame still has seven bytes": length byte, command, verdict and two check bytes behind the header.
+const BEHIND_HEADER: usize = 5;
+
 impl Header {
     pub fn length(self) -> usize
         ensures { λ r. ⌜ r ≡ length (headerBytes self) ⌝ }
@@ -154,7 +157,7 @@ fn verdict_byte(accepted: bool) -> u8
 pub fn put_acknowledgement(header: Header, command: u8, accepted: bool, room: &mut [u8]) -> usize
     ensures { λ r. ⌜ lays r (now (room .exit)) ≡ acknowledgementLaid (headerBytes header) command accepted (now (room .entry)) ⌝ }
 {
-    if room.len() < header.length() + 5 {
+    if room.len() < header.length() + BEHIND_HEADER {
         return 0;
     }
     let payload = [verdict_byte(accepted)];
