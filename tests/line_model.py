@@ -146,6 +146,9 @@ def cases(seed=1, count=40):
             g for k in range(0, 256, 8) for g in (("[", sum(echoes[k:k + 8], [])), "?", ("[", WRITE), "?", "|", "?")]
     inside, lost = acknowledgement((2, 2), 0x08, 0xFF), frame((2, 2), True, 0xF2, [0x78, 0x00])
     yield "an acknowledgement with the header inside: a good frame behind it is lost", (2, 2), True, [*inside, *lost, "?", "|", "?", *lost, "?"]
+    ending = acknowledgement((0x30, 0xA5), 0x08, 0xFF)
+    yield "an acknowledgement that ends with H1, and an H2 behind it: a frame begins at its last byte", (0x30, 0xA5), True, [
+        *ending, "?", *frame((0x30, 0xA5), True, 0x80, [])[1:], "?", "|", "?"]
     draw = random.Random(seed)
     for k in range(count):
         h = draw.choice([H, H, (0xFF, 0xFF), (0, 0), (3, 4)])

@@ -1,6 +1,6 @@
 -- The room that an ask leaves, byte by byte, where a report is handed over.
 use mathlib.Core.Path.{_≡_, sym, ap, _∙_}
-use mathlib.Core.Bool.{Bool, true, false, _&&_}
+use mathlib.Core.Bool.{Bool, true, false}
 use mathlib.Core.List.{List, [], _∷_, _++_, append-nil}
 use Prim.Native.Nat.{ℕ, _+_}
 use native.Mathlib.Omega.{arith}
@@ -10,7 +10,7 @@ use Rattle.frame.specs.Frame.{headerBytes}
 use Rattle.frame.specs.Acknowledgement.{acknowledgementLength, acknowledgement}
 use Rattle.reading.specs.Place.{badCheck, acceptedFrame}
 use Rattle.touch.specs.declared.Setup.{Setup}
-use Rattle.touch.specs.Setup.{checkingOf, acknowledgingOf}
+use Rattle.panel.specs.State.{answering}
 use Rattle.panel.specs.Reachable.{Reachable}
 use Rattle.demands.specs.Calls.{Moment, ask, after, handedOver}
 use Rattle.demands.specs.Reports.{acknowledgementOf}
@@ -21,14 +21,11 @@ use Rattle.demands.proofs.Access.{answers-bad-check}
 use Rattle.demands.proofs.Counts.{room-left}
 
 module _ (setup : Setup) (command : ℕ) (good : Bool) where
-  abbrev answering : Bool
-  answering = checkingOf setup && acknowledgingOf setup
-
-  seven-written : answering ≡ true → acknowledgementOf setup command good ≡ sevenBytes setup command good
+  seven-written : answering setup ≡ true → acknowledgementOf setup command good ≡ sevenBytes setup command good
   unfolding acknowledgementOf acknowledgement acknowledgementLength headerBytes
   seven-written on = rw on
 
-  none-written : answering ≡ false → acknowledgementOf setup command good ≡ []
+  none-written : answering setup ≡ false → acknowledgementOf setup command good ≡ []
   unfolding acknowledgementOf
   none-written off = rw off
 

@@ -1,9 +1,8 @@
 -- Demand 3, sentence by sentence as specs/Demand3 states it, and what 01 says of asking, as specs/AsRead states it.
 use mathlib.Core.Path.{_≡_, refl, sym, ap, _∙_}
 use mathlib.Core.Bool.{false}
-use mathlib.Core.List.{List, [], _∷_, _++_, map, append-nil}
+use mathlib.Core.List.{List, [], _++_}
 use Prim.Native.Nat.{ℕ}
-use Rattle.wire.specs.Bytes.{Bytes}
 use Rattle.frame.specs.Frame.{headerBytes}
 use Rattle.reading.specs.Place.{Rules}
 use Rattle.reading.specs.Line as Line
@@ -28,7 +27,7 @@ use Rattle.demands.proofs.Calls.{calls-arise, arises-reachable}
 use Rattle.demands.proofs.Waits.{kept-same}
 use Rattle.demands.proofs.Alike.{read-alike}
 use Rattle.demands.specs.AsRead.{AlwaysAsRead, AlwaysUntilNothing}
-use Rattle.demands.proofs.GivenBytes.{all-given-bytes, bytes-of}
+use Rattle.demands.proofs.GivenBytes.{came-bytes, came-bytes-closed}
 use Rattle.demands.proofs.FromNew.{no-bytes-new, carried, waits-same, new-reader, all-setup-stays, begun-setup}
 use Rattle.demands.proofs.AsRead.{always-as-read}
 use Rattle.demands.proofs.Nothing.{always-until-nothing}
@@ -58,7 +57,7 @@ demand3-open now calls frames come =
     let new = ready-new now (come .ready) in
     let c = carried line now reachable new calls (come .typed) in
     let whole = come .damage ++ (joined frames ++ come .tail) in
-    let are : Bytes whole = bytes-of whole [] (rw (append-nil (map Line.byte whole)) (rw (come .came) at (all-given-bytes now calls (come .typed)))) in
+    let are = came-bytes now calls (come .typed) whole (come .came) in
     ap acceptedOf (sym (c .hands))
     ∙ accepted-open rules [] (c .events) (idle-new rules) (sym (waits-same line now reachable new calls (come .typed)) ∙ come .all-asked) (come .damage) frames (come .good)
     (come .tail) (come .cut) are (come .begins-none) (c .gives ∙ come .came) (come .followed)
@@ -72,7 +71,7 @@ demand3-closed now calls frames come =
     let new = ready-new now (come .ready) in
     let c = carried line now reachable new calls (come .typed) in
     let whole = come .damage ++ joined frames in
-    let are : Bytes whole = bytes-of whole (Line.mark ∷ []) (rw (come .came) at (all-given-bytes now calls (come .typed))) in
+    let are = came-bytes-closed now calls (come .typed) whole (come .came) in
     ap acceptedOf (sym (c .hands))
     ∙ accepted-closed rules [] (c .events) (idle-new rules) (sym (waits-same line now reachable new calls (come .typed)) ∙ come .all-asked) (come .damage) frames (come .good)
     are (come .begins-none) (c .gives ∙ come .came)

@@ -1,18 +1,17 @@
 -- Demand 3 where the damage is our own acknowledgements: its premise, from the places inside them, and for header 5A A5 from nothing.
 use mathlib.Core.Path.{_≡_, ap₂}
 use mathlib.Core.Bool.{Bool, true}
-use mathlib.Core.List.{List, [], _∷_, _++_, map, append-nil}
+use mathlib.Core.List.{List, [], _∷_, _++_}
 use Prim.Native.Nat.{ℕ}
 use Rattle.wire.specs.Bytes.{Bytes}
 use Rattle.reading.specs.Place.{Rules}
-use Rattle.reading.specs.Line as Line
 use Rattle.reading.specs.Demand3.{joined, BeginsNone, checked}
 use Rattle.reading.specs.Echo.{Sent, echo}
 use Rattle.reading.proofs.Echo.{echo-checked-inside, printed-echo-begins-none, commands-are-bytes}
 use Rattle.demands.specs.Calls.{Moment, Call}
 use Rattle.demands.specs.Reports.{rulesOf}
 use Rattle.demands.specs.Echo.{EchoOnAnOpenLine, EchoBehindAMark, CostsNone, EchoCostsNone, PrintedEchoCostsNone}
-use Rattle.demands.proofs.GivenBytes.{all-given-bytes, bytes-of}
+use Rattle.demands.proofs.GivenBytes.{came-bytes, came-bytes-closed}
 use Rattle.demands.proofs.Demand3.{demand3-open, demand3-closed}
 
 -- header 5A A5 with checking on, and bytes have come
@@ -25,20 +24,11 @@ printed-begins-none rules printed on sent come are =
     go : (rules : Rules) → rules ≡ checked 0x5A 0xA5 → Bytes (echo (rules .header) sent ++ come) → BeginsNone rules (echo (rules .header) sent) come
     go rules is are = rw is (printed-echo-begins-none sent (commands-are-bytes sent come (rw is at are)) come)
 
--- what has come is bytes
+-- the premise is all that demand 3 has besides
 module _ (now : Moment) (calls : List Call) (sent : List Sent) where
   abbrev header : List ℕ
   header = rulesOf (now .panel) .header
 
-  open-bytes : (frames : List (List ℕ)) (tail : List ℕ) → EchoOnAnOpenLine now calls sent frames tail → Bytes (echo header sent ++ (joined frames ++ tail))
-  open-bytes frames tail e =
-      let whole = echo header sent ++ (joined frames ++ tail) in
-      bytes-of whole [] (rw (append-nil (map Line.byte whole)) (rw (e .came) at (all-given-bytes now calls (e .typed))))
-
-  closed-bytes : (frames : List (List ℕ)) → EchoBehindAMark now calls sent frames → Bytes (echo header sent ++ joined frames)
-  closed-bytes frames e = bytes-of (echo header sent ++ joined frames) (Line.mark ∷ []) (rw (e .came) at (all-given-bytes now calls (e .typed)))
-
-  -- the premise is all that demand 3 has besides
   costs-none-open : (frames : List (List ℕ)) (tail : List ℕ) → EchoOnAnOpenLine now calls sent frames tail
       → BeginsNone (rulesOf (now .panel)) (echo header sent) (joined frames ++ tail) → CostsNone now calls frames
   costs-none-open frames tail e begins-none =
@@ -72,9 +62,9 @@ pub echo-costs-none : EchoCostsNone
 echo-costs-none =
     record {
       open-line = λ now calls sent frames tail e inside.
-          costs-none-open now calls sent frames tail e (echo-checked-inside (rulesOf (now .panel)) (e .ready .checking-on) (joined frames ++ tail) sent inside);
+          costs-none-open now calls sent frames tail e (echo-checked-inside (rulesOf (now .panel)) (joined frames ++ tail) (e .ready .checking-on) sent inside);
       behind-a-mark = λ now calls sent frames e inside.
-          costs-none-closed now calls sent frames e (echo-checked-inside (rulesOf (now .panel)) (e .ready .checking-on) (joined frames) sent inside);
+          costs-none-closed now calls sent frames e (echo-checked-inside (rulesOf (now .panel)) (joined frames) (e .ready .checking-on) sent inside);
     }
 
 pub printed-echo-costs-none : PrintedEchoCostsNone
@@ -82,8 +72,10 @@ printed-echo-costs-none =
     record {
       open-line = λ now calls sent frames tail e printed.
           costs-none-open now calls sent frames tail e
-          (printed-begins-none (rulesOf (now .panel)) printed (e .ready .checking-on) sent (joined frames ++ tail) (open-bytes now calls sent frames tail e));
+          (printed-begins-none (rulesOf (now .panel)) printed (e .ready .checking-on) sent (joined frames ++ tail)
+          (came-bytes now calls (e .typed) (echo (rulesOf (now .panel) .header) sent ++ (joined frames ++ tail)) (e .came)));
       behind-a-mark = λ now calls sent frames e printed.
           costs-none-closed now calls sent frames e
-          (printed-begins-none (rulesOf (now .panel)) printed (e .ready .checking-on) sent (joined frames) (closed-bytes now calls sent frames e));
+          (printed-begins-none (rulesOf (now .panel)) printed (e .ready .checking-on) sent (joined frames)
+          (came-bytes-closed now calls (e .typed) (echo (rulesOf (now .panel) .header) sent ++ joined frames) (e .came)));
     }

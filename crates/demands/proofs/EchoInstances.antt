@@ -33,6 +33,7 @@ answered-ready = record { arises = by-call (fed version) ask tt (fed-arises vers
 abbrev heard : List ℕ
 heard = take 7 (answered .lent .room)
 
+-- the command that it answers, which was accepted
 abbrev sent : List Sent
 sent = record { command = 0x81; accepted = true } ∷ []
 
@@ -69,7 +70,7 @@ echo-behind-a-mark = printed-echo-costs-none .behind-a-mark answered closed sent
 
 -- the same with the places inside checked, as any header asks for it
 inside-checked : (come : List ℕ) → BeginsNoneInside (checked 0x5A 0xA5) sent come
-inside-checked come = echo-needs-inside (checked 0x5A 0xA5) refl come sent (printed-echo-begins-none sent (omega arith, tt) come)
+inside-checked come = echo-needs-inside (checked 0x5A 0xA5) come sent (printed-echo-begins-none sent (omega arith, tt) come)
 
 pub checked-echo-behind-a-mark : acceptedOf (handedOverAll answered closed) ≡ readVersion ∷ []
 unfolding computingReading computingCalls computingAcknowledgements

@@ -1,5 +1,6 @@
 -- The inputs that calls give are bytes and marks.
-use mathlib.Core.List.{List, [], _∷_, _++_, map}
+use mathlib.Core.Path.{_≡_}
+use mathlib.Core.List.{List, [], _∷_, _++_, map, append-nil}
 use Prim.Native.Nat.{ℕ, zero, suc, _<_}
 use lib.ListN.{take}
 use Rattle.wire.specs.Bytes.{Bytes}
@@ -50,13 +51,22 @@ given-bytes now ask typed = tt
 given-bytes now (contact c) typed = tt
 given-bytes now lift typed = tt
 
-pub all-given-bytes : (now : Moment) (calls : List Call) → AllTyped calls → AreBytes (givenAll now calls)
+all-given-bytes : (now : Moment) (calls : List Call) → AllTyped calls → AreBytes (givenAll now calls)
 unfolding AreBytes givenAll AllTyped
 all-given-bytes now [] typed = tt
 all-given-bytes now (call ∷ calls) typed =
     are-append (given now call) (givenAll (after now call) calls) (given-bytes now call (typed .0)) (all-given-bytes (after now call) calls (typed .1))
 
-pub bytes-of : (xs : List ℕ) (more : List Input) → AreBytes (map Line.byte xs ++ more) → Bytes xs
+bytes-of : (xs : List ℕ) (more : List Input) → AreBytes (map Line.byte xs ++ more) → Bytes xs
 unfolding AreBytes
 bytes-of [] more are = bytes-nil
 bytes-of (x ∷ xs) more are = bytes-cons x xs (are .0) (bytes-of xs more (are .1))
+
+-- all that has come, as on a line still open
+pub came-bytes : (now : Moment) (calls : List Call) → AllTyped calls → (xs : List ℕ) → givenAll now calls ≡ map Line.byte xs → Bytes xs
+came-bytes now calls typed xs came = bytes-of xs [] (rw (append-nil (map Line.byte xs)) (rw came at (all-given-bytes now calls typed)))
+
+-- and in front of a mark
+pub came-bytes-closed : (now : Moment) (calls : List Call) → AllTyped calls → (xs : List ℕ) → givenAll now calls ≡ map Line.byte xs ++ (Line.mark ∷ [])
+    → Bytes xs
+came-bytes-closed now calls typed xs came = bytes-of xs (Line.mark ∷ []) (rw came at (all-given-bytes now calls typed))

@@ -2,14 +2,14 @@
 -- proofs/Demand2.
 use Prim.Native.Nat.{ℕ, _+_}
 use mathlib.Core.Path.{_≡_}
-use mathlib.Core.Bool.{Bool, true, false, _&&_}
+use mathlib.Core.Bool.{Bool, true, false}
 use mathlib.Core.List.{List, [], _∷_, _++_}
 use lib.ListN.{length, drop}
 use Rattle.wire.specs.ByteOrder.{lowByte, highByte}
 use Rattle.check_value.specs.CheckValue.{checkValue}
 use Rattle.frame.specs.Acknowledgement.{verdict}
 use Rattle.touch.specs.declared.Setup.{Setup}
-use Rattle.touch.specs.Setup.{checkingOf, acknowledgingOf}
+use Rattle.panel.specs.State.{answering}
 use Rattle.demands.specs.Calls.{Moment, ask, after}
 
 -- "header, length, command, 0xFF, check"; "the same with 0x00". 02, §1: "an acknowledgement carries 02, and its frame still has seven bytes with checking on"
@@ -21,7 +21,7 @@ sevenBytes setup command good =
 -- "With checking and acknowledging both on, each accepted frame is first answered ..; each bad check by the same with 0x00." "The reply follows the
 -- acknowledgement at once in the same room. .. bytes past the reported count stay.": the whole room that asking leaves, with this reply, perhaps an empty one
 pub record Acknowledges (now : Moment) (command : ℕ) (good : Bool) (reply : List ℕ) : Type 0 where
-  pub both-on : (checkingOf (now .panel .setup) && acknowledgingOf (now .panel .setup)) ≡ true
+  pub both-on : answering (now .panel .setup) ≡ true
       → after now ask .lent .room ≡ sevenBytes (now .panel .setup) command good ++ (reply ++ drop (7 + length reply) (now .lent .room))
-  pub one-off : (checkingOf (now .panel .setup) && acknowledgingOf (now .panel .setup)) ≡ false
+  pub one-off : answering (now .panel .setup) ≡ false
       → after now ask .lent .room ≡ reply ++ drop (length reply) (now .lent .room)

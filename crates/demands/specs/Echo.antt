@@ -1,5 +1,5 @@
 -- Demand 3 where the damage is the panel's own acknowledgements: on a line of two wires it hears what it sends. 02, §1: "With its 02 an acknowledgement is no
--- good frame in demand 3." The theorems are in proofs/Demand3.
+-- good frame in demand 3." The theorems are in proofs/Echo.
 use Prim.Native.Nat.{ℕ, _≤_}
 use mathlib.Core.Path.{_≡_}
 use mathlib.Core.List.{List, [], _∷_, _++_, map}

@@ -4,7 +4,7 @@ use mathlib.Core.Bool.{Bool, true, false, not, _&&_}
 use mathlib.Core.List.{List, [], _∷_, _++_, append-assoc}
 use Prim.Native.Nat.{ℕ, zero, suc, _+_, _<_}
 use native.Mathlib.Omega.{arith}
-use borrow.Author.Tests.{eq-eqb, eqb-true, eqb-false}
+use borrow.Author.Tests.{eq-eqb, eqb-true, eqb-false, not-true}
 use lib.Dec.{eqb}
 use lib.ListN.{length, getD, drop, length-append}
 use lib.Seq.{drop-append-add}
@@ -50,22 +50,22 @@ module _ (rules : Rules) where
   none-with-first (x ∷ damage) come first later (suc p) inside = later p (omega arith)
 
 -- Of an echo exactly the places inside the acknowledgements have to be checked: with checking on their first ones never begin a good frame.
-module _ (rules : Rules) (checking : rules .checking ≡ true) (come : List ℕ) where
+module _ (rules : Rules) (come : List ℕ) where
   -- "Two header bytes H1 H2", or one
   abbrev header : List ℕ
   header = rules .header
 
-  first-begins-none : (s : Sent) (more frame rest : List ℕ) → sentBytes header s ++ more ≡ frame ++ rest → Good rules frame → ⊥
-  first-begins-none s more frame rest is good = acknowledgement-begins-none header (s .command) (s .accepted) more frame rest is (rw checking at good)
+  first-begins-none : rules .checking ≡ true → (s : Sent) (more frame rest : List ℕ) → sentBytes header s ++ more ≡ frame ++ rest → Good rules frame → ⊥
+  first-begins-none checking s more frame rest is good = acknowledgement-begins-none header (s .command) (s .accepted) more frame rest is (rw checking at good)
 
-  pub echo-checked-inside : (sent : List Sent) → BeginsNoneInside rules sent come → BeginsNone rules (echo header sent) come
+  pub echo-checked-inside : rules .checking ≡ true → (sent : List Sent) → BeginsNoneInside rules sent come → BeginsNone rules (echo header sent) come
   unfolding echo
-  echo-checked-inside [] inside = λ p within. absurd (omega arith)
-  echo-checked-inside (s ∷ sent) inside =
+  echo-checked-inside checking [] inside = λ p within. absurd (omega arith)
+  echo-checked-inside checking (s ∷ sent) inside =
       let more = echo header sent ++ come in
       none-in-both rules (sentBytes header s) (echo header sent) come
-      (none-with-first rules (sentBytes header s) more (first-begins-none s more) (inside .0))
-      (echo-checked-inside sent (inside .1))
+      (none-with-first rules (sentBytes header s) more (first-begins-none checking s more) (inside .0))
+      (echo-checked-inside checking sent (inside .1))
 
   pub echo-needs-inside : (sent : List Sent) → BeginsNone rules (echo header sent) come → BeginsNoneInside rules sent come
   unfolding echo
@@ -109,7 +109,7 @@ module _ (h1 h2 : ℕ) where
 
   -- demand 3's premise where the damage is an echo of such acknowledgements, whatever follows it
   pub echo-begins-none : (sent : List Sent) (come : List ℕ) → NoHeaderInside h1 h2 sent → BeginsNone (checked h1 h2) (echo (h1 ∷ h2 ∷ []) sent) come
-  echo-begins-none sent come free = echo-checked-inside (checked h1 h2) refl come sent (none-inside sent come free)
+  echo-begins-none sent come free = echo-checked-inside (checked h1 h2) come refl sent (none-inside sent come free)
 
 -- Header 5A A5: one test over every command byte, for each of the two verdicts.
 
@@ -138,10 +138,6 @@ all-512 false = refl
 -- every acknowledgement of a panel with this header
 pub printed-header-free : (sent : Sent) → sent .command < 256 → headerInside 0x5A 0xA5 sent ≡ false
 printed-header-free sent below = not-true (headerInside 0x5A 0xA5 sent) (below-passes 256 (no-header (sent .accepted)) (all-512 (sent .accepted)) (sent .command) below)
-  where
-    not-true : (b : Bool) → not b ≡ true → b ≡ false
-    not-true false is = refl
-    not-true true is = true-is-not-false (sym is)
 
 -- so every run of them
 pub printed-none-inside : (sent : List Sent) → CommandBytes sent → NoHeaderInside 0x5A 0xA5 sent

@@ -67,3 +67,10 @@ premise-may-be-false begins-none = begins-none 1 (omega arith) (0x02 ∷ 0x02 �
 pub frame-may-be-lost : reports (checked 0x02 0x02) true (echo (0x02 ∷ 0x02 ∷ []) one ++ following) ≡ acceptedFrame 0xFF (0x46 ∷ 0x30 ∷ 0x02 ∷ 0x02 ∷ 0x05 ∷ []) ∷ []
 unfolding echo acknowledgement acknowledgementLength verdict reports reportsFrom look behind afterHeader decidedByCheck cutShort isWait reportOf goneBy leastLength checkLength contentOf rightCheck checkValue checkFrom byteStep bitSteps bitStep polynomial
 frame-may-be-lost = refl
+
+-- With header 30 A5 the same acknowledgement, 30 A5 02 08 FF 46 30, ends with H1: with A5 03 80 BE E0 behind it that byte begins a good frame.
+pub last-byte-begins : BeginsNone (checked 0x30 0xA5) (echo (0x30 ∷ 0xA5 ∷ []) one) (0xA5 ∷ 0x03 ∷ 0x80 ∷ 0xBE ∷ 0xE0 ∷ []) → ⊥
+unfolding echo acknowledgement acknowledgementLength verdict leastLength checkLength rightCheck checkValue checkFrom byteStep bitSteps bitStep polynomial
+last-byte-begins begins-none =
+    begins-none 6 (omega arith) (0x30 ∷ 0xA5 ∷ 0x03 ∷ 0x80 ∷ 0xBE ∷ 0xE0 ∷ []) [] refl
+    (record { body = 0x80 ∷ 0xBE ∷ 0xE0 ∷ []; whole = refl; least = omega arith; most = omega arith; right = refl })
