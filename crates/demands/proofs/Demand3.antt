@@ -5,7 +5,6 @@ use mathlib.Core.List.{List, [], _++_}
 use Prim.Native.Nat.{ℕ}
 use Rattle.frame.specs.Frame.{headerBytes}
 use Rattle.reading.specs.Place.{Rules}
-use Rattle.reading.specs.Line as Line
 use Rattle.reading.specs.Moves.{Kept, fresh, waiting}
 use Rattle.reading.specs.Run.{run}
 use Rattle.reading.specs.Demand3.{joined, acceptedOf, oneLessThanLongest}
