@@ -3,4 +3,5 @@ pub mod PastEnd
 pub mod Parts
 pub mod Over
 pub mod LaidAt
+pub mod Below
 pub mod Determined

@@ -6,6 +6,7 @@ use native.Mathlib.Omega.{arith}
 use lib.ListN.{length, getD}
 use Rattle.wire.specs.Bytes.{Bytes}
 use Rattle.wire.specs.ByteOrder.{word, wordAt, highByte, lowByte}
+use Rattle.wire.proofs.Below.{Below, word-some}
 use Rattle.words.specs.Words.{wordsOf, bytesOf}
 
 pub length-wordsOf : (bytes : List ℕ) → length (wordsOf bytes) ≡ length bytes / 2
@@ -25,6 +26,14 @@ wordsOf-at (high ∷ low ∷ bytes) (suc i) inside =
     let place : suc i * 2 ≡ suc (suc (i * 2)) = omega arith in
     let next : suc (suc (i * 2)) + 1 ≡ suc (suc (i * 2 + 1)) = omega arith in
     rw (wordsOf-at bytes i (omega arith), place, next)
+
+-- two bytes carry a 16-bit number
+pub wordsOf-16-bit : (bytes : List ℕ) → Bytes bytes → Below 65536 (wordsOf bytes)
+unfolding wordsOf
+wordsOf-16-bit [] are i = word-some
+wordsOf-16-bit (high ∷ []) are i = word-some
+wordsOf-16-bit (high ∷ low ∷ bytes) are zero = omega (arith, are 0, are 1)
+wordsOf-16-bit (high ∷ low ∷ bytes) are (suc i) = wordsOf-16-bit bytes (λ j. are (suc (suc j))) i
 
 pub length-bytesOf : (words : List ℕ) → length (bytesOf words) ≡ length words + length words
 unfolding bytesOf

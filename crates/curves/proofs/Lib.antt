@@ -1,0 +1,16 @@
+pub mod Latest
+pub mod Clears
+pub mod Naming
+pub mod Refusing
+pub mod Moving
+pub mod Laying
+pub mod Keeping
+pub mod InArea
+pub mod Channels
+pub mod Lengths
+pub mod OneChannel
+pub mod ByHistory
+pub mod OtherWords
+pub mod Bounds
+pub mod Modes
+pub mod Determined
