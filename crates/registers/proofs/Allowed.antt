@@ -7,13 +7,14 @@ use Prim.Native.Nat.{ℕ, zero, suc, _+_, _-_, _≤_, _<_}
 use native.Mathlib.Omega.{arith}
 use borrow.Author.Tests.{leb-true, leb-false, ltb-true, ltb-false, le-leb, eqb-true, eqb-false, not-false}
 use lib.Dec.{eqb, leb, ltb}
-use lib.ListN.{length}
+use lib.ListN.{length, getD}
 use Rattle.wire.specs.ByteOrder.{word}
 use Rattle.wire.proofs.LaidAt.{length-laidAt}
 use Rattle.registers.specs.declared.Registers.{Registers}
-use Rattle.registers.specs.Table.{registerAt, writable}
-use Rattle.registers.specs.Run.{covers, allWritable, halfPage, unwritableRun, byteFor, wrongValue, registersAfter}
+use Rattle.registers.specs.Table.{registerAt, clearRegister, writable}
+use Rattle.registers.specs.Run.{covers, allWritable, halfPage, unwritableRun, byteFor, clearing, wrongValue, readAs, readsAs, registersAfter}
 use Rattle.registers.specs.Touched.{pageOf}
+use Rattle.registers.proofs.ReadsAs.{length-readsAs, clear-reads, other-reads}
 use Rattle.registers.proofs.Written.{written-at, others-stay}
 use Rattle.registers.proofs.Touched.{same-page}
 
@@ -65,18 +66,36 @@ all-writable address (suc n) all register from below =
 module _ (registers : Registers) (whole : length (registers .bytes) ≡ 256) (address : ℕ) (bytes : List ℕ) (fits : address + length bytes ≤ 256) where
   pub length-written : length (registersAfter registers address bytes .bytes) ≡ 256
   unfolding registersAfter
-  length-written = rw (le-leb (address + length bytes) 256 fits) (length-laidAt (registers .bytes) bytes address (omega arith) ∙ whole)
+  length-written =
+      let long = length-readsAs address bytes in
+      rw (le-leb (address + length bytes) 256 fits) (length-laidAt (registers .bytes) (readsAs address bytes) address (omega arith) ∙ whole)
 
-  -- what the run covers is the byte given to it
-  given-now : (register : ℕ) → covers address (length bytes) register ≡ true → registerAt (registersAfter registers address bytes) register ≡ byteFor address bytes register
+  -- what the run covers reads as the byte given to it
+  reads-now : (register : ℕ) → covers address (length bytes) register ≡ true
+      → registerAt (registersAfter registers address bytes) register ≡ readAs register (byteFor address bytes register)
   unfolding byteFor
-  given-now register is =
+  reads-now register is =
       let two = in-run address (length bytes) register is in
       let place : address + (register - address) ≡ register = omega arith in
-      ap (registerAt (registersAfter registers address bytes)) (sym place) ∙ written-at registers whole address bytes fits (register - address) (omega arith)
+      ap (registerAt (registersAfter registers address bytes)) (sym place)
+      ∙ written-at registers whole address bytes fits (register - address) (omega arith)
+      ∙ ap (λ (r : ℕ). readAs r (getD bytes (register - address) 0)) place
+
+  -- and is that byte, but for EB
+  given-now : (register : ℕ) → (register ≡ clearRegister → ⊥) → covers address (length bytes) register ≡ true
+      → registerAt (registersAfter registers address bytes) register ≡ byteFor address bytes register
+  given-now register not is = reads-now register is ∙ sym (other-reads register (byteFor address bytes register) not)
 
   stays-out : (register : ℕ) → covers address (length bytes) register ≡ false → registerAt (registersAfter registers address bytes) register ≡ registerAt registers register
   stays-out register is = others-stay registers whole address bytes fits register (out-of-run address (length bytes) register is)
+
+  -- 02, §2: EB "reads 00", whatever is written
+  pub clear-reads-00 : registerAt registers clearRegister ≡ 0 → registerAt (registersAfter registers address bytes) clearRegister ≡ 0
+  clear-reads-00 before = go (covers address (length bytes) clearRegister) refl
+    where
+      go : (b : Bool) → covers address (length bytes) clearRegister ≡ b → registerAt (registersAfter registers address bytes) clearRegister ≡ 0
+      go true is = reads-now clearRegister is ∙ sym (clear-reads clearRegister (byteFor address bytes clearRegister) refl)
+      go false is = stays-out clearRegister is ∙ before
 
   module _ (may : unwritableRun address (length bytes) ≡ false) where
     -- "isn't writable": what is not stays, whatever is registersAfter
@@ -98,7 +117,8 @@ module _ (registers : Registers) (whole : length (registers .bytes) ≡ 256) (ad
     page-stays-below pages right below =
         go (covers address (length bytes) 0x03) refl (covers address (length bytes) 0x04) refl
         (neither (not (allWritable address (length bytes))) _ may .1)
-        (neither (covers address (length bytes) 0x01 && ltb 0x3F (byteFor address bytes 0x01)) _ right .1)
+        (neither (covers address (length bytes) 0x01 && ltb 0x3F (byteFor address bytes 0x01)) _
+        (neither _ (covers address (length bytes) clearRegister && not (clearing (byteFor address bytes clearRegister))) right .0) .1)
       where
         go : (high : Bool) → covers address (length bytes) 0x03 ≡ high → (low : Bool) → covers address (length bytes) 0x04 ≡ low
             → (high && not low || not high && low) ≡ false
@@ -107,7 +127,7 @@ module _ (registers : Registers) (whole : length (registers .bytes) ≡ 256) (ad
         go true p true q half value =
             let least : word (byteFor address bytes 0x03) (byteFor address bytes 0x04) < pages =
             leb-false pages (word (byteFor address bytes 0x03) (byteFor address bytes 0x04)) value in
-            unfold pageOf in rw (given-now 0x03 p, given-now 0x04 q) least
+            unfold pageOf in rw (given-now 0x03 (λ e. omega arith) p, given-now 0x04 (λ e. omega arith) q) least
         go true p false q half value = no half
         go false p true q half value = no half
         go false p false q half value = rw (same-page (registersAfter registers address bytes) registers (stays-out 0x03 p) (stays-out 0x04 q)) below

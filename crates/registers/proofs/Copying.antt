@@ -13,10 +13,10 @@ use Rattle.wire.proofs.Over.{over-nil, over-more, and-true, left-false, right-f
 use Rattle.registers.specs.declared.Registers.{Registers}
 use Rattle.wire.specs.Addresses.{registerCount}
 use Rattle.registers.specs.Table.{holding, registerAt, registerRun}
-use Rattle.registers.specs.Run.{registersAfter}
+use Rattle.registers.specs.Run.{readsAs, registersAfter}
 
 pub run-written : (registers : Registers) (address a : ℕ) (bytes next : List ℕ) → a ≡ address → a + length bytes ≤ 256
-    → next ≡ laidAt a bytes (registers .bytes)
+    → next ≡ laidAt a (readsAs a bytes) (registers .bytes)
     → _≡_ {A = Registers} (holding next) (registersAfter registers address bytes)
 unfolding registersAfter
 run-written registers address a bytes next is fits e =

@@ -7,6 +7,8 @@ use Rattle.registers.proofs.is_unwritable.Reads as is-unwritable
 use Rattle.registers.proofs.is_unwritable.Kinds as is-unwritable-kinds
 use Rattle.registers.proofs.is_wrong_value.Reads as is-wrong-value
 use Rattle.registers.proofs.is_wrong_value.Kinds as is-wrong-value-kinds
+use Rattle.registers.proofs.clear_value.Reads as clear-value
+use Rattle.registers.proofs.clear_value.Kinds as clear-value-kinds
 use Rattle.registers.proofs.drops_catch.Reads as drops-catch
 use Rattle.registers.proofs.drops_catch.Kinds as drops-catch-kinds
 use Rattle.registers.proofs.RegisterAddress.passes_end.Reads as passes-end
@@ -37,6 +39,9 @@ is-unwritable-determined κs a x y s t p q = cc
 
 pub is-wrong-value-determined : OneAnswer 1 is-wrong-value-kinds.ps is-wrong-value-kinds.r is-wrong-value.Post
 is-wrong-value-determined κs a x y s t p q = cc
+
+pub clear-value-determined : OneAnswer 1 clear-value-kinds.ps clear-value-kinds.r clear-value.Post
+clear-value-determined κs a x y s t p q = p ∙ sym q
 
 pub drops-catch-determined : OneAnswer 1 drops-catch-kinds.ps drops-catch-kinds.r drops-catch.Post
 drops-catch-determined κs a x y s t p q = cc

@@ -1,4 +1,5 @@
 pub mod Runs
+pub mod ReadsAs
 pub mod Copying
 pub mod Written
 pub mod Determined

@@ -13,7 +13,7 @@ use Rattle.wire.specs.ByteOrder.{word}
 use Rattle.wire.specs.Room.{laidAt}
 use Rattle.registers.specs.declared.Registers.{Registers}
 use Rattle.registers.specs.Table.{holding, startRows, withRows, startRegisters, registerAt, writable}
-use Rattle.registers.specs.Run.{covers, allWritable, halfPage, unwritableRun, byteFor, wrongValue, dropsCatch}
+use Rattle.registers.specs.Run.{covers, allWritable, halfPage, unwritableRun, byteFor, clearing, wrongValue, dropsCatch, clearValue}
 
 -- what is left of a run decides
 pub writable-start : (address n : ℕ) → allWritable address n ≡ allWritable (address + 0) (n - 0)
@@ -56,12 +56,21 @@ byte-before register address bytes b past is =
     let none : register - address ≡ 0 = omega arith in
     rw none is
 
-pub run-wrong : (address a : ℕ) (bytes : List ℕ) (pages light high low page : ℕ) (has-light has-page : Bool) → a ≡ address
-    → light ≡ byteFor a bytes 1 → high ≡ byteFor a bytes 3 → low ≡ byteFor a bytes 4 → page ≡ word high low
-    → has-light ≡ covers a (length bytes) 1 → has-page ≡ covers a (length bytes) 3
-    → (has-light && ltb 0x3F light || has-page && leb pages page) ≡ wrongValue address bytes pages
+pub run-wrong : (address a : ℕ) (bytes : List ℕ) (pages light high low page value : ℕ) (has-light has-page has-clear clear : Bool) → a ≡ address
+    → light ≡ byteFor a bytes 1 → high ≡ byteFor a bytes 3 → low ≡ byteFor a bytes 4 → page ≡ word high low → value ≡ byteFor a bytes 0xEB
+    → clear ≡ clearing value → has-light ≡ covers a (length bytes) 1 → has-page ≡ covers a (length bytes) 3 → has-clear ≡ covers a (length bytes) 0xEB
+    → (has-light && ltb 0x3F light || has-page && leb pages page || has-clear && not clear) ≡ wrongValue address bytes pages
 unfolding wrongValue
-run-wrong address a bytes pages light high low page has-light has-page is p q r s t u = rw (p, s, q, r, t, u, is)
+run-wrong address a bytes pages light high low page value has-light has-page has-clear clear is p q r s v c t u w = rw (p, s, q, r, c, v, t, u, w, is)
+
+pub run-clears : (address a v : ℕ) (bytes : List ℕ) (c : Bool) → a ≡ address → c ≡ covers a (length bytes) 0xEB → c ≡ true → v ≡ byteFor a bytes 0xEB
+    → v ≡ clearValue address bytes
+unfolding clearValue
+run-clears address a v bytes c is p on e = e ∙ rw (← is, sym p ∙ on)
+
+pub run-clears-none : (address a : ℕ) (bytes : List ℕ) (c : Bool) → a ≡ address → c ≡ covers a (length bytes) 0xEB → c ≡ false → 0 ≡ clearValue address bytes
+unfolding clearValue
+run-clears-none address a bytes c is p off = rw (← is, sym p ∙ off)
 
 pub started : (h1 h2 v w : ℕ) (checking acknowledging : Bool) → v ≡ cond checking 0x10 0x00 → w ≡ cond acknowledging 0x08 0x00
     → _≡_ {A = Registers} (holding (set (set (set (set (set (set (set (replicate registerCount 0) 0x00 0x10) 0x01 0x3F) 0x0B 0xFF) 0x12 v) 0x13 h1) 0x1A h2) 0x1C w))

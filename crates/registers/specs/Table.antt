@@ -67,7 +67,11 @@ unfoldable pub registerRun : Registers → ℕ → ℕ → List ℕ
 registerRun registers address zero = []
 registerRun registers address (suc n) = registerAt registers address ∷ registerRun registers (suc address) n
 
--- the column "Writable"; that the page's two bytes, 03 and 04, are written together is judged of the whole run
+-- 02, §2: "Register EB, from source document 003, clears"
+abbrev pub clearRegister : ℕ
+clearRegister = 0xEB
+
+-- the column "Writable"; that the page's two bytes, 03 and 04, are written together is judged of the whole run. 02, §2: register EB "becomes writable"
 unfoldable pub writable : ℕ → Bool
 writable address =
-    eqb address 0x01 || eqb address 0x02 || eqb address 0x03 || eqb address 0x04 || eqb address 0x05 || eqb address 0x0B
+    eqb address 0x01 || eqb address 0x02 || eqb address 0x03 || eqb address 0x04 || eqb address 0x05 || eqb address 0x0B || eqb address clearRegister

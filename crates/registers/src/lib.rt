@@ -8,8 +8,11 @@ ghost use Rattle.wire.specs.Room.{over, laidAt, lays, laid};
 ghost use Rattle.wire.specs.Addresses.{registerCount};
 ghost use Rattle.registers.specs.Table.{holding, startRegisters, registerAt, registerRun, writable};
 ghost use Rattle.registers.specs.Touched.{pageOf, withPage, isDown, withStatus, isTouchOff, withPlace};
-ghost use Rattle.registers.specs.Run.{covers, allWritable, unwritableRun, byteFor, wrongValue, registersAfter, dropsCatch};
+ghost use Rattle.registers.specs.Run.{covers, allWritable, unwritableRun, byteFor, clearing, wrongValue, readAs, readsAs, registersAfter, dropsCatch, clearValue};
 use wire::REGISTER_COUNT;
+
+// 02, §2: a write to it clears curves; `clearRegister` in specs/.
+const CLEAR_REGISTER: usize = 0xEB;
 
 // An address of a register. It cannot stand where a word's address is meant, nor the other way round.
 pub struct RegisterAddress(pub u8);
@@ -37,6 +40,7 @@ fn is_writable(address: usize) -> bool
         | (address == 0x04)
         | (address == 0x05)
         | (address == 0x0B)
+        | (address == CLEAR_REGISTER)
 }
 
 fn has(address: usize, n: usize, register: usize) -> bool
@@ -90,7 +94,26 @@ fn byte_for(register: usize, address: usize, bytes: &[u8]) -> u8
     }
 }
 
-// These bytes from the address on would set the backlight above 3F, or a page that is not below P.
+// A value that register EB takes.
+fn is_clearing(value: u8) -> bool
+    ensures { λ r. ⌜ r ≡ clearing value ⌝ }
+{
+    (0x55 <= value) & (value <= 0x5D)
+}
+
+// The value that a write of these bytes from the address on gives to register EB; 00 where it gives none.
+pub fn clear_value(address: RegisterAddress, bytes: &[u8]) -> u8
+    ensures { λ r. ⌜ r ≡ clearValue (address .0) (now (bytes .entry)) ⌝ }
+{
+    let a = wire::count(address.0);
+    if has(a, bytes.len(), CLEAR_REGISTER) {
+        byte_for(CLEAR_REGISTER, a, bytes)
+    } else {
+        0
+    }
+}
+
+// These bytes from the address on would set the backlight above 3F, a page that is not below P, or EB to a value that it does not take.
 pub fn is_wrong_value(address: RegisterAddress, bytes: &[u8], pages: u16) -> bool
     ensures { λ r. ⌜ r ≡ wrongValue (address .0) (now (bytes .entry)) pages ⌝ }
 {
@@ -98,7 +121,10 @@ pub fn is_wrong_value(address: RegisterAddress, bytes: &[u8], pages: u16) -> boo
     let n = bytes.len();
     let light = byte_for(0x01, a, bytes);
     let page = wire::word(byte_for(0x03, a, bytes), byte_for(0x04, a, bytes));
-    (has(a, n, 0x01) & (0x3F < light)) | (has(a, n, 0x03) & (pages <= page))
+    let clear = is_clearing(byte_for(CLEAR_REGISTER, a, bytes));
+    (has(a, n, 0x01) & (0x3F < light))
+        | (has(a, n, 0x03) & (pages <= page))
+        | (has(a, n, CLEAR_REGISTER) & !clear)
 }
 
 // A bit that a register shows where its choice is on.
@@ -117,6 +143,27 @@ fn with_run(old: [u8; REGISTER_COUNT], at: usize, bytes: &[u8]) -> [u8; REGISTER
     let mut i = 0;
     while i < bytes.len() {
         next[at + i] = bytes[i];
+        i += 1;
+    }
+    next
+}
+
+// What a register reads once the byte has been written to it.
+fn read_as(register: usize, b: u8) -> u8
+    ensures { λ r. ⌜ r ≡ readAs register b ⌝ }
+{
+    if register == CLEAR_REGISTER { 0 } else { b }
+}
+
+// The array with these bytes written from a place on.
+fn with_written(old: [u8; REGISTER_COUNT], at: usize, bytes: &[u8]) -> [u8; REGISTER_COUNT]
+    requires { ⌜ at + length (now bytes) ≤ registerCount ⌝ }
+    ensures { λ r. ⌜ r ≡ laidAt at (readsAs at (now (bytes .entry))) old ⌝ }
+{
+    let mut next = old;
+    let mut i = 0;
+    while i < bytes.len() {
+        next[at + i] = read_as(at + i, bytes[i]);
         i += 1;
     }
     next
@@ -175,7 +222,7 @@ impl Registers {
         bytes[wire::count(address.0)]
     }
 
-    // With these bytes from the address on; a run that passes the end leaves all as it stood.
+    // With these bytes written from the address on; a run that passes the end leaves all as it stood.
     pub fn write(self, address: RegisterAddress, bytes: &[u8]) -> Registers
         ensures { λ r. ⌜ r ≡ registersAfter self (address .0) (now (bytes .entry)) ⌝ }
     {
@@ -184,7 +231,7 @@ impl Registers {
         if a + n <= REGISTER_COUNT {
             let old = self.bytes;
             Registers {
-                bytes: with_run(old, a, bytes),
+                bytes: with_written(old, a, bytes),
             }
         } else {
             self

@@ -1,0 +1,12 @@
+-- `registers::is_clearing` meets its contract.
+use mathlib.Core.Path.{refl}
+use Rattle.registers.specs.Run.{clearing}
+use Rattle.registers.proofs.is_clearing.Statement.{statement}
+use Rattle.registers.proofs.is_clearing.Tie as tie
+
+returns : tie.Need-returns
+unfolding clearing
+returns c = refl
+
+pub is-clearing-spec : {M : Type 1} → statement M
+is-clearing-spec = tie.close (tie.spec returns)

@@ -1,0 +1,11 @@
+-- `registers::read_as` meets its contract.
+use Rattle.registers.proofs.ReadsAs.{clear-reads, other-reads}
+use Rattle.registers.proofs.read_as.Statement.{statement}
+use Rattle.registers.proofs.read_as.Tie as tie
+
+pub read-as-spec : {M : Type 1} → statement M
+read-as-spec =
+    tie.close
+    (tie.spec
+    (λ c. search clear-reads)
+    (λ c. search other-reads))
