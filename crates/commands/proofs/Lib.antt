@@ -1,5 +1,6 @@
 pub mod Judging
 pub mod Writing
+pub mod Adding
 pub mod Replies
 pub mod Reading
 pub mod Performance

@@ -16,8 +16,8 @@ use Rattle.words.specs.Words.{wordAtAddress, wordsOf, wordsWritten}
 use Rattle.words.proofs.Written.{other-words-stay}
 use Rattle.commands.specs.declared.Fixed.{Fixed}
 use Rattle.commands.specs.Lent.{Lent}
-use Rattle.commands.specs.Outcome.{isDone, writeRegistersOutcome, writeWordsOutcome}
-use Rattle.commands.specs.Effect.{registersLeft, catchDropped, registersWriting, wordsWriting, replying, registersReplying, wordsReplying}
+use Rattle.commands.specs.Outcome.{isDone, writeRegistersOutcome, writeWordsOutcome, addCurvesOutcome}
+use Rattle.commands.specs.Effect.{registersLeft, catchDropped, registersWriting, curvesAdding, wordsWriting, replying, registersReplying, wordsReplying}
 use Rattle.commands.specs.Perform.{registersBy, Performance, performance}
 use Rattle.commands.proofs.DoneWrites.{registers-passed, words-passed}
 
@@ -48,13 +48,14 @@ pub record NamesRegister (command : ℕ) (content : List ℕ) (pages address : �
   pub from : byteAt content 0 ≤ address
   pub below : address < byteAt content 0 + length (drop 1 content)
 
--- of four ways that leave the same
-of-four : {B : Type 0} (f : Performance → B) (r : B) (a b c : Bool) (v w x y : Performance) → f v ≡ r → f w ≡ r → f x ≡ r → f y ≡ r
-    → f (cond a v (cond b w (cond c x y))) ≡ r
-of-four f r true b c v w x y p q s t = p
-of-four f r false true c v w x y p q s t = q
-of-four f r false false true v w x y p q s t = s
-of-four f r false false false v w x y p q s t = t
+-- of five ways that leave the same
+of-five : {B : Type 0} (f : Performance → B) (r : B) (a b c d : Bool) (v w x y z : Performance) → f v ≡ r → f w ≡ r → f x ≡ r → f y ≡ r → f z ≡ r
+    → f (cond a v (cond b w (cond c x (cond d y z)))) ≡ r
+of-five f r true b c d v w x y z p q s t u = p
+of-five f r false true c d v w x y z p q s t u = q
+of-five f r false false true d v w x y z p q s t u = s
+of-five f r false false false true v w x y z p q s t u = t
+of-five f r false false false false v w x y z p q s t u = u
 
 abbrev writesRegisters : Fixed → List ℕ → Bool
 writesRegisters fixed content = isDone (writeRegistersOutcome (fixed .pages) content)
@@ -71,6 +72,10 @@ module _ (fixed : Fixed) (registers : Registers) (content : List ℕ) (lent : Le
   unfolding performance registersWriting
   drops-by-80 = refl
 
+  adds-by-84 : performance fixed registers 0x84 content lent .performed .adds ≡ isDone (addCurvesOutcome content)
+  unfolding performance curvesAdding
+  adds-by-84 = refl
+
   written-by-82 : performance fixed registers 0x82 content lent .lent .words
       ≡ cond (writesWords (lent .words) content) (wordsWritten (lent .words) (wordAt content 0) (drop 2 content)) (lent .words)
   unfolding performance wordsWriting
@@ -78,17 +83,30 @@ module _ (fixed : Fixed) (registers : Registers) (content : List ℕ) (lent : Le
 
   module _ (command : ℕ) where
     -- only 0x80 writes registers and drops the catch
-    writes-none : eqb command 0x80 ≡ false → performance fixed registers command content lent .performed .writes ≡ false
-    unfolding performance registersReplying wordsWriting wordsReplying replying
+    pub writes-none : eqb command 0x80 ≡ false → performance fixed registers command content lent .performed .writes ≡ false
+    unfolding performance registersReplying wordsWriting wordsReplying replying curvesAdding
     writes-none not =
         rw not
-        (of-four (λ (d : Performance). d .performed .writes) false (eqb command 0x81) (eqb command 0x82) (eqb command 0x83) _ _ _ _ refl refl refl refl)
+        (of-five (λ (d : Performance). d .performed .writes) false (eqb command 0x81) (eqb command 0x82) (eqb command 0x83) (eqb command 0x84) _ _ _ _ _ refl refl refl refl
+        refl)
+
+    -- only 0x84 adds to curves, where it is done
+    pub adds-none : eqb command 0x84 ≡ false → performance fixed registers command content lent .performed .adds ≡ false
+    unfolding performance registersWriting registersReplying wordsWriting wordsReplying replying
+    adds-none not =
+        rw not
+        (of-five (λ (d : Performance). d .performed .adds) false (eqb command 0x80) (eqb command 0x81) (eqb command 0x82) (eqb command 0x83) _ _ _ _ _ refl refl
+        refl refl refl)
+
+    pub adds-as-done : command ≡ 0x84 → performance fixed registers command content lent .performed .adds ≡ isDone (addCurvesOutcome content)
+    adds-as-done is = rw (is, adds-by-84)
 
     pub catch-stays : eqb command 0x80 ≡ false → performance fixed registers command content lent .performed .drops ≡ false
-    unfolding performance registersReplying wordsWriting wordsReplying replying
+    unfolding performance registersReplying wordsWriting wordsReplying replying curvesAdding
     catch-stays not =
         rw not
-        (of-four (λ (d : Performance). d .performed .drops) false (eqb command 0x81) (eqb command 0x82) (eqb command 0x83) _ _ _ _ refl refl refl refl)
+        (of-five (λ (d : Performance). d .performed .drops) false (eqb command 0x81) (eqb command 0x82) (eqb command 0x83) (eqb command 0x84) _ _ _ _ _ refl refl refl refl
+        refl)
 
     pub registers-stay : eqb command 0x80 ≡ false → registersBy (performance fixed registers command content lent .performed) registers content ≡ registers
     registers-stay not = rw (writes-none not)
@@ -98,7 +116,8 @@ module _ (fixed : Fixed) (registers : Registers) (content : List ℕ) (lent : Le
     unfolding performance
     words-stay not =
         rw not
-        (of-four (λ (d : Performance). d .lent .words) (lent .words) (eqb command 0x80) (eqb command 0x81) (eqb command 0x83) _ _ _ _ refl refl refl refl)
+        (of-five (λ (d : Performance). d .lent .words) (lent .words) (eqb command 0x80) (eqb command 0x81) (eqb command 0x83) (eqb command 0x84) _ _ _ _ _ refl refl
+        refl refl refl)
 
     -- an 0x80 and an 0x82 that are done write their run; one that is refused writes nothing
     pub registers-as-done : (b : Bool) → command ≡ 0x80 → writesRegisters fixed content ≡ b

@@ -12,56 +12,71 @@ use Rattle.commands.specs.declared.Outcome.the-variants.{UnknownCommand}
 use Rattle.commands.specs.declared.Performed.{Performed}
 use Rattle.commands.specs.Lent.{Lent, lending}
 use Rattle.commands.specs.Outcome.{outcome}
-use Rattle.commands.specs.Effect.{answered, registersWriting, leavesWords, wordsWriting, replies, replying, registersReplying, wordsReplying}
+use Rattle.commands.specs.Effect.{answered, registersWriting, curvesAdding, leavesWords, wordsWriting, replies, replying, registersReplying, wordsReplying}
 use Rattle.commands.specs.Perform.{Performance, performs, onWords, onRoom, performance}
 
-module _ (fixed : Fixed) (registers : Registers) (command : ℕ) (content words room : List ℕ) where
+module _ (fixed : Fixed) (registers : Registers) (command : ℕ) (content words curves room : List ℕ) where
   pub performs-80 : (p : Performed) → command ≡ 0x80 → p ≡ registersWriting (fixed .pages) content
-      → performs p (lending words room) ≡ performance fixed registers command content (lending words room)
+      → performs p (lending words curves room) ≡ performance fixed registers command content (lending words curves room)
   unfolding performance
   performs-80 p is e = rw (eq-eqb command 0x80 is, e)
 
   module _ (not-80 : command ≡ 0x80 → ⊥) where
     pub performs-81 : (p : Performed) (left : List ℕ) → command ≡ 0x81 → replies p left ≡ registersReplying fixed registers content room
-        → performs p (lending words left) ≡ performance fixed registers command content (lending words room)
+        → performs p (lending words curves left) ≡ performance fixed registers command content (lending words curves room)
     unfolding performance
-    performs-81 p left is e = rw (ne-eqb command 0x80 not-80, eq-eqb command 0x81 is) (ap (onRoom (lending words room)) e)
+    performs-81 p left is e = rw (ne-eqb command 0x80 not-80, eq-eqb command 0x81 is) (ap (onRoom (lending words curves room)) e)
 
     module _ (not-81 : command ≡ 0x81 → ⊥) where
       pub performs-82 : (p : Performed) (left : List ℕ) → command ≡ 0x82 → leavesWords p left ≡ wordsWriting words content
-          → performs p (lending left room) ≡ performance fixed registers command content (lending words room)
+          → performs p (lending left curves room) ≡ performance fixed registers command content (lending words curves room)
       unfolding performance
       performs-82 p left is e =
-          rw (ne-eqb command 0x80 not-80, ne-eqb command 0x81 not-81, eq-eqb command 0x82 is) (ap (onWords (lending words room)) e)
+          rw (ne-eqb command 0x80 not-80, ne-eqb command 0x81 not-81, eq-eqb command 0x82 is) (ap (onWords (lending words curves room)) e)
 
       module _ (not-82 : command ≡ 0x82 → ⊥) where
         pub performs-83 : (p : Performed) (left : List ℕ) → command ≡ 0x83 → replies p left ≡ wordsReplying fixed words content room
-            → performs p (lending words left) ≡ performance fixed registers command content (lending words room)
+            → performs p (lending words curves left) ≡ performance fixed registers command content (lending words curves room)
         unfolding performance
         performs-83 p left is e =
-            rw (ne-eqb command 0x80 not-80, ne-eqb command 0x81 not-81, ne-eqb command 0x82 not-82, eq-eqb command 0x83 is) (ap (onRoom (lending words room)) e)
+            rw (ne-eqb command 0x80 not-80, ne-eqb command 0x81 not-81, ne-eqb command 0x82 not-82, eq-eqb command 0x83 is) (ap (onRoom (lending words curves room)) e)
 
-        pub performs-none : (p : Performed) → (command ≡ 0x83 → ⊥) → p ≡ answered UnknownCommand 0
-            → performs p (lending words room) ≡ performance fixed registers command content (lending words room)
-        unfolding performance
-        performs-none p not-83 is-p =
-            rw (ne-eqb command 0x80 not-80, ne-eqb command 0x81 not-81, ne-eqb command 0x82 not-82, ne-eqb command 0x83 not-83, is-p)
+        module _ (not-83 : command ≡ 0x83 → ⊥) where
+          pub performs-84 : (p : Performed) → command ≡ 0x84 → p ≡ curvesAdding content
+              → performs p (lending words curves room) ≡ performance fixed registers command content (lending words curves room)
+          unfolding performance
+          performs-84 p is e =
+              rw (ne-eqb command 0x80 not-80, ne-eqb command 0x81 not-81, ne-eqb command 0x82 not-82, ne-eqb command 0x83 not-83, eq-eqb command 0x84 is, e)
+
+          pub performs-none : (p : Performed) → (command ≡ 0x84 → ⊥) → p ≡ answered UnknownCommand 0
+              → performs p (lending words curves room) ≡ performance fixed registers command content (lending words curves room)
+          unfolding performance
+          performs-none p not-84 is-p =
+              rw (
+                ne-eqb command 0x80 not-80,
+                ne-eqb command 0x81 not-81,
+                ne-eqb command 0x82 not-82,
+                ne-eqb command 0x83 not-83,
+                ne-eqb command 0x84 not-84,
+                is-p,
+              )
 
 -- a field of what the command that it is does
-pub of-command : {B : Type 0} (f : Performance → B) (a b c d : Bool) (v w x y z : Performance)
-    → f (cond a v (cond b w (cond c x (cond d y z)))) ≡ cond a (f v) (cond b (f w) (cond c (f x) (cond d (f y) (f z))))
-of-command f true b c d v w x y z = refl
-of-command f false true c d v w x y z = refl
-of-command f false false true d v w x y z = refl
-of-command f false false false true v w x y z = refl
-of-command f false false false false v w x y z = refl
+pub of-command : {B : Type 0} (f : Performance → B) (a b c d e : Bool) (v w x y z u : Performance)
+    → f (cond a v (cond b w (cond c x (cond d y (cond e z u))))) ≡ cond a (f v) (cond b (f w) (cond c (f x) (cond d (f y) (cond e (f z) (f u)))))
+of-command f true b c d e v w x y z u = refl
+of-command f false true c d e v w x y z u = refl
+of-command f false false true d e v w x y z u = refl
+of-command f false false false true e v w x y z u = refl
+of-command f false false false false true v w x y z u = refl
+of-command f false false false false false v w x y z u = refl
 
 -- what the first-match lists of specs/Outcome say is what is answered
 pub performs-outcome : (fixed : Fixed) (registers : Registers) (command : ℕ) (content : List ℕ) (lent : Lent)
     → performance fixed registers command content lent .performed .outcome ≡ outcome fixed (length (lent .words)) command content
-unfolding performance outcome registersWriting registersReplying wordsWriting wordsReplying replying
+unfolding performance outcome registersWriting registersReplying wordsWriting wordsReplying replying curvesAdding
 performs-outcome fixed registers command content lent =
-    of-command (λ (d : Performance). d .performed .outcome) (eqb command 0x80) (eqb command 0x81) (eqb command 0x82) (eqb command 0x83)
+    of-command (λ (d : Performance). d .performed .outcome) (eqb command 0x80) (eqb command 0x81) (eqb command 0x82) (eqb command 0x83) (eqb command 0x84)
     (performs (registersWriting (fixed .pages) content) lent) (onRoom lent (registersReplying fixed registers content (lent .room)))
     (onWords lent (wordsWriting (lent .words) content)) (onRoom lent (wordsReplying fixed (lent .words) content (lent .room)))
-    (performs (answered UnknownCommand 0) lent)
+    (performs (curvesAdding content) lent) (performs (answered UnknownCommand 0) lent)

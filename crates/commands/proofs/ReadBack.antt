@@ -1,4 +1,4 @@
--- What 0x80 wrote 0x81 reads back, and what 0x82 wrote 0x83.
+-- What 0x80 wrote 0x81 reads back, EB as 00, and what 0x82 wrote 0x83.
 use mathlib.Core.Path.{_≡_, refl}
 use mathlib.Core.Bool.{true}
 use mathlib.Core.List.{List, [], _∷_}
@@ -12,6 +12,7 @@ use Rattle.wire.specs.Addresses.{registerCount}
 use Rattle.frame.specs.Frame.{headerBytes}
 use Rattle.frame.specs.Writer.{frameLaid}
 use Rattle.registers.specs.declared.Registers.{Registers}
+use Rattle.registers.specs.Run.{readsAs}
 use Rattle.registers.proofs.Written.{written-reads-back}
 use Rattle.words.specs.Words.{wordsOf}
 use Rattle.words.proofs.Written.{words-read-back}
@@ -64,7 +65,7 @@ module _ (fixed : Fixed) (registers : Registers) (content : List ℕ) (lent : Le
 
   -- "Reply 0x81, address, count, bytes"
   pub registers-come-back : length (registers .bytes) ≡ registerCount → isDone (writeRegistersOutcome (fixed .pages) content) ≡ true
-      → registersReply (registersLeft registers content) (byteAt content 0) (length (drop 1 content)) ≡ byteAt content 0 ∷ length (drop 1 content) ∷ drop 1 content
+      → registersReply (registersLeft registers content) (byteAt content 0) (length (drop 1 content)) ≡ byteAt content 0 ∷ length (drop 1 content) ∷ readsAs (byteAt content 0) (drop 1 content)
   unfolding registersReply registersLeft
   registers-come-back whole done =
       rw (written-reads-back registers whole (byteAt content 0) (drop 1 content) (registers-passed (fixed .pages) content done .fits))
@@ -72,7 +73,7 @@ module _ (fixed : Fixed) (registers : Registers) (content : List ℕ) (lent : Le
   pub what-80-wrote-81-reads : (lent′ : Lent) → length (registers .bytes) ≡ registerCount → isDone (writeRegistersOutcome (fixed .pages) content) ≡ true
       → isDone (readRegistersOutcome (fixed .checking) (byteAt content 0 ∷ length (drop 1 content) ∷ [])) ≡ true
       → performance fixed (registersLeft registers content) 0x81 (byteAt content 0 ∷ length (drop 1 content) ∷ []) lent′
-      ≡ repliesWith fixed 0x81 (byteAt content 0 ∷ length (drop 1 content) ∷ drop 1 content) lent′
+      ≡ repliesWith fixed 0x81 (byteAt content 0 ∷ length (drop 1 content) ∷ readsAs (byteAt content 0) (drop 1 content)) lent′
   what-80-wrote-81-reads lent′ whole done ask =
       reads-registers fixed lent′ (registersLeft registers content) (byteAt content 0) (length (drop 1 content)) _ ask (registers-come-back whole done)
 
@@ -96,10 +97,10 @@ module _ (fixed : Fixed) (registers : Registers) (content : List ℕ) (lent : Le
         second,
       )
 
-  pub what-82-wrote-83-reads : (registers′ : Registers) (room′ : List ℕ) → Bytes content → isDone (writeWordsOutcome (length (lent .words)) content) ≡ true
+  pub what-82-wrote-83-reads : (registers′ : Registers) (curves′ room′ : List ℕ) → Bytes content → isDone (writeWordsOutcome (length (lent .words)) content) ≡ true
       → isDone (readWordsOutcome (length wordsAfter) (fixed .checking) (byteAt content 0 ∷ byteAt content 1 ∷ length (wordsOf (drop 2 content)) ∷ [])) ≡ true
-      → performance fixed registers′ 0x83 (byteAt content 0 ∷ byteAt content 1 ∷ length (wordsOf (drop 2 content)) ∷ []) (lending wordsAfter room′)
-      ≡ repliesWith fixed 0x83 (byteAt content 0 ∷ byteAt content 1 ∷ length (wordsOf (drop 2 content)) ∷ drop 2 content) (lending wordsAfter room′)
-  what-82-wrote-83-reads registers′ room′ are done ask =
-      reads-words fixed (lending wordsAfter room′) registers′ (byteAt content 0) (byteAt content 1) (length (wordsOf (drop 2 content))) _ ask
+      → performance fixed registers′ 0x83 (byteAt content 0 ∷ byteAt content 1 ∷ length (wordsOf (drop 2 content)) ∷ []) (lending wordsAfter curves′ room′)
+      ≡ repliesWith fixed 0x83 (byteAt content 0 ∷ byteAt content 1 ∷ length (wordsOf (drop 2 content)) ∷ drop 2 content) (lending wordsAfter curves′ room′)
+  what-82-wrote-83-reads registers′ curves′ room′ are done ask =
+      reads-words fixed (lending wordsAfter curves′ room′) registers′ (byteAt content 0) (byteAt content 1) (length (wordsOf (drop 2 content))) _ ask
       (words-come-back are done)

@@ -17,14 +17,15 @@ use Rattle.frame.proofs.Writers.{length-frameOf}
 use Rattle.registers.specs.declared.Registers.{Registers}
 use Rattle.registers.specs.Run.{unwritableRun, wrongValue}
 use Rattle.words.specs.Words.{wordsOf}
+use Rattle.curves.specs.Rounds.{wrongRounds}
 use Rattle.commands.specs.declared.Fixed.{Fixed}
 use Rattle.commands.specs.declared.Performed.{Performed}
 use Rattle.commands.specs.declared.Outcome.{Outcome}
 use Rattle.commands.specs.declared.Outcome.the-variants.{Done, UnknownCommand, WrongData, PastEnd, Unwritable, WrongValue, ReplyTooLong}
 use Rattle.commands.specs.Lent.{Lent, lending}
-use Rattle.commands.specs.Outcome.{numberOfOutcome, replyTooLong, writeRegistersOutcome, readRegistersOutcome, writeWordsOutcome, readWordsOutcome}
+use Rattle.commands.specs.Outcome.{numberOfOutcome, replyTooLong, writeRegistersOutcome, readRegistersOutcome, writeWordsOutcome, readWordsOutcome, addCurvesOutcome}
 use Rattle.commands.specs.Reply.{registersReply, wordsReply}
-use Rattle.commands.specs.Effect.{answered, registersWriting, wordsWriting, replying, registersReplying, wordsReplying}
+use Rattle.commands.specs.Effect.{answered, registersWriting, curvesAdding, wordsWriting, replying, registersReplying, wordsReplying}
 use Rattle.commands.specs.Perform.{Performance, performs, onWords, onRoom, performance}
 use Rattle.commands.specs.Listed.{performedSaid, notCommand, byCommand, wrongData, passesEnd, touchesUnwritable, valueWrong, replyPasses, performListed, frameLength, replyLength, laidLength, performSaid}
 use Rattle.commands.proofs.Reading.{short-reply}
@@ -120,34 +121,49 @@ module _ (fixed : Fixed) (registers : Registers) (content : List ℕ) (lent : Le
       (λ within short.
       (length-wordsReply (lent .words) address count (ltb-false end (address + count) within), short-reply (fixed .checking) (3 + (count + count)) short))
 
-  unknown : (command : ℕ) → (command ≡ 0x80 → ⊥) → (command ≡ 0x81 → ⊥) → (command ≡ 0x82 → ⊥) → (command ≡ 0x83 → ⊥) → notCommand command content ≡ true
-  unfolding notCommand
-  unknown command a b c d = go (ltb command 0x80) refl
+  said-84 : saidOf 0x84 ≡ listedFor 0x84
+  unfolding performance curvesAdding addCurvesOutcome performedSaid numberOfOutcome performSaid performListed replyLength firstSaid notCommand byCommand wrongData passesEnd touchesUnwritable valueWrong replyPasses
+  said-84 = rw (none-laid (length (lent .room))) (go (wrongRounds content))
     where
-      go : (low : Bool) → ltb command 0x80 ≡ low → (low || ltb 0x83 command) ≡ true
+      go : (a : Bool) → says (numberOfOutcome (cond a WrongData Done)) (0 ∷ []) ≡ cond a (says 3 (0 ∷ [])) (says 0 (0 ∷ []))
+      go true = refl
+      go false = refl
+
+  unknown : (command : ℕ) → (command ≡ 0x80 → ⊥) → (command ≡ 0x81 → ⊥) → (command ≡ 0x82 → ⊥) → (command ≡ 0x83 → ⊥) → (command ≡ 0x84 → ⊥)
+      → notCommand command content ≡ true
+  unfolding notCommand
+  unknown command a b c d e = go (ltb command 0x80) refl
+    where
+      go : (low : Bool) → ltb command 0x80 ≡ low → (low || ltb 0x84 command) ≡ true
       go true is = refl
       go false is =
           let from : 0x80 ≤ command = ltb-false command 0x80 is in
-          let above : 0x83 < command = omega arith in
-          lt-ltb 0x83 command above
+          let above : 0x84 < command = omega arith in
+          lt-ltb 0x84 command above
 
   -- "2 to 7 in turn"
   pub perform-as-listed : (command : ℕ) → saidOf command ≡ listedFor command
   unfolding performance performedSaid numberOfOutcome performSaid performListed firstSaid
-  perform-as-listed command = go (eqb command 0x80) refl (eqb command 0x81) refl (eqb command 0x82) refl (eqb command 0x83) refl
+  perform-as-listed command =
+      go (eqb command 0x80) refl (eqb command 0x81) refl (eqb command 0x82) refl (eqb command 0x83) refl (eqb command 0x84) refl
     where
       go : (a : Bool) → eqb command 0x80 ≡ a → (b : Bool) → eqb command 0x81 ≡ b → (c : Bool) → eqb command 0x82 ≡ c → (d : Bool) → eqb command 0x83 ≡ d
-          → saidOf command ≡ listedFor command
-      go true is b p c q d r = rw (eqb-true command 0x80 is) said-80
-      go false is true p c q d r = rw (eqb-true command 0x81 p) said-81
-      go false is false p true q d r = rw (eqb-true command 0x82 q) said-82
-      go false is false p false q true r = rw (eqb-true command 0x83 r) said-83
-      go false is false p false q false r =
-          rw (is, p, q, r, unknown command (eqb-false command 0x80 is) (eqb-false command 0x81 p) (eqb-false command 0x82 q) (eqb-false command 0x83 r))
+          → (e : Bool) → eqb command 0x84 ≡ e → saidOf command ≡ listedFor command
+      go true is b p c q d r e t = rw (eqb-true command 0x80 is) said-80
+      go false is true p c q d r e t = rw (eqb-true command 0x81 p) said-81
+      go false is false p true q d r e t = rw (eqb-true command 0x82 q) said-82
+      go false is false p false q true r e t = rw (eqb-true command 0x83 r) said-83
+      go false is false p false q false r true t = rw (eqb-true command 0x84 t) said-84
+      go false is false p false q false r false t =
+          let none =
+          unknown command (eqb-false command 0x80 is) (eqb-false command 0x81 p) (eqb-false command 0x82 q) (eqb-false command 0x83 r)
+          (eqb-false command 0x84 t) in
+          rw (is, p, q, r, t, none)
 
+-- what is said of a command does not go by the curve area, which it leaves
 pub perform-said : (fixed : Fixed) (registers : Registers) (command : ℕ) (content words room : List ℕ) (p : Performed) (words′ left : List ℕ)
-    → performs p (lending words′ left) ≡ performance fixed registers command content (lending words room)
-    → (performs p (lending words′ left) ≡ performance fixed registers command content (lending words room))
+    → ((curves : List ℕ) → performs p (lending words′ curves left) ≡ performance fixed registers command content (lending words curves room))
+    → ((curves : List ℕ) → performs p (lending words′ curves left) ≡ performance fixed registers command content (lending words curves room))
     × (performedSaid p ≡ performSaid fixed (length words) (length room) command content)
 perform-said fixed registers command content words room p words′ left is =
-    (is, ap (λ (d : Performance). performedSaid (d .performed)) is ∙ perform-as-listed fixed registers content (lending words room) command)
+    (is, ap (λ (d : Performance). performedSaid (d .performed)) (is []) ∙ perform-as-listed fixed registers content (lending words [] room) command)

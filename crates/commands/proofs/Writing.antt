@@ -11,7 +11,7 @@ use Rattle.wire.specs.ByteOrder.{wordAt}
 use Rattle.wire.proofs.Parts.{part-whole}
 use Rattle.registers.specs.declared.Registers.{Registers}
 use Rattle.wire.specs.Room.{laidAt}
-use Rattle.registers.specs.Run.{registersAfter, dropsCatch}
+use Rattle.registers.specs.Run.{readsAs, registersAfter, dropsCatch}
 use Rattle.words.specs.Words.{wordsWritten}
 use Rattle.commands.specs.declared.Outcome.{Outcome}
 use Rattle.commands.specs.declared.Outcome.the-variants.{WrongData}
@@ -43,7 +43,7 @@ module _ (pages : ℕ) (content : List ℕ) (o : Outcome) (b : Bool) (is-o : o �
   registers-long done = omega (arith, not-short (length content) 2 o _ is-o (sym is-b ∙ done))
 
   pub registers-done : (first : ℕ) (drops : Bool) → b ≡ true → first ≡ getD content 0 0 → drops ≡ dropsCatch first (take (length content - 1) (drop 1 content))
-      → _≡_ {A = Performed} (record { outcome = o; writes = true; drops = drops; replied = 0 }) (registersWriting pages content)
+      → _≡_ {A = Performed} (record { outcome = o; writes = true; drops = drops; adds = false; replied = 0 }) (registersWriting pages content)
   unfolding registersWriting catchDropped
   registers-done first drops done is-first is-drops = rw (is-drops, is-first, part-whole content 1, ← is-o, sym is-b ∙ done)
 
@@ -54,7 +54,7 @@ module _ (pages : ℕ) (content : List ℕ) (o : Outcome) (b : Bool) (is-o : o �
 -- what is to be written is written
 module _ (registers : Registers) (content : List ℕ) where
   pub none-left : length content < 1 → registers ≡ registersLeft registers content
-  unfolding registersLeft registersAfter laidAt
+  unfolding registersLeft registersAfter readsAs laidAt
   none-left short = rw (nil-of content short)
     where
       nil-of : (l : List ℕ) → length l < 1 → l ≡ []

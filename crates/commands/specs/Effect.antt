@@ -1,4 +1,4 @@
--- 01, "Commands" and "Numbers given back": what each of the four commands answers and leaves. "otherwise a refusal changes nothing."
+-- 01, "Commands" and "Numbers given back", and 02, §2: what each of the five commands answers and leaves. "otherwise a refusal changes nothing."
 use Prim.Native.Nat.{ℕ}
 use mathlib.Core.Bool.{Bool, false, cond, _&&_}
 use mathlib.Core.List.{List}
@@ -8,17 +8,19 @@ use Rattle.wire.specs.Room.{lays}
 use Rattle.frame.specs.Frame.{headerBytes}
 use Rattle.frame.specs.Writer.{frameLaid}
 use Rattle.registers.specs.declared.Registers.{Registers}
-use Rattle.registers.specs.Run.{registersAfter, dropsCatch}
+use Rattle.registers.specs.Run.{registersAfter, dropsCatch, clearValue}
 use Rattle.words.specs.Words.{wordsWritten}
+use Rattle.curves.specs.declared.Counts.{Counts}
+use Rattle.curves.specs.Clearing.{cleared}
 use Rattle.commands.specs.declared.Fixed.{Fixed}
 use Rattle.commands.specs.declared.Outcome.{Outcome}
 use Rattle.commands.specs.declared.Performed.{Performed}
-use Rattle.commands.specs.Outcome.{isDone, writeRegistersOutcome, readRegistersOutcome, writeWordsOutcome, readWordsOutcome}
+use Rattle.commands.specs.Outcome.{isDone, writeRegistersOutcome, readRegistersOutcome, writeWordsOutcome, readWordsOutcome, addCurvesOutcome}
 use Rattle.commands.specs.Reply.{registersReply, wordsReply}
 
--- an outcome with so long a reply, of a command that leaves registers and catch
+-- an outcome with so long a reply, of a command that leaves registers, catch and curves
 abbrev pub answered : Outcome → (replied : ℕ) → Performed
-answered o replied = record { outcome = o; writes = false; drops = false; replied = replied }
+answered o replied = record { outcome = o; writes = false; drops = false; adds = false; replied = replied }
 
 -- "0x80, address (1), one or more bytes: write registers.": what a write with this data leaves of the registers, where it is done
 unfoldable pub registersLeft : Registers → (content : List ℕ) → Registers
@@ -32,7 +34,17 @@ catchDropped content = dropsCatch (byteAt content 0) (drop 1 content)
 unfoldable pub registersWriting : (pages : ℕ) → (content : List ℕ) → Performed
 registersWriting pages content =
     let o = writeRegistersOutcome pages content in
-    record { outcome = o; writes = isDone o; drops = isDone o && catchDropped content; replied = 0 }
+    record { outcome = o; writes = isDone o; drops = isDone o && catchDropped content; adds = false; replied = 0 }
+
+-- 02, §2: "Register EB .. clears: 55 all, 56 to 5D channel 0 to 7": what a write with this data leaves of the channels' counts, where it is done
+unfoldable pub countsLeft : Counts → (content : List ℕ) → Counts
+countsLeft counts content = cleared (clearValue (byteAt content 0) (drop 1 content)) counts
+
+-- 02, §2: "Add command 0x84": its answer; one that is done asks the panel to add its numbers to the channels
+unfoldable pub curvesAdding : (content : List ℕ) → Performed
+curvesAdding content =
+    let o = addCurvesOutcome content in
+    record { outcome = o; writes = false; drops = false; adds = isDone o; replied = 0 }
 
 -- what a write of words answers, and the words as it leaves them
 pub record WordsWriting : Type 0 where

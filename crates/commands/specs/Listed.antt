@@ -10,6 +10,7 @@ use Rattle.wire.specs.Numbers.{Said, says, Listed, _when_, firstSaid}
 use Rattle.frame.specs.Frame.{headerBytes, checkLength}
 use Rattle.registers.specs.Run.{unwritableRun, wrongValue}
 use Rattle.words.specs.Words.{wordsOf}
+use Rattle.curves.specs.Rounds.{wrongRounds}
 use Rattle.commands.specs.declared.Fixed.{Fixed}
 use Rattle.commands.specs.declared.Performed.{Performed}
 use Rattle.commands.specs.Outcome.{numberOfOutcome, replyTooLong}
@@ -18,17 +19,18 @@ use Rattle.commands.specs.Outcome.{numberOfOutcome, replyTooLong}
 unfoldable pub performedSaid : Performed → Said
 performedSaid performed = says (numberOfOutcome (performed .outcome)) (performed .replied ∷ [])
 
--- 2: "command not 80 to 83"
+-- 02, §2: "2 now means not 80 to 84"
 unfoldable pub notCommand : ℕ → List ℕ → Bool
-notCommand command content = ltb command 0x80 || ltb 0x83 command
+notCommand command content = ltb command 0x80 || ltb 0x84 command
 
--- a condition on 0x80, on 0x81, on 0x82 and on 0x83
-unfoldable pub byCommand : ℕ → (write read store fetch : Bool) → Bool
-byCommand command write read store fetch =
-    cond (eqb command 0x80) write (cond (eqb command 0x81) read (cond (eqb command 0x82) store (cond (eqb command 0x83) fetch false)))
+-- a condition on 0x80, on 0x81, on 0x82, on 0x83 and on 0x84
+unfoldable pub byCommand : ℕ → (write read store fetch add : Bool) → Bool
+byCommand command write read store fetch add =
+    cond (eqb command 0x80) write
+    (cond (eqb command 0x81) read (cond (eqb command 0x82) store (cond (eqb command 0x83) fetch (cond (eqb command 0x84) add false))))
 
 -- 3: "data too short, too long, or an odd word byte". "0x80, address (1), one or more bytes"; "0x81, address (1), count (1)"; "0x82, address (2),
--- one or more words"; "0x83, address (2), count (1)"
+-- one or more words"; "0x83, address (2), count (1)". 02, §2: "3 for mode 00, no round or an unfinished one"
 unfoldable pub wrongData : ℕ → List ℕ → Bool
 wrongData command content =
     byCommand command
@@ -36,6 +38,7 @@ wrongData command content =
     (not (eqb (length content) 2))
     (ltb (length content) 4 || eqb (length content % 2) 1)
     (not (eqb (length content) 3))
+    (wrongRounds content)
 
 -- 4: "address or its run passes the end". "Address plus count may not pass 256 (registers) or 28,672 (words)"; `end` is how many words are lent
 unfoldable pub passesEnd : (end : ℕ) → ℕ → List ℕ → Bool
@@ -45,14 +48,15 @@ passesEnd end command content =
     (ltb registerCount (byteAt content 0 + byteAt content 1))
     (ltb end (wordAt content 0 + length (wordsOf (drop 2 content))))
     (ltb end (wordAt content 0 + byteAt content 2))
+    false
 
 -- 5: "a write touches an unwritable register or half the page"
 unfoldable pub touchesUnwritable : ℕ → List ℕ → Bool
-touchesUnwritable command content = byCommand command (unwritableRun (byteAt content 0) (length (drop 1 content))) false false false
+touchesUnwritable command content = byCommand command (unwritableRun (byteAt content 0) (length (drop 1 content))) false false false false
 
--- 6: "backlight above 3F, or page not below P"
+-- 6: "backlight above 3F, or page not below P"; 02, §2: "6 for any other value in EB"
 unfoldable pub valueWrong : (pages : ℕ) → ℕ → List ℕ → Bool
-valueWrong pages command content = byCommand command (wrongValue (byteAt content 0) (drop 1 content) pages) false false false
+valueWrong pages command content = byCommand command (wrongValue (byteAt content 0) (drop 1 content) pages) false false false false
 
 -- 7: "reply frame's L would pass 255". "Reply 0x81, address, count, bytes"; "Reply 0x83, address, count, words"
 unfoldable pub replyPasses : (checking : Bool) → ℕ → List ℕ → Bool
@@ -62,6 +66,7 @@ replyPasses checking command content =
     (replyTooLong checking (2 + byteAt content 1))
     false
     (replyTooLong checking (3 + (byteAt content 2 + byteAt content 2)))
+    false
 
 -- "2 to 7 in turn"; a refused command has no reply
 unfoldable pub performListed : Fixed → (end command : ℕ) → (content : List ℕ) → List Listed
@@ -78,7 +83,7 @@ performListed fixed end command content =
 unfoldable pub frameLength : Fixed → (payload : ℕ) → ℕ
 frameLength fixed payload = length (headerBytes (fixed .header)) + 1 + (1 + payload + checkLength (fixed .checking))
 
--- "Reply 0x81, address, count, bytes"; "Reply 0x83, address, count, words"; a write has no reply
+-- "Reply 0x81, address, count, bytes"; "Reply 0x83, address, count, words"; a write has no reply, nor have numbers for curves
 unfoldable pub replyLength : Fixed → (command : ℕ) → (content : List ℕ) → ℕ
 replyLength fixed command content =
     cond (eqb command 0x81) (frameLength fixed (2 + byteAt content 1))

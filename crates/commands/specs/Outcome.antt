@@ -10,12 +10,14 @@ use Rattle.frame.specs.Frame.{checkLength}
 use Rattle.wire.specs.Addresses.{registerCount}
 use Rattle.registers.specs.Run.{unwritableRun, wrongValue}
 use Rattle.words.specs.Words.{wordsOf}
+use Rattle.curves.specs.Rounds.{wrongRounds}
 use Rattle.commands.specs.declared.Fixed.{Fixed}
 use Rattle.commands.specs.declared.Outcome.{Outcome}
 use Rattle.commands.specs.declared.Outcome.the-variants.{Done, UnknownCommand, WrongData, PastEnd, Unwritable, WrongValue, ReplyTooLong}
 
--- "0: done", "2: command not 80 to 83", "3: data too short, too long, or an odd word byte", "4: address or its run passes the end",
--- "5: a write touches an unwritable register or half the page", "6: backlight above 3F, or page not below P", "7: reply frame's L would pass 255"
+-- "0: done", 02, §2: "2 now means not 80 to 84", "3: data too short, too long, or an odd word byte", "4: address or its run passes the end",
+-- "5: a write touches an unwritable register or half the page", "6: backlight above 3F, or page not below P" and 02, §2: "6 for any other value in EB",
+-- "7: reply frame's L would pass 255"
 unfoldable pub numberOfOutcome : Outcome → ℕ
 numberOfOutcome Done = 0
 numberOfOutcome UnknownCommand = 2
@@ -78,11 +80,16 @@ readWordsOutcome end checking content =
     (cond (replyTooLong checking (3 + (count + count))) ReplyTooLong
     Done))
 
--- "command not 80 to 83"
+-- 02, §2: "Add command 0x84 ..: a mode byte, bit n for channel n, then 16-bit numbers in rounds"; "3 for mode 00, no round or an unfinished one"
+unfoldable pub addCurvesOutcome : List ℕ → Outcome
+addCurvesOutcome content = cond (wrongRounds content) WrongData Done
+
+-- 02, §2: "2 now means not 80 to 84"
 unfoldable pub outcome : Fixed → (end : ℕ) → (command : ℕ) → (content : List ℕ) → Outcome
 outcome fixed end command content =
     cond (eqb command 0x80) (writeRegistersOutcome (fixed .pages) content)
     (cond (eqb command 0x81) (readRegistersOutcome (fixed .checking) content)
     (cond (eqb command 0x82) (writeWordsOutcome end content)
     (cond (eqb command 0x83) (readWordsOutcome end (fixed .checking) content)
-    UnknownCommand)))
+    (cond (eqb command 0x84) (addCurvesOutcome content)
+    UnknownCommand))))

@@ -1,11 +1,13 @@
-// Commands 0x80 to 0x83 of 01: each is judged by its numbers in order, then done.
+// Commands 0x80 to 0x83 of 01, and 0x84 of 02, §2: each is judged by its numbers in order, then done.
 use frame::Header;
 
+mod on_curves; // 0x84
 mod on_registers; // 0x80 and 0x81
 mod on_words; // 0x82 and 0x83
 mod outcomes; // what an outcome says, and 7
 mod performing; // which command it is
 
+pub use on_curves::counts_left;
 pub use on_registers::registers_left;
 pub use performing::perform;
 
@@ -34,5 +36,7 @@ pub struct Performed {
     pub writes: bool,
     // The catch is to be dropped.
     pub drops: bool,
+    // Its numbers are to be added to the curves.
+    pub adds: bool,
     pub replied: usize,
 }

@@ -66,6 +66,7 @@ pub fn write(pages: u16, content: &[u8]) -> Performed
             outcome: o,
             writes: true,
             drops: registers::drops_catch(address, &content[1..]),
+            adds: false,
             replied: 0,
         }
     } else {

@@ -20,7 +20,7 @@ pub fn is_done(o: Outcome) -> bool
     }
 }
 
-// The registers and the catch stay.
+// Registers, catch and curves stay.
 pub fn answer(o: Outcome, replied: usize) -> Performed
     ensures { λ r. ⌜ r ≡ answered o replied ⌝ }
 {
@@ -28,6 +28,7 @@ pub fn answer(o: Outcome, replied: usize) -> Performed
         outcome: o,
         writes: false,
         drops: false,
+        adds: false,
         replied: replied,
     }
 }

@@ -1,5 +1,7 @@
 // Which command it is.
 ghost use mathlib.Core.Path.{_≡_};
+ghost use mathlib.Core.List.{List};
+ghost use Prim.Native.Nat.{ℕ};
 ghost use lib.ListN.{length};
 ghost use Rattle.registers.specs.Table.{holding};
 ghost use Rattle.commands.specs.Lent.{lending};
@@ -8,12 +10,13 @@ ghost use Rattle.commands.specs.Perform.{performs, performance};
 use crate::Fixed;
 use crate::Outcome;
 use crate::Performed;
+use crate::on_curves;
 use crate::on_registers;
 use crate::on_words;
 use crate::outcomes;
 
 // A command with its data takes effect on what is lent, or is refused with nothing changed; a reply is laid over the front of the room. The
-// registers are only read: what is to be written into them is answered.
+// registers are only read, and the curves not at all: what is to be written into them is answered.
 pub fn perform(
     fixed: Fixed,
     registers: &[u8],
@@ -22,7 +25,7 @@ pub fn perform(
     words: &mut [u16],
     room: &mut [u8],
 ) -> Performed
-    ensures { λ r. ⌜ performs r (lending (now (words .exit)) (now (room .exit))) ≡ performance fixed (holding (now (registers .entry))) command (now (content .entry)) (lending (now (words .entry)) (now (room .entry))) ⌝ }
+    ensures { λ r. ⌜ ((curves : List ℕ) → performs r (lending (now (words .exit)) curves (now (room .exit))) ≡ performance fixed (holding (now (registers .entry))) command (now (content .entry)) (lending (now (words .entry)) curves (now (room .entry)))) ⌝ }
     ensures { λ r. ⌜ performedSaid r ≡ performSaid fixed (length (now (words .entry))) (length (now (room .entry))) command (now (content .entry)) ⌝ }
 {
     if command == 0x80 {
@@ -36,6 +39,9 @@ pub fn perform(
     }
     if command == 0x83 {
         return on_words::read(fixed, words, content, room);
+    }
+    if command == 0x84 {
+        return on_curves::add(content);
     }
     outcomes::answer(Outcome::UnknownCommand, 0)
 }
