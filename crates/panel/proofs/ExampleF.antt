@@ -16,6 +16,7 @@ use Rattle.line.specs.State.{padded}
 use Rattle.line.specs.Methods.{givenByte, givenBytes, asked}
 use Rattle.wire.specs.Addresses.{wordCount}
 use Rattle.words.specs.Words.{wordAtAddress}
+use Rattle.curves.specs.Area.{curveWords}
 use Rattle.commands.specs.Lent.{Lent, withRoom}
 use Rattle.commands.proofs.ExampleF.{exampleData, example-f}
 use Rattle.touch.specs.declared.Setup.{Setup}
@@ -57,10 +58,11 @@ module _ (pages width height : ℕ) where
   data-read = refl
 
   -- the frame has come whole: asking with words and room as they must be sets word 0010 to 500
-  pub example-f-of-the-panel : (lent : Lent) → length (lent .words) ≡ wordCount → leastRoom ≤ length (lent .room)
+  pub example-f-of-the-panel : (lent : Lent) → length (lent .words) ≡ wordCount → length (lent .curves) ≡ curveWords
+      → leastRoom ≤ length (lent .room)
       → wordAtAddress (reporting (exampleFed pages width height) lent .lent .words) 0x10 ≡ 500
   unfolding reporting enough
-  example-f-of-the-panel lent whole large =
+  example-f-of-the-panel lent whole area large =
       let a = asked (exampleFed pages width height .reader) in
-      rw (eq-eqb (length (lent .words)) wordCount whole, le-leb leastRoom (length (lent .room)) large, frame-read)
+      rw (eq-eqb (length (lent .words)) wordCount whole, eq-eqb (length (lent .curves)) curveWords area, le-leb leastRoom (length (lent .room)) large, frame-read)
       (stored-500 pages width height lent (omega arith) (record { report = line.Accepted 0x82 4; payload = a .payload; reader = a .reader }) data-read)

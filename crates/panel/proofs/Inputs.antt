@@ -12,6 +12,8 @@ use Rattle.line.specs.Methods.{givenByte, givenMark, givenBytes}
 use Rattle.reading.specs.Moves.{fresh}
 use Rattle.registers.specs.declared.Registers.{Registers}
 use Rattle.registers.specs.Table.{startRegisters}
+use Rattle.curves.specs.declared.Counts.{Counts}
+use Rattle.curves.specs.Area.{noCounts}
 use Rattle.touch.specs.declared.Setup.{Setup}
 use Rattle.touch.specs.declared.Verdict.{Verdict}
 use Rattle.touch.specs.declared.Verdict.the-variants.{Good, NotRecords, Wrong}
@@ -27,11 +29,13 @@ use Rattle.panel.specs.State.{headerFor, withReader}
 use Rattle.panel.specs.Start.{newPanel, noPanel, startJudged, started}
 use Rattle.panel.specs.Inputs.{fedByte, fedMark, fedBytes}
 
-pub new-made : (setup : Setup) (c k : Bool) (header : Header) (registers : Registers) (reader : Reader) → c ≡ checkingOf setup → k ≡ acknowledgingOf setup
-    → header ≡ headerFor setup → registers ≡ startRegisters (setup .h1) (setup .h2) c k → reader ≡ readerOf (record { header = header; checking = c }) fresh
-    → _≡_ {A = Panel} (record { setup = setup; registers = registers; catch = Free; reader = reader }) (newPanel setup)
+pub new-made : (setup : Setup) (c k : Bool) (header : Header) (registers : Registers) (counts : Counts) (reader : Reader) → c ≡ checkingOf setup → k ≡ acknowledgingOf setup
+    → header ≡ headerFor setup → registers ≡ startRegisters (setup .h1) (setup .h2) c k → counts ≡ noCounts
+    → reader ≡ readerOf (record { header = header; checking = c }) fresh
+    → _≡_ {A = Panel} (record { setup = setup; registers = registers; catch = Free; counts = counts; reader = reader }) (newPanel setup)
 unfolding newPanel
-new-made setup c k header registers reader is-c is-k is-h is-registers is-reader = rw (is-registers, is-reader, is-h, is-c, is-k)
+new-made setup c k header registers counts reader is-c is-k is-h is-registers is-counts is-reader =
+    rw (is-registers, is-counts, is-reader, is-h, is-c, is-k)
 
 pub none-made : (panel : Panel) (reader : Reader) → panel ≡ newPanel (record { h1 = 0; h2 = 0; flags = 0; pages = 0; width = 0; height = 0 }) → reader ≡ noReader
     → withReader panel reader ≡ noPanel

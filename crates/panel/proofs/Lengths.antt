@@ -26,6 +26,8 @@ use Rattle.contact.specs.declared.Catch.{Catch}
 use Rattle.contact.specs.declared.Catch.the-variants.{Free, Caught}
 use Rattle.contact.specs.declared.Pad.{Pad}
 use Rattle.contact.specs.Contact.{acting, pressed, dragging, heldDown, touched}
+use Rattle.curves.specs.declared.Counts.{Counts}
+use Rattle.curves.proofs.Lengths.{length-added}
 use Rattle.commands.specs.declared.Outcome.{Outcome}
 use Rattle.commands.specs.declared.Fixed.{Fixed}
 use Rattle.commands.specs.Lent.{Lent, withRoom}
@@ -34,7 +36,7 @@ use Rattle.commands.specs.Effect.{wordsWriting, replying, registersReplying, wo
 use Rattle.commands.specs.Perform.{Performance, performance}
 use Rattle.panel.specs.declared.Panel.{Panel}
 use Rattle.panel.specs.State.{headerOf, fixedFor, answering, padOf}
-use Rattle.panel.specs.Reporting.{acknowledged, accepting, handingOver, handing, reporting}
+use Rattle.panel.specs.Reporting.{acknowledged, accepting, handingOver, drawing, handing, reporting}
 use Rattle.panel.specs.Contacts.{Contact, contacting}
 use Rattle.panel.proofs.Ways.{contact-ways, report-ways}
 use Rattle.wire.proofs.Truths.{and-right}
@@ -90,27 +92,28 @@ store-long words content = go (isDone (wordsWriting words content .performed .ou
     go true = written-long words (wordAt content 0) (drop 2 content)
     go false = refl
 
--- one of five ways
-of-five : (f : Performance → ℕ) (r : ℕ) (a b c d : Bool) (v w x y z : Performance) → f v ≡ r → f w ≡ r → f x ≡ r → f y ≡ r → f z ≡ r
-    → f (cond a v (cond b w (cond c x (cond d y z)))) ≡ r
-of-five f r true b c d v w x y z i j k l m = i
-of-five f r false true c d v w x y z i j k l m = j
-of-five f r false false true d v w x y z i j k l m = k
-of-five f r false false false true v w x y z i j k l m = l
-of-five f r false false false false v w x y z i j k l m = m
+-- one of six ways
+of-six : (f : Performance → ℕ) (r : ℕ) (a b c d e : Bool) (v w x y z u : Performance) → f v ≡ r → f w ≡ r → f x ≡ r → f y ≡ r → f z ≡ r → f u ≡ r
+    → f (cond a v (cond b w (cond c x (cond d y (cond e z u))))) ≡ r
+of-six f r true b c d e v w x y z u i j k l m n = i
+of-six f r false true c d e v w x y z u i j k l m n = j
+of-six f r false false true d e v w x y z u i j k l m n = k
+of-six f r false false false true e v w x y z u i j k l m n = l
+of-six f r false false false false true v w x y z u i j k l m n = m
+of-six f r false false false false false v w x y z u i j k l m n = n
 
 module _ (fixed : Fixed) (registers : Registers) (command : ℕ) (content : List ℕ) (lent : Lent) where
   pub performed-words-long : length (performance fixed registers command content lent .lent .words) ≡ length (lent .words)
   unfolding performance
   performed-words-long =
-      of-five (λ (p : Performance). length (p .lent .words)) (length (lent .words)) (eqb command 0x80) (eqb command 0x81) (eqb command 0x82) (eqb command 0x83)
-      _ _ _ _ _ refl refl (store-long (lent .words) content) refl refl
+      of-six (λ (p : Performance). length (p .lent .words)) (length (lent .words)) (eqb command 0x80) (eqb command 0x81) (eqb command 0x82) (eqb command 0x83)
+      (eqb command 0x84) _ _ _ _ _ _ refl refl (store-long (lent .words) content) refl refl refl
 
   performed-room-long : length (performance fixed registers command content lent .lent .room) ≡ length (lent .room)
   unfolding performance registersReplying wordsReplying
   performed-room-long =
-      of-five (λ (p : Performance). length (p .lent .room)) (length (lent .room)) (eqb command 0x80) (eqb command 0x81) (eqb command 0x82) (eqb command 0x83)
-      _ _ _ _ _ refl (reply-long fixed _ 0x81 _ (lent .room)) refl (reply-long fixed _ 0x83 _ (lent .room)) refl
+      of-six (λ (p : Performance). length (p .lent .room)) (length (lent .room)) (eqb command 0x80) (eqb command 0x81) (eqb command 0x82) (eqb command 0x83)
+      (eqb command 0x84) _ _ _ _ _ _ refl (reply-long fixed _ 0x81 _ (lent .room)) refl (reply-long fixed _ 0x83 _ (lent .room)) refl refl
 
 parts-long : (n : ℕ) (front later : List ℕ) → length later ≡ length (drop n front) → length (take n front ++ later) ≡ length front
 parts-long n front later same =
@@ -142,6 +145,21 @@ module _ (panel : Panel) (lent : Lent) where
       (performed-room-long (fixedFor (panel .setup)) (panel .registers) command content part)
       ∙ answer-long (panel .setup) command true (lent .room))
 
+-- what a report leaves of the curve area
+drawn-long : (writes adds : Bool) (counts : Counts) (content area : List ℕ) → length (drawing writes adds counts content area .area) ≡ length area
+drawn-long writes true counts content area = length-added content counts area
+drawn-long true false counts content area = refl
+drawn-long false false counts content area = refl
+
+pub reported-area-long : (panel : Panel) (lent : Lent) → length (reporting panel lent .lent .curves) ≡ length (lent .curves)
+unfolding handing handingOver
+reported-area-long panel lent =
+    report-ways panel lent (λ r. length (r .lent .curves) ≡ length (lent .curves)) (λ h payload. refl) (λ command is. refl)
+    (λ command count is.
+    let content = take count (asked (panel .reader) .payload) in
+    let done = accepting (panel .setup) (panel .registers) command content lent .effected .performed in
+    drawn-long (done .writes) (done .adds) (panel .counts) content (lent .curves))
+
 -- a contact stores in one word at most
 dragged-long : (setup : Setup) (catch : Catch) (words : List ℕ) (x y : ℕ) → length (dragging setup catch words x y) ≡ length words
 unfolding dragging
@@ -166,6 +184,9 @@ pub contacted-words-long : (panel : Panel) (c : Contact) (lent : Lent) → lengt
 contacted-words-long panel c lent =
     contact-ways panel c lent (λ r. length (r .lent .words) ≡ length (lent .words)) (λ answer. refl)
     (λ good. touched-long (panel .setup) (padOf panel) (c .table) (lent .words) (c .x) (c .y))
+
+pub contacted-area-stands : (panel : Panel) (c : Contact) (lent : Lent) → contacting panel c lent .lent .curves ≡ lent .curves
+contacted-area-stands panel c lent = contact-ways panel c lent (λ r. r .lent .curves ≡ lent .curves) (λ answer. refl) (λ good. refl)
 
 pub contacted-room-stands : (panel : Panel) (c : Contact) (lent : Lent) → contacting panel c lent .lent .room ≡ lent .room
 contacted-room-stands panel c lent = contact-ways panel c lent (λ r. r .lent .room ≡ lent .room) (λ answer. refl) (λ good. refl)

@@ -20,7 +20,8 @@ use Rattle.line.specs.Methods.{asked}
 use Rattle.line.specs.Front.{handsNothing, isBad, badCommand, frontCommand, frontContent}
 use Rattle.line.proofs.Padding.{take-padded}
 use Rattle.line.proofs.Said.{front-report, front-payload}
-use Rattle.commands.specs.Lent.{Lent, lending, withRoom}
+use Rattle.curves.specs.Area.{curveWords}
+use Rattle.commands.specs.Lent.{Lent, withRoom}
 use Rattle.commands.specs.Listed.{performedSaid, performSaid}
 use Rattle.commands.proofs.Said.{perform-as-listed}
 use Rattle.touch.specs.declared.Setup.{Setup}
@@ -91,22 +92,22 @@ module _ (panel : Panel) (lent : Lent) (whole : length (lent .words) ≡ wordCou
 
 report-as-listed : (panel : Panel) (lent : Lent) → handedSaid (reporting panel lent .reported .handed) ≡ askSaid panel lent
 unfolding reporting handing enough handedSaid reportNumber askListed firstSaid
-report-as-listed panel lent = go (eqb (length (lent .words)) wordCount) refl (leb leastRoom (length (lent .room))) refl
+report-as-listed panel lent =
+    go (eqb (length (lent .words)) wordCount) refl (eqb (length (lent .curves)) curveWords) refl (leb leastRoom (length (lent .room))) refl
   where
     -- the room that is lent
     room : ℕ
     room = length (lent .room)
 
-    go : (w : Bool) → eqb (length (lent .words)) wordCount ≡ w → (r : Bool) → leb leastRoom (length (lent .room)) ≡ r
-        → handedSaid (reporting panel lent .reported .handed) ≡ askSaid panel lent
-    go true w true r =
-        rw (w, r, le-ltb room leastRoom (leb-true leastRoom room r))
+    go : (w : Bool) → eqb (length (lent .words)) wordCount ≡ w → (c : Bool) → eqb (length (lent .curves)) curveWords ≡ c
+        → (r : Bool) → leb leastRoom (length (lent .room)) ≡ r → handedSaid (reporting panel lent .reported .handed) ≡ askSaid panel lent
+    go true w true c true r =
+        rw (w, c, r, le-ltb room leastRoom (leb-true leastRoom room r))
         (waiting-said panel lent (eqb-true (length (lent .words)) wordCount w) (leb-true leastRoom room r))
-    go true w false r = rw (w, r, lt-ltb room leastRoom (leb-false leastRoom room r))
-    go false w r s = rw w
+    go true w true c false r = rw (w, c, r, lt-ltb room leastRoom (leb-false leastRoom room r))
+    go true w false c r t = rw (w, c)
+    go false w c d r t = rw w
 
-pub report-said : (panel : Panel) (words room words′ left : List ℕ) (r : Reported)
-    → reports r (lending words′ left) ≡ reporting panel (lending words room)
-    → (reports r (lending words′ left) ≡ reporting panel (lending words room)) × (handedSaid (r .handed) ≡ askSaid panel (lending words room))
-report-said panel words room words′ left r is =
-    (is, ap (λ (d : Reporting). handedSaid (d .reported .handed)) is ∙ report-as-listed panel (lending words room))
+pub report-said : (panel : Panel) (lent left : Lent) (r : Reported) → reports r left ≡ reporting panel lent
+    → (reports r left ≡ reporting panel lent) × (handedSaid (r .handed) ≡ askSaid panel lent)
+report-said panel lent left r is = (is, ap (λ (d : Reporting). handedSaid (d .reported .handed)) is ∙ report-as-listed panel lent)

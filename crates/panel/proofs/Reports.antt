@@ -24,8 +24,11 @@ use Rattle.registers.specs.declared.Registers.{Registers}
 use Rattle.wire.specs.Addresses.{wordCount}
 use Rattle.commands.specs.declared.Performed.{Performed}
 use Rattle.commands.specs.declared.Fixed.{Fixed}
-use Rattle.commands.specs.Lent.{lending, withRoom}
-use Rattle.commands.specs.Effect.{registersLeft}
+use Rattle.curves.specs.declared.Counts.{Counts}
+use Rattle.curves.specs.Area.{curveWords, Drawn, draws}
+use Rattle.curves.specs.Adding.{added}
+use Rattle.commands.specs.Lent.{lending, withCurves, withRoom}
+use Rattle.commands.specs.Effect.{registersLeft, countsLeft}
 use Rattle.commands.specs.Perform.{Performance, performs, performance}
 use Rattle.touch.specs.declared.Setup.{Setup}
 use Rattle.touch.specs.Setup.{checkingOf, acknowledgingOf}
@@ -36,11 +39,11 @@ use Rattle.panel.specs.declared.Effected.{Effected}
 use Rattle.panel.specs.declared.HandedOver.{HandedOver}
 use Rattle.panel.specs.declared.Reported.{Reported}
 use Rattle.panel.specs.State.{headerFor, headerOf, fixedFor, answering}
-use Rattle.panel.specs.Reporting.{enough, acknowledged, Effects, effects, accepting, HandingOver, overs, onlyHanded, acceptedOver, handingOver, lengthOf, catchAfter, Reporting, reports, handing, refused, reporting}
+use Rattle.panel.specs.Reporting.{enough, acknowledged, Effects, effects, accepting, HandingOver, overs, onlyHanded, acceptedOver, handingOver, lengthOf, catchAfter, drawing, Reporting, reports, handing, refused, reporting}
 
-pub lent-judged : (words room : ℕ) → (eqb words wordCount && leb leastRoom room) ≡ enough words room
+pub lent-judged : (words curves room : ℕ) → (eqb words wordCount && eqb curves curveWords && leb leastRoom room) ≡ enough words curves room
 unfolding enough
-lent-judged words room = refl
+lent-judged words curves room = refl
 
 module _ (setup : Setup) (command : ℕ) (good : Bool) (room : List ℕ) (c k : Bool) (is-c : c ≡ checkingOf setup) (is-k : k ≡ acknowledgingOf setup) where
   both : (c && k) ≡ answering setup
@@ -85,24 +88,27 @@ pub fixed-made : (setup : Setup) (header : Header) (c : Bool) → header ≡ hea
 fixed-made setup header c is-h is-c = rw (is-h, is-c)
 
 -- the command with the room's part behind the acknowledgement
-abbrev behindAnswer : Setup → Registers → (command : ℕ) → (content words : List ℕ) → Laid → Performance
-behindAnswer setup registers command content words l = performance (fixedFor setup) registers command content (lending words (drop (l .count) (l .room)))
+abbrev behindAnswer : Setup → Registers → (command : ℕ) → (content words curves : List ℕ) → Laid → Performance
+behindAnswer setup registers command content words curves l =
+    performance (fixedFor setup) registers command content (lending words curves (drop (l .count) (l .room)))
 
 abbrev joinedBehind : Laid → Performance → Effects
 joinedBehind l d = effects (record { performed = d .performed; acknowledged = l .count }) (withRoom (d .lent) (take (l .count) (l .room) ++ d .lent .room))
 
 pub accepts : (setup : Setup) (registers : Registers) (command : ℕ) (content words room : List ℕ) (count : ℕ) (left : List ℕ) (fixed : Fixed)
     (p : Performed) (words′ part : List ℕ) → lays count left ≡ acknowledged setup command true room → fixed ≡ fixedFor setup
-    → performs p (lending words′ part) ≡ performance fixed registers command content (lending words (take (length left - count) (drop count left)))
-    → effects (record { performed = p; acknowledged = count }) (lending words′ (take count left ++ (part ++ drop (length left - count) (drop count left))))
-    ≡ accepting setup registers command content (lending words room)
+    → ((curves : List ℕ) → performs p (lending words′ curves part)
+    ≡ performance fixed registers command content (lending words curves (take (length left - count) (drop count left))))
+    → (curves : List ℕ)
+    → effects (record { performed = p; acknowledged = count }) (lending words′ curves (take count left ++ (part ++ drop (length left - count) (drop count left))))
+    ≡ accepting setup registers command content (lending words curves room)
 unfolding accepting
-accepts setup registers command content words room count left fixed p words′ part is-answer is-fixed is-p =
-    let done : performs p (lending words′ part) ≡ behindAnswer setup registers command content words (lays count left) =
-    is-p ∙ rw (part-whole left count, is-fixed) in
+accepts setup registers command content words room count left fixed p words′ part is-answer is-fixed is-p curves =
+    let done : performs p (lending words′ curves part) ≡ behindAnswer setup registers command content words curves (lays count left) =
+    is-p curves ∙ rw (part-whole left count, is-fixed) in
     rw (part-end left count, append-nil)
     (ap (joinedBehind (lays count left)) done
-    ∙ ap (λ (l : Laid). joinedBehind l (behindAnswer setup registers command content words l)) is-answer)
+    ∙ ap (λ (l : Laid). joinedBehind l (behindAnswer setup registers command content words curves l)) is-answer)
 
 -- the data that was handed over, out of its array
 pub within-inside : (count n : ℕ) (payload : List ℕ) → n ≡ min count mostPayload → length payload ≡ mostPayload → n ≤ length payload
@@ -126,77 +132,119 @@ taken-same count n payload is long = go (leb count mostPayload) refl
 
 -- a report that is handed over
 module _ (setup : Setup) (registers : Registers) (report : Report) (payload words room : List ℕ) where
-  pub over-nothing : (o : HandedOver) → report ≡ line.Nothing → o ≡ onlyHanded handed.Nothing
-      → overs o (lending words room) ≡ handingOver setup registers report payload (lending words room)
+  pub over-nothing : (o : HandedOver) → report ≡ line.Nothing → o ≡ onlyHanded handed.Nothing → (curves : List ℕ)
+      → overs o (lending words curves room) ≡ handingOver setup registers report payload (lending words curves room)
   unfolding handingOver
-  over-nothing o is is-o = rw (is, is-o)
+  over-nothing o is is-o curves = rw (is, is-o)
 
   pub over-bad : (command count : ℕ) (left : List ℕ) (o : HandedOver) → report ≡ line.BadCheck command → lays count left ≡ acknowledged setup command false room
-      → o ≡ onlyHanded (handed.BadCheck command count) → overs o (lending words left) ≡ handingOver setup registers report payload (lending words room)
+      → o ≡ onlyHanded (handed.BadCheck command count) → (curves : List ℕ)
+      → overs o (lending words curves left) ≡ handingOver setup registers report payload (lending words curves room)
   unfolding handingOver
-  over-bad command count left o is e is-o =
-      rw (is, is-o) (ap (λ (l : Laid). overs (onlyHanded (handed.BadCheck command (l .count))) (lending words (l .room))) e)
+  over-bad command count left o is e is-o curves =
+      rw (is, is-o) (ap (λ (l : Laid). overs (onlyHanded (handed.BadCheck command (l .count))) (lending words curves (l .room))) e)
 
   pub over-accepted : (command len n : ℕ) (e : Effected) (words′ left : List ℕ) (o : HandedOver) → report ≡ line.Accepted command len → n ≡ min len mostPayload
-      → length payload ≡ mostPayload → effects e (lending words′ left) ≡ accepting setup registers command (take n payload) (lending words room)
-      → o ≡ acceptedOver command len e → overs o (lending words′ left) ≡ handingOver setup registers report payload (lending words room)
+      → length payload ≡ mostPayload
+      → ((curves : List ℕ) → effects e (lending words′ curves left) ≡ accepting setup registers command (take n payload) (lending words curves room))
+      → o ≡ acceptedOver command len e → (curves : List ℕ)
+      → overs o (lending words′ curves left) ≡ handingOver setup registers report payload (lending words curves room)
   unfolding handingOver
-  over-accepted command len n e words′ left o is is-n long done is-o =
+  over-accepted command len n e words′ left o is is-n long done is-o curves =
       rw (is, is-o)
       (ap (λ (d : Effects). overs (acceptedOver command len (d .effected)) (d .lent))
-      (done ∙ ap (λ (content : List ℕ). accepting setup registers command content (lending words room)) (taken-same len n payload is-n long)))
+      (done curves ∙ ap (λ (content : List ℕ). accepting setup registers command content (lending words curves room)) (taken-same len n payload is-n long)))
+
+-- what a report does to the curves
+module _ (writes adds : Bool) (counts : Counts) (content area : List ℕ) where
+  pub drawn-added : (next : Counts) (left : List ℕ) → adds ≡ true → draws next left ≡ added counts content area
+      → draws next left ≡ drawing writes adds counts content area
+  drawn-added next left is e = rw is e
+
+  pub drawn-cleared : (next : Counts) (left : List ℕ) → adds ≡ false → writes ≡ true → next ≡ countsLeft counts content → left ≡ area
+      → draws next left ≡ drawing writes adds counts content area
+  drawn-cleared next left is on e stays = rw (is, on, e, stays)
+
+  pub drawn-nothing : adds ≡ false → writes ≡ false → draws counts area ≡ drawing writes adds counts content area
+  drawn-nothing is off = rw (is, off)
+
+-- the data of a report, out of its array
+pub content-is : (report : Report) (payload : List ℕ) (len n : ℕ) → len ≡ lengthOf report → n ≡ min len mostPayload → length payload ≡ mostPayload
+    → take n payload ≡ take (lengthOf report) payload
+content-is report payload len n is-len is-n long = taken-same len n payload is-n long ∙ ap (λ (k : ℕ). take k payload) is-len
 
 -- the registers behind a report
-module _ (registers : Registers) (report : Report) (payload : List ℕ) (writes : Bool) (after : Registers) where
-  pub behind-written : (len n : ℕ) → writes ≡ true → len ≡ lengthOf report → n ≡ min len mostPayload → length payload ≡ mostPayload
-      → after ≡ registersLeft registers (take n payload)
-      → after ≡ cond writes (registersLeft registers (take (lengthOf report) payload)) registers
-  behind-written len n is is-len is-n long is-after =
-      let same : take n payload ≡ take (lengthOf report) payload = taken-same len n payload is-n long ∙ ap (λ (k : ℕ). take k payload) is-len in
-      rw (is, is-after, same)
+module _ (registers : Registers) (writes : Bool) (content : List ℕ) (after : Registers) where
+  pub behind-written : writes ≡ true → after ≡ registersLeft registers content → after ≡ cond writes (registersLeft registers content) registers
+  behind-written is is-after = rw (is, is-after)
 
-  pub behind-unwritten : writes ≡ false → after ≡ registers → after ≡ cond writes (registersLeft registers (take (lengthOf report) payload)) registers
+  pub behind-unwritten : writes ≡ false → after ≡ registers → after ≡ cond writes (registersLeft registers content) registers
   behind-unwritten is is-after = rw (is, is-after)
 
--- words or room are not what they must be
+-- words, curve area or room are not what they must be
 pub refused-is : (panel : Panel) (payload : List ℕ) → payload ≡ padded mostPayload []
     → _≡_ {A = Reported} (record { handed = handed.NotLent; payload = payload; panel = panel }) (refused panel)
 refused-is panel payload empty = rw empty
 
 -- the panel behind a report
-abbrev leftBehind : Panel → Asked → HandingOver → Reporting
-leftBehind panel a done =
+abbrev leftBehind : Panel → Asked → (curves : List ℕ) → HandingOver → Reporting
+leftBehind panel a curves done =
+    let content = take (lengthOf (a .report)) (a .payload) in
+    let drawn = drawing (done .over .writes) (done .over .adds) (panel .counts) content curves in
     reports
     (record {
       handed = done .over .handed;
       payload = a .payload;
       panel = record {
         setup = panel .setup;
-        registers = cond (done .over .writes) (registersLeft (panel .registers) (take (lengthOf (a .report)) (a .payload))) (panel .registers);
+        registers = cond (done .over .writes) (registersLeft (panel .registers) content) (panel .registers);
         catch = catchAfter (done .over .drops) (panel .catch);
+        counts = drawn .counts;
         reader = a .reader;
       };
     })
-    (done .lent)
+    (withCurves (done .lent) (drawn .area))
 
-module _ (panel : Panel) (words room : List ℕ) (l : Bool) (is-l : l ≡ enough (length words) (length room)) where
-  pub reported-refused : (r : Reported) → l ≡ false → r ≡ refused panel → reports r (lending words room) ≡ reporting panel (lending words room)
+module _ (panel : Panel) (words curves room : List ℕ) (l : Bool) (is-l : l ≡ enough (length words) (length curves) (length room)) where
+  pub reported-refused : (r : Reported) → l ≡ false → r ≡ refused panel → reports r (lending words curves room) ≡ reporting panel (lending words curves room)
   unfolding reporting
   reported-refused r is is-r = rw (is-r, sym is-l ∙ is)
 
   module _ (is : l ≡ true) (a : Asked) (is-a : a ≡ asked (panel .reader)) (o : HandedOver) (words′ left : List ℕ)
-      (is-o : overs o (lending words′ left) ≡ handingOver (panel .setup) (panel .registers) (a .report) (a .payload) (lending words room))
+      (is-o : overs o (lending words′ curves left) ≡ handingOver (panel .setup) (panel .registers) (a .report) (a .payload) (lending words curves room))
       (catch : Catch) (is-catch : catch ≡ catchAfter (o .drops) (panel .catch)) where
-    behind : leftBehind panel a (overs o (lending words′ left)) ≡ reporting panel (lending words room)
+    behind : leftBehind panel a curves (overs o (lending words′ curves left)) ≡ reporting panel (lending words curves room)
     unfolding reporting handing
-    behind = rw (sym is-l ∙ is) (ap (leftBehind panel a) is-o ∙ ap (λ (x : Asked). handing x (x .report) panel (lending words room)) is-a)
+    behind = rw (sym is-l ∙ is) (ap (leftBehind panel a curves) is-o ∙ ap (λ (x : Asked). handing x (x .report) panel (lending words curves room)) is-a)
 
-    pub reported-behind : (after : Registers)
-        → after ≡ cond (o .writes) (registersLeft (panel .registers) (take (lengthOf (a .report)) (a .payload))) (panel .registers)
+    -- n is how much of the array is handed on as the data
+    pub reported-behind : (n : ℕ) → take n (a .payload) ≡ take (lengthOf (a .report)) (a .payload) → (after : Registers)
+        → after ≡ cond (o .writes) (registersLeft (panel .registers) (take n (a .payload))) (panel .registers) → (counts : Counts) (area : List ℕ)
+        → draws counts area ≡ drawing (o .writes) (o .adds) (panel .counts) (take n (a .payload)) curves
         → reports
         (record {
           handed = o .handed;
           payload = a .payload;
-          panel = record { setup = panel .setup; registers = after; catch = catch; reader = a .reader };
-        }) (lending words′ left) ≡ reporting panel (lending words room)
-    reported-behind after is-after = rw (is-after, is-catch) behind
+          panel = record { setup = panel .setup; registers = after; catch = catch; counts = counts; reader = a .reader };
+        }) (lending words′ area left) ≡ reporting panel (lending words curves room)
+    reported-behind n whole after is-after counts area is-drawn =
+        let content = take (lengthOf (a .report)) (a .payload) in
+        let drawn : draws counts area ≡ drawing (o .writes) (o .adds) (panel .counts) content curves =
+        is-drawn ∙ ap (λ (c : List ℕ). drawing (o .writes) (o .adds) (panel .counts) c curves) whole in
+        let written : after ≡ cond (o .writes) (registersLeft (panel .registers) content) (panel .registers) =
+        is-after ∙ ap (λ (c : List ℕ). cond (o .writes) (registersLeft (panel .registers) c) (panel .registers)) whole in
+        rw (written, is-catch)
+        (ap (λ (d : Drawn).
+        reports
+        (record {
+          handed = o .handed;
+          payload = a .payload;
+          panel = record {
+            setup = panel .setup;
+            registers = cond (o .writes) (registersLeft (panel .registers) content) (panel .registers);
+            catch = catchAfter (o .drops) (panel .catch);
+            counts = d .counts;
+            reader = a .reader;
+          };
+        }) (lending words′ (d .area) left)) drawn
+        ∙ behind)

@@ -11,7 +11,7 @@ use Rattle.line.specs.declared.Given.{Given}
 use Rattle.line.specs.Methods.{busy, answerSaid, inputSaid, givenByte, givenMark}
 use Rattle.line.proofs.Said.{byte-said, mark-said}
 use Rattle.registers.specs.Touched.{isDown, isTouchOff}
-use Rattle.commands.specs.Lent.{Lent, lending}
+use Rattle.commands.specs.Lent.{Lent, withWords}
 use Rattle.touch.specs.declared.Setup.{Setup}
 use Rattle.touch.specs.declared.Found.{Found}
 use Rattle.touch.specs.declared.Found.the-variants.{Nothing, At}
@@ -94,11 +94,11 @@ module _ (panel : Panel) (c : Contact) (lent : Lent) where
       go false false false (At i r) = refl
 
 pub contact-said : (panel : Panel) (c : Contact) (words left : List ℕ) (r : Contacted)
-    → ((room : List ℕ) → contacts (r .answer) (r .panel) (lending left room) ≡ contacting panel c (lending words room))
-    → ((room : List ℕ) → contacts (r .answer) (r .panel) (lending left room) ≡ contacting panel c (lending words room))
-    × ((room : List ℕ) → contactSaid (r .answer) ≡ saidBy (contactListed panel c (lending words room)))
+    → ((rest : Lent) → contacts (r .answer) (r .panel) (withWords rest left) ≡ contacting panel c (withWords rest words))
+    → ((rest : Lent) → contacts (r .answer) (r .panel) (withWords rest left) ≡ contacting panel c (withWords rest words))
+    × ((rest : Lent) → contactSaid (r .answer) ≡ saidBy (contactListed panel c (withWords rest words)))
 contact-said panel c words left r is =
-    (is, λ room. ap (λ (d : Contacting). contactSaid (d .contacted .answer)) (is room) ∙ contact-as-listed panel c (lending words room))
+    (is, λ rest. ap (λ (d : Contacting). contactSaid (d .contacted .answer)) (is rest) ∙ contact-as-listed panel c (withWords rest words))
 
 -- a lift
 lift-as-listed : (panel : Panel) → liftSaid (lifting panel .answer) ≡ saidBy (liftListed panel)

@@ -22,14 +22,19 @@ use Rattle.reading.specs.Moves.{fresh, waiting, withByte, withMark, afterReport
 use Rattle.registers.specs.declared.Registers.{Registers}
 use Rattle.wire.specs.Addresses.{registerCount}
 use Rattle.wire.specs.Room.{laidAt}
-use Rattle.registers.specs.Table.{startRows, withRows, startRegisters, registerAt, writable}
+use Rattle.registers.specs.Table.{startRows, withRows, startRegisters, registerAt, clearRegister, writable}
 use Rattle.registers.specs.Touched.{pageOf}
 use Rattle.registers.proofs.Touched.{same-status}
-use Rattle.registers.proofs.Allowed.{length-written, unwritable-stays, page-stays-below}
+use Rattle.registers.proofs.Allowed.{length-written, clear-reads-00, unwritable-stays, page-stays-below}
+use Rattle.registers.specs.Run.{clearValue}
+use Rattle.curves.specs.declared.Counts.{Counts}
+use Rattle.curves.specs.Area.{channelCount, channelWords, countOf}
+use Rattle.curves.proofs.Lengths.{length-none, length-added-counts, length-cleared}
+use Rattle.curves.proofs.Bounds.{few-none, few-added, few-cleared}
 use Rattle.commands.specs.declared.Fixed.{Fixed}
 use Rattle.commands.specs.Lent.{Lent, withRoom}
 use Rattle.commands.specs.Outcome.{isDone, writeRegistersOutcome}
-use Rattle.commands.specs.Effect.{registersLeft}
+use Rattle.commands.specs.Effect.{registersLeft, countsLeft}
 use Rattle.commands.specs.Perform.{registersBy, performance}
 use Rattle.commands.proofs.DoneWrites.{registers-passed}
 use Rattle.commands.proofs.Named.{registers-stay, registers-as-done}
@@ -50,7 +55,7 @@ use Rattle.panel.specs.State as State
 use Rattle.panel.specs.State.{fixedFor, withReader}
 use Rattle.panel.specs.Start.{newPanel}
 use Rattle.panel.specs.Inputs.{fedByte, fedMark, fedBytes}
-use Rattle.panel.specs.Reporting.{acknowledged, accepting, handingOver, catchAfter, handing, reporting}
+use Rattle.panel.specs.Reporting.{acknowledged, accepting, handingOver, catchAfter, drawing, handing, reporting}
 use Rattle.panel.specs.Contacts.{Contact, contacting, lifting}
 use Rattle.panel.specs.Sound.{lineOf, Reads, Sound}
 use Rattle.panel.proofs.Ways.{contact-ways, lift-ways, report-ways}
@@ -79,6 +84,9 @@ new-sound setup good =
         caught-good = λ r is. absurd (let z : _≡_ {A = ℕ} 0 1 = cc in omega arith);
       };
       fixed = λ address never outside. refl;
+      clear-reads = refl;
+      channels = length-none;
+      counted = few-none;
       reads = record { kept = fresh; reached = reached-new (lineOf setup); is = refl };
     }
 
@@ -131,7 +139,15 @@ reads-bytes line reader (b ∷ bytes) are reads =
 -- inputs
 module _ (panel : Panel) (sound : Sound panel) where
   reader-sound : (reader : Reader) → Reads (lineOf (panel .setup)) reader → Sound (withReader panel reader)
-  reader-sound reader reads = record { pad = sound .pad; fixed = sound .fixed; reads = reads }
+  reader-sound reader reads =
+      record {
+        pad = sound .pad;
+        fixed = sound .fixed;
+        clear-reads = sound .clear-reads;
+        channels = sound .channels;
+        counted = sound .counted;
+        reads = reads;
+      }
 
   pub byte-sound : (b : ℕ) → b < 256 → Sound (fedByte panel b .panel)
   unfolding fedByte
@@ -155,6 +171,11 @@ module _ (panel : Panel) (sound : Sound panel) where
         pad = touched-sound (panel .setup) (State.padOf panel) (sound .pad) (c .x) (c .y) (c .table) (lent .words) good;
         fixed = λ address never outside.
             other-register-stays (panel .setup) (State.padOf panel) (sound .pad .whole) (c .table) (lent .words) (c .x) (c .y) address outside ∙ sound .fixed address never outside;
+        clear-reads =
+            other-register-stays (panel .setup) (State.padOf panel) (sound .pad .whole) (c .table) (lent .words) (c .x) (c .y) clearRegister (inr (omega arith))
+            ∙ sound .clear-reads;
+        channels = sound .channels;
+        counted = sound .counted;
         reads = sound .reads;
       })
 
@@ -169,6 +190,10 @@ module _ (panel : Panel) (sound : Sound panel) where
         pad = lifted-sound (panel .setup) (State.padOf panel) (sound .pad);
         fixed = λ address never outside.
             lift-only-status (State.padOf panel) (sound .pad .whole) address (not-status address outside) ∙ sound .fixed address never outside;
+        clear-reads =
+            lift-only-status (State.padOf panel) (sound .pad .whole) clearRegister (not-status clearRegister (inr (omega arith))) ∙ sound .clear-reads;
+        channels = sound .channels;
+        counted = sound .counted;
         reads = sound .reads;
       })
 
@@ -177,9 +202,10 @@ record Allowed (pages : ℕ) (before after : Registers) : Type 0 where
   whole : length (after .bytes) ≡ 256
   below : pageOf after < pages
   stays : (address : ℕ) → writable address ≡ false → registerAt after address ≡ registerAt before address
+  clear-reads : registerAt before clearRegister ≡ 0 → registerAt after clearRegister ≡ 0
 
 same-allowed : (pages : ℕ) (before after : Registers) → length (before .bytes) ≡ 256 → pageOf before < pages → after ≡ before → Allowed pages before after
-same-allowed pages before after whole below is = rw is (record { whole = whole; below = below; stays = λ address never. refl })
+same-allowed pages before after whole below is = rw is (record { whole = whole; below = below; stays = λ address never. refl; clear-reads = λ reads. reads })
 
 performed-allowed : (fixed : Fixed) (registers : Registers) (command : ℕ) (content : List ℕ) (lent : Lent)
     → length (registers .bytes) ≡ registerCount → pageOf registers < fixed .pages
@@ -209,6 +235,7 @@ performed-allowed fixed registers command content lent whole below =
           whole = length-written registers whole first bytes (passed .fits);
           below = page-stays-below registers whole first bytes (passed .fits) (passed .may) pages (passed .right) below;
           stays = λ address never. unwritable-stays registers whole first bytes (passed .fits) (passed .may) address never;
+          clear-reads = clear-reads-00 registers whole first bytes (passed .fits);
         })
 
 -- a command leaves the status, and drops the catch or leaves it
@@ -231,6 +258,21 @@ pad-after setup before after catch drops sound allowed =
     good true r is = absurd (let z : _≡_ {A = ℕ} 0 1 = cc in omega arith)
     good false r is = sound .caught-good r is
 
+-- what a report leaves of the counts
+drawn-eight : (writes adds : Bool) (counts : Counts) (content area : List ℕ) → length (counts .each) ≡ channelCount
+    → length (drawing writes adds counts content area .counts .each) ≡ channelCount
+unfolding countsLeft
+drawn-eight writes true counts content area eight = length-added-counts content counts area ∙ eight
+drawn-eight true false counts content area eight = length-cleared (clearValue (byteAt content 0) (drop 1 content)) counts eight ∙ eight
+drawn-eight false false counts content area eight = eight
+
+drawn-counted : (writes adds : Bool) (counts : Counts) (content area : List ℕ) → ((n : ℕ) → countOf counts n ≤ channelWords)
+    → (n : ℕ) → countOf (drawing writes adds counts content area .counts) n ≤ channelWords
+unfolding countsLeft
+drawn-counted writes true counts content area counted = few-added counts content area counted
+drawn-counted true false counts content area counted = few-cleared (clearValue (byteAt content 0) (drop 1 content)) counts counted
+drawn-counted false false counts content area counted = counted
+
 -- an ask
 pub report-sound : (panel : Panel) → Sound panel → (lent : Lent) → Sound (reporting panel lent .reported .panel)
 unfolding handing handingOver accepting
@@ -248,5 +290,8 @@ report-sound panel sound lent =
     record {
       pad = pad-after setup (panel .registers) (registersBy (done .performed) (panel .registers) content) (panel .catch) (done .performed .drops) (sound .pad) allowed;
       fixed = λ address never outside. allowed .stays address never ∙ sound .fixed address never outside;
+      clear-reads = allowed .clear-reads (sound .clear-reads);
+      channels = drawn-eight (done .performed .writes) (done .performed .adds) (panel .counts) content (lent .curves) (sound .channels);
+      counted = drawn-counted (done .performed .writes) (done .performed .adds) (panel .counts) content (lent .curves) (sound .counted);
       reads = asks;
     })

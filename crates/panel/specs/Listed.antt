@@ -12,6 +12,7 @@ use Rattle.frame.specs.Writer.{leastRoom}
 use Rattle.line.specs.Methods.{busy}
 use Rattle.line.specs.Front.{handsNothing, isBad, badCommand, frontCommand, frontContent}
 use Rattle.registers.specs.Touched.{isDown, isTouchOff}
+use Rattle.curves.specs.Area.{curveWords}
 use Rattle.commands.specs.Lent.{Lent}
 use Rattle.commands.specs.Listed.{performSaid}
 use Rattle.touch.specs.declared.Setup.{Setup}
@@ -29,10 +30,10 @@ startListed setup table = setupListed setup ++ tableListed setup table
 unfoldable pub answerLength : Setup → ℕ
 answerLength setup = cond (answering setup) (acknowledgementSize (headerOf setup)) 0
 
--- "asking for a report 14, ..": then "nothing", then a bad check with its command byte and how long its acknowledgement is
+-- "asking for a report 14, ..", 02, §2: "14 also for a curve area of the wrong length": then "nothing", then a bad check with its command byte and how long its acknowledgement is
 unfoldable pub askListed : Panel → Lent → List Listed
 askListed panel lent =
-    (says 14 [] when (not (eqb (length (lent .words)) wordCount) || ltb (length (lent .room)) leastRoom))
+    (says 14 [] when (not (eqb (length (lent .words)) wordCount) || not (eqb (length (lent .curves)) curveWords) || ltb (length (lent .room)) leastRoom))
     ∷ (says 0 [] when handsNothing (panel .reader))
     ∷ (says 0 (badCommand (panel .reader .head) ∷ answerLength (panel .setup) ∷ []) when isBad (panel .reader .head))
     ∷ []

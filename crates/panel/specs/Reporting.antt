@@ -14,8 +14,11 @@ use Rattle.line.specs.declared.Asked.{Asked}
 use Rattle.line.specs.State.{padded}
 use Rattle.line.specs.Methods.{asked}
 use Rattle.registers.specs.declared.Registers.{Registers}
-use Rattle.commands.specs.Lent.{Lent, withRoom}
-use Rattle.commands.specs.Effect.{registersLeft}
+use Rattle.curves.specs.declared.Counts.{Counts}
+use Rattle.curves.specs.Area.{curveWords, Drawn, draws}
+use Rattle.curves.specs.Adding.{added}
+use Rattle.commands.specs.Lent.{Lent, withCurves, withRoom}
+use Rattle.commands.specs.Effect.{registersLeft, countsLeft}
 use Rattle.commands.specs.Perform.{performance}
 use Rattle.touch.specs.declared.Setup.{Setup}
 use Rattle.contact.specs.declared.Catch.{Catch}
@@ -28,13 +31,13 @@ use Rattle.panel.specs.declared.HandedOver.{HandedOver}
 use Rattle.panel.specs.declared.Reported.{Reported}
 use Rattle.panel.specs.State.{headerOf, fixedFor, answering}
 
--- the opposite of "14: words lent aren't 28,672, or reply .. room below 265"
-unfoldable pub enough : (words room : ℕ) → Bool
-enough words room = eqb words wordCount && leb leastRoom room
+-- the opposite of "14: words lent aren't 28,672, or reply .. room below 265"; 02, §2: "14 also for a curve area of the wrong length"
+unfoldable pub enough : (words curves room : ℕ) → Bool
+enough words curves room = eqb words wordCount && eqb curves curveWords && leb leastRoom room
 
 -- the same of what is lent
 abbrev pub wellLent : Lent → Bool
-wellLent lent = enough (length (lent .words)) (length (lent .room))
+wellLent lent = enough (length (lent .words)) (length (lent .curves)) (length (lent .room))
 
 -- "With checking and acknowledging both on, each accepted frame is first answered by header, length, command, 0xFF, check; each bad check
 -- by the same with 0x00."
@@ -58,8 +61,8 @@ accepting setup registers command content lent =
     effects (record { performed = done .performed; acknowledged = answer .count })
     (withRoom (done .lent) (take (answer .count) (answer .room) ++ done .lent .room))
 
--- a report that is handed over: what is answered, whether the frame's data is to be written into the registers, whether the catch is to be dropped;
--- and what is lent as that leaves it
+-- a report that is handed over: what is answered, whether the frame's data is to be written into the registers, whether the catch is to be dropped, whether
+-- the data is to be added to the curves; and what is lent as that leaves it
 pub record HandingOver : Type 0 where
   pub over : HandedOver
   pub lent : Lent
@@ -70,7 +73,7 @@ overs over lent = record { over = over; lent = lent }
 
 -- a report that is handed over and asks nothing of the panel
 abbrev pub onlyHanded : Handed → HandedOver
-onlyHanded handed = record { handed = handed; writes = false; drops = false }
+onlyHanded handed = record { handed = handed; writes = false; drops = false; adds = false }
 
 -- "Numbers 2 to 7 are answers beside a frame's report, which counts as handed over": the report of an accepted frame, with what it asks of the panel
 abbrev pub acceptedOver : (command count : ℕ) → Effected → HandedOver
@@ -79,6 +82,7 @@ acceptedOver command count e =
       handed = handed.Accepted command count (e .performed .outcome) (e .acknowledged) (e .performed .replied);
       writes = e .performed .writes;
       drops = e .performed .drops;
+      adds = e .performed .adds;
     }
 
 -- "'Nothing' changes nothing, the reply room included."; "each bad check by the same with 0x00"; "An accepted frame takes effect when its report is handed over."
@@ -101,6 +105,11 @@ lengthOf (line.Accepted command count) = count
 abbrev pub catchAfter : Bool → Catch → Catch
 catchAfter drops catch = cond drops Free catch
 
+-- what a report does to the curves. 02, §2: the numbers of "command 0x84" are added to their channels; "Register EB .. clears"; nothing else changes them
+abbrev pub drawing : (writes adds : Bool) → Counts → (content area : List ℕ) → Drawn
+drawing writes adds counts content area =
+    cond adds (added counts content area) (cond writes (draws (countsLeft counts content) area) (draws counts area))
+
 -- what asking for a report answers, and what is lent as it leaves it
 pub record Reporting : Type 0 where
   pub reported : Reported
@@ -114,18 +123,21 @@ reports reported lent = record { reported = reported; lent = lent }
 unfoldable pub handing : Asked → Report → Panel → Lent → Reporting
 handing a report panel lent =
     let done = handingOver (panel .setup) (panel .registers) report (a .payload) lent in
+    let content = take (lengthOf report) (a .payload) in
+    let drawn = drawing (done .over .writes) (done .over .adds) (panel .counts) content (lent .curves) in
     reports
     (record {
       handed = done .over .handed;
       payload = a .payload;
       panel = record {
         setup = panel .setup;
-        registers = cond (done .over .writes) (registersLeft (panel .registers) (take (lengthOf report) (a .payload))) (panel .registers);
+        registers = cond (done .over .writes) (registersLeft (panel .registers) content) (panel .registers);
         catch = catchAfter (done .over .drops) (panel .catch);
+        counts = drawn .counts;
         reader = a .reader;
       };
     })
-    (done .lent)
+    (withCurves (done .lent) (drawn .area))
 
 -- "With 14 the report still waits."
 abbrev pub refused : Panel → Reported

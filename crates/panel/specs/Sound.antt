@@ -3,12 +3,14 @@ use mathlib.Core.Path.{_≡_}
 use mathlib.Core.Logic.{_⊎_}
 use mathlib.Core.Bool.{false}
 use Prim.Native.Nat.{ℕ, _≤_, _<_}
+use lib.ListN.{length}
 use Rattle.line.specs.declared.Line.{Line}
 use Rattle.line.specs.declared.Reader.{Reader}
 use Rattle.line.specs.State.{readerOf}
 use Rattle.line.specs.Reached.{Reached}
 use Rattle.reading.specs.Moves.{Kept}
-use Rattle.registers.specs.Table.{startRegisters, registerAt, writable}
+use Rattle.registers.specs.Table.{startRegisters, registerAt, clearRegister, writable}
+use Rattle.curves.specs.Area.{channelCount, channelWords, countOf}
 use Rattle.touch.specs.declared.Setup.{Setup}
 use Rattle.touch.specs.Setup.{checkingOf, acknowledgingOf}
 use Rattle.contact.specs.Sound as Pad
@@ -33,4 +35,9 @@ pub record Sound (panel : Panel) : Type 0 where
   pub fixed : (address : ℕ) → writable address ≡ false → (address < 0x03) ⊎ (0x0B ≤ address)
       → registerAt (panel .registers) address
       ≡ registerAt (startRegisters (panel .setup .h1) (panel .setup .h2) (checkingOf (panel .setup)) (acknowledgingOf (panel .setup))) address
+  -- 02, §2: register EB "reads 00"
+  pub clear-reads : registerAt (panel .registers) clearRegister ≡ 0
+  -- "eight channels", each with at most "its latest 1,024 numbers"
+  pub channels : length (panel .counts .each) ≡ channelCount
+  pub counted : (n : ℕ) → countOf (panel .counts) n ≤ channelWords
   pub reads : Reads (lineOf (panel .setup)) (panel .reader)

@@ -5,6 +5,7 @@ use mathlib.Core.List.{List}
 use Rattle.line.specs.State.{readerOf, noReader}
 use Rattle.reading.specs.Moves.{fresh}
 use Rattle.registers.specs.Table.{startRegisters}
+use Rattle.curves.specs.Area.{noCounts}
 use Rattle.touch.specs.declared.Setup.{Setup}
 use Rattle.touch.specs.declared.Verdict.{Verdict}
 use Rattle.touch.specs.declared.Verdict.the-variants.{Good, NotRecords, Wrong}
@@ -17,13 +18,14 @@ use Rattle.panel.specs.declared.StartAnswer.the-variants as start
 use Rattle.panel.specs.declared.Start.{Start}
 use Rattle.panel.specs.State.{headerFor, withReader}
 
--- "a new panel": the registers' starts, nothing caught, nothing held
+-- "a new panel": the registers' starts, nothing caught, no channel with a number, nothing held
 unfoldable pub newPanel : Setup → Panel
 newPanel setup =
     record {
       setup = setup;
       registers = startRegisters (setup .h1) (setup .h2) (checkingOf setup) (acknowledgingOf setup);
       catch = Free;
+      counts = noCounts;
       reader = readerOf (record { header = headerFor setup; checking = checkingOf setup }) fresh;
     }
 

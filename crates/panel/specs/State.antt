@@ -1,4 +1,4 @@
--- The panel by value: setup, registers, catch and reader; and the parts of it that are set together.
+-- The panel by value: setup, registers, catch, the channels' counts and reader; and the parts of it that are set together.
 use Prim.Native.Nat.{ℕ}
 use mathlib.Core.Bool.{Bool, _&&_}
 use mathlib.Core.List.{List}
@@ -6,6 +6,7 @@ use Rattle.frame.specs.declared.Header.{Header}
 use Rattle.frame.specs.Frame.{headerBytes}
 use Rattle.line.specs.declared.Reader.{Reader}
 use Rattle.registers.specs.Table.{registerAt}
+use Rattle.curves.specs.Area.{countOf}
 use Rattle.touch.specs.declared.Setup.{Setup}
 use Rattle.touch.specs.Setup.{checkingOf, acknowledgingOf}
 use Rattle.commands.specs.declared.Fixed.{Fixed}
@@ -30,7 +31,8 @@ answering setup = checkingOf setup && acknowledgingOf setup
 
 -- a panel with another reader
 abbrev pub withReader : Panel → Reader → Panel
-withReader panel reader = record { setup = panel .setup; registers = panel .registers; catch = panel .catch; reader = reader }
+withReader panel reader =
+    record { setup = panel .setup; registers = panel .registers; catch = panel .catch; counts = panel .counts; reader = reader }
 
 -- what a touch reads and sets
 abbrev pub padOf : Panel → Pad
@@ -38,8 +40,13 @@ padOf panel = record { registers = panel .registers; catch = panel .catch }
 
 -- a panel with what a touch left
 abbrev pub withPad : Panel → Pad → Panel
-withPad panel pad = record { setup = panel .setup; registers = pad .registers; catch = pad .catch; reader = panel .reader }
+withPad panel pad =
+    record { setup = panel .setup; registers = pad .registers; catch = pad .catch; counts = panel .counts; reader = panel .reader }
 
 -- what a register of the panel reads
 abbrev pub panelRegister : Panel → ℕ → ℕ
 panelRegister panel address = registerAt (panel .registers) address
+
+-- 02, §2: how many numbers a channel has; past the last channel there is none
+abbrev pub panelCount : Panel → ℕ → ℕ
+panelCount panel n = countOf (panel .counts) n

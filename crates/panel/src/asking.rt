@@ -1,17 +1,19 @@
 // Asking for a report: it is handed over and acknowledged, and an accepted frame takes effect.
 ghost use mathlib.Core.Path.{_≡_};
-ghost use mathlib.Core.List.{[]};
-ghost use Prim.Native.Nat.{min};
+ghost use mathlib.Core.List.{List, []};
+ghost use Prim.Native.Nat.{ℕ, min};
 ghost use lib.ListN.{length};
 ghost use Rattle.wire.specs.Room.{lays};
 ghost use Rattle.frame.specs.Frame.{mostPayload};
 ghost use Rattle.line.specs.State.{padded};
 ghost use Rattle.registers.specs.Table.{holding};
+ghost use Rattle.curves.specs.Area.{draws};
 ghost use Rattle.commands.specs.Lent.{lending};
+ghost use Rattle.commands.specs.Effect.{countsLeft};
 ghost use Rattle.panel.specs.Listed.{askSaid};
 ghost use Rattle.panel.specs.Numbers.{handedSaid};
 ghost use Rattle.panel.specs.State.{fixedFor};
-ghost use Rattle.panel.specs.Reporting.{enough, acknowledged, effects, accepting, lengthOf, catchAfter, onlyHanded, acceptedOver, overs, handingOver, refused, reports, reporting};
+ghost use Rattle.panel.specs.Reporting.{enough, acknowledged, effects, accepting, lengthOf, catchAfter, onlyHanded, acceptedOver, overs, handingOver, drawing, refused, reports, reporting};
 use crate::Effected;
 use crate::Handed;
 use crate::HandedOver;
@@ -20,6 +22,8 @@ use crate::Reported;
 use crate::starting;
 use commands::Fixed;
 use contact::Catch;
+use curves::CURVE_WORDS;
+use curves::Counts;
 use frame::LEAST_ROOM;
 use frame::MOST_PAYLOAD;
 use line::Report;
@@ -28,11 +32,11 @@ use wire::WORD_COUNT;
 
 impl Panel {
     // Asks for a report: hands it over, acknowledges it, and does what an accepted frame says.
-    pub fn report(self, words: &mut [u16], room: &mut [u8]) -> Reported
-        ensures { λ r. ⌜ reports r (lending (now (words .exit)) (now (room .exit))) ≡ reporting self (lending (now (words .entry)) (now (room .entry))) ⌝ }
-        ensures { λ r. ⌜ handedSaid (r .handed) ≡ askSaid self (lending (now (words .entry)) (now (room .entry))) ⌝ }
+    pub fn report(self, words: &mut [u16], curves: &mut [u16], room: &mut [u8]) -> Reported
+        ensures { λ r. ⌜ reports r (lending (now (words .exit)) (now (curves .exit)) (now (room .exit))) ≡ reporting self (lending (now (words .entry)) (now (curves .entry)) (now (room .entry))) ⌝ }
+        ensures { λ r. ⌜ handedSaid (r .handed) ≡ askSaid self (lending (now (words .entry)) (now (curves .entry)) (now (room .entry))) ⌝ }
     {
-        if !is_lent(words.len(), room.len()) {
+        if !is_lent(words.len(), curves.len(), room.len()) {
             return not_lent(self);
         }
         let reader = self.reader;
@@ -47,9 +51,12 @@ impl Panel {
         let handed = done.handed;
         let before = self.catch;
         let catch = catch_after(done.drops, before);
+        let n = within(length_of(report));
+        let content = &payload[..n];
+        let old = self.counts;
+        let counts = draw(done.writes, done.adds, old, content, curves);
         if done.writes {
-            let n = within(length_of(report));
-            registers = commands::registers_left(registers, &payload[..n]);
+            registers = commands::registers_left(registers, content);
         }
         Reported {
             handed: handed,
@@ -57,6 +64,7 @@ impl Panel {
             panel: Panel {
                 registers: registers,
                 catch: catch,
+                counts: counts,
                 reader: next,
                 ..self
             },
@@ -64,11 +72,11 @@ impl Panel {
     }
 }
 
-// Words and room are what they must be.
-fn is_lent(words: usize, room: usize) -> bool
-    ensures { λ r. ⌜ r ≡ enough words room ⌝ }
+// Words, curve area and room are what they must be.
+fn is_lent(words: usize, curves: usize, room: usize) -> bool
+    ensures { λ r. ⌜ r ≡ enough words curves room ⌝ }
 {
-    (words == WORD_COUNT) & (LEAST_ROOM <= room)
+    (words == WORD_COUNT) & (curves == CURVE_WORDS) & (LEAST_ROOM <= room)
 }
 
 fn no_payload() -> [u8; MOST_PAYLOAD]
@@ -77,7 +85,7 @@ fn no_payload() -> [u8; MOST_PAYLOAD]
     [0u8; MOST_PAYLOAD]
 }
 
-// Words or room are not what they must be: the report still waits.
+// Words, curve area or room are not what they must be: the report still waits.
 fn not_lent(panel: Panel) -> Reported
     ensures { λ r. ⌜ r ≡ refused panel ⌝ }
 {
@@ -119,7 +127,7 @@ fn accept(
     words: &mut [u16],
     room: &mut [u8],
 ) -> Effected
-    ensures { λ r. ⌜ effects r (lending (now (words .exit)) (now (room .exit))) ≡ accepting setup (holding (now (registers .entry))) command (now (content .entry)) (lending (now (words .entry)) (now (room .entry))) ⌝ }
+    ensures { λ r. ⌜ ((curves : List ℕ) → effects r (lending (now (words .exit)) curves (now (room .exit))) ≡ accepting setup (holding (now (registers .entry))) command (now (content .entry)) (lending (now (words .entry)) curves (now (room .entry)))) ⌝ }
 {
     let k = acknowledge(setup, command, true, room);
     let done = commands::perform(
@@ -172,6 +180,7 @@ fn only(handed: Handed) -> HandedOver
         handed: handed,
         writes: false,
         drops: false,
+        adds: false,
     }
 }
 
@@ -191,10 +200,32 @@ fn accepted(command: u8, len: usize, e: Effected) -> HandedOver
         },
         writes: p.writes,
         drops: p.drops,
+        adds: p.adds,
     }
 }
 
-// What a report does to what is lent when it is handed over, and what it asks for besides.
+// A write of registers: a channel that it clears has no numbers any more. The area's words stay.
+fn clear(counts: Counts, content: &[u8], area: &mut [u16]) -> Counts
+    ensures { λ r. ⌜ r ≡ countsLeft counts (now (content .entry)) ⌝ }
+    ensures { λ _. ⌜ now (area .exit) ≡ now (area .entry) ⌝ }
+{
+    commands::counts_left(counts, content)
+}
+
+// What a report does to the curves.
+fn draw(writes: bool, adds: bool, counts: Counts, content: &[u8], area: &mut [u16]) -> Counts
+    ensures { λ r. ⌜ draws r (now (area .exit)) ≡ drawing writes adds counts (now (content .entry)) (now (area .entry)) ⌝ }
+{
+    if adds {
+        return curves::add(counts, content, area);
+    }
+    if writes {
+        return clear(counts, content, area);
+    }
+    counts
+}
+
+// What a report does to words and room when it is handed over, and what it asks for besides.
 fn hand_over(
     setup: Setup,
     registers: &[u8],
@@ -204,7 +235,7 @@ fn hand_over(
     room: &mut [u8],
 ) -> HandedOver
     requires { ⌜ length (now payload) ≡ mostPayload ⌝ }
-    ensures { λ r. ⌜ overs r (lending (now (words .exit)) (now (room .exit))) ≡ handingOver setup (holding (now (registers .entry))) report (now (payload .entry)) (lending (now (words .entry)) (now (room .entry))) ⌝ }
+    ensures { λ r. ⌜ ((curves : List ℕ) → overs r (lending (now (words .exit)) curves (now (room .exit))) ≡ handingOver setup (holding (now (registers .entry))) report (now (payload .entry)) (lending (now (words .entry)) curves (now (room .entry)))) ⌝ }
 {
     match report {
         Report::Nothing => only(Handed::Nothing),

@@ -2,6 +2,7 @@
 use commands::Outcome;
 use commands::Performed;
 use contact::Catch;
+use curves::Counts;
 use frame::MOST_PAYLOAD;
 use line::Answer;
 use line::Reader;
@@ -18,6 +19,7 @@ pub struct Panel {
     setup: Setup,
     registers: Registers,
     catch: Catch,
+    counts: Counts,
     reader: Reader,
 }
 
@@ -48,7 +50,7 @@ pub struct FedBytes {
 
 // What asking for a report hands over.
 pub enum Handed {
-    // Words or room are not what they must be; the report still waits.
+    // Words, curve area or room are not what they must be; the report still waits.
     NotLent,
     Nothing,
     // The command, and how long an acknowledgement was written.
@@ -104,9 +106,11 @@ struct Effected {
     acknowledged: usize,
 }
 
-// What is handed over; whether the frame's data is to be written into the registers; whether the catch is to be dropped.
+// What is handed over; whether the frame's data is to be written into the registers; whether the catch is to be dropped; whether the data is to be
+// added to the curves.
 struct HandedOver {
     handed: Handed,
     writes: bool,
     drops: bool,
+    adds: bool,
 }

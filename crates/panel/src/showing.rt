@@ -1,7 +1,7 @@
 // What the display board reads.
 ghost use mathlib.Core.Path.{_≡_};
 ghost use Rattle.registers.specs.Touched.{pageOf};
-ghost use Rattle.panel.specs.State.{panelRegister};
+ghost use Rattle.panel.specs.State.{panelRegister, panelCount};
 use crate::Panel;
 use registers::RegisterAddress;
 
@@ -32,5 +32,12 @@ impl Panel {
         ensures { λ r. ⌜ r ≡ panelRegister self 0x02 ⌝ }
     {
         self.register(RegisterAddress(0x02))
+    }
+    // How many numbers a channel of the curves has; past the last channel, 0.
+    pub fn curve_count(self, channel: usize) -> u16
+        ensures { λ r. ⌜ r ≡ panelCount self channel ⌝ }
+    {
+        let counts = self.counts;
+        counts.of(channel)
     }
 }

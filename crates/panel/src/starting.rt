@@ -28,11 +28,13 @@ fn new_panel(setup: Setup) -> Panel
 {
     let checking = touch::checking(setup);
     let registers = Registers::start(setup.h1, setup.h2, checking, touch::acknowledging(setup));
+    let counts = curves::none();
     let reader = Reader::new(header_for(setup), checking);
     Panel {
         setup: setup,
         registers: registers,
         catch: Catch::Free,
+        counts: counts,
         reader: reader,
     }
 }

@@ -1,8 +1,6 @@
-// Contact and lift. A contact is lent words and no room: what is said of it holds whatever room the caller has.
+// Contact and lift. A contact is lent words and nothing else: what is said of it holds whatever else the caller has.
 ghost use mathlib.Core.Path.{_≡_};
-ghost use mathlib.Core.List.{List};
-ghost use Prim.Native.Nat.{ℕ};
-ghost use Rattle.commands.specs.Lent.{lending};
+ghost use Rattle.commands.specs.Lent.{Lent, withWords};
 ghost use Rattle.touch.specs.Judge.{judged};
 ghost use Rattle.panel.specs.State.{withPad};
 ghost use Rattle.panel.specs.Numbers.{contactSaid, liftSaid};
@@ -20,8 +18,8 @@ use wire::WORD_COUNT;
 impl Panel {
     // A contact at a point, under the table that is lent.
     pub fn contact(self, table: &[u8], words: &mut [u16], x: u16, y: u16) -> Contacted
-        ensures { λ r. ⌜ ((room : List ℕ) → contacts (r .answer) (r .panel) (lending (now (words .exit)) room) ≡ contacting self (contactAt (now (table .entry)) x y) (lending (now (words .entry)) room)) ⌝ }
-        ensures { λ r. ⌜ ((room : List ℕ) → contactSaid (r .answer) ≡ saidBy (contactListed self (contactAt (now (table .entry)) x y) (lending (now (words .entry)) room))) ⌝ }
+        ensures { λ r. ⌜ ((rest : Lent) → contacts (r .answer) (r .panel) (withWords rest (now (words .exit))) ≡ contacting self (contactAt (now (table .entry)) x y) (withWords rest (now (words .entry)))) ⌝ }
+        ensures { λ r. ⌜ ((rest : Lent) → contactSaid (r .answer) ≡ saidBy (contactListed self (contactAt (now (table .entry)) x y) (withWords rest (now (words .entry))))) ⌝ }
     {
         if words.len() == WORD_COUNT {
             let reader = self.reader;
@@ -85,7 +83,7 @@ fn with_pad(panel: Panel, pad: Pad) -> Panel
 
 // A contact under a table that is judged first.
 fn judged_contact(panel: Panel, table: &[u8], words: &mut [u16], x: u16, y: u16) -> Contacted
-    ensures { λ r. ⌜ ((room : List ℕ) → contacts (r .answer) (r .panel) (lending (now (words .exit)) room) ≡ contactJudged (judged (panel .setup) (now (table .entry))) panel (contactAt (now (table .entry)) x y) (lending (now (words .entry)) room)) ⌝ }
+    ensures { λ r. ⌜ ((rest : Lent) → contacts (r .answer) (r .panel) (withWords rest (now (words .exit))) ≡ contactJudged (judged (panel .setup) (now (table .entry))) panel (contactAt (now (table .entry)) x y) (withWords rest (now (words .entry)))) ⌝ }
 {
     let setup = panel.setup;
     let verdict = touch::judge(setup, table);
@@ -104,7 +102,7 @@ fn judged_contact(panel: Panel, table: &[u8], words: &mut [u16], x: u16, y: u16)
 
 // A contact under a good table.
 fn good_contact(panel: Panel, table: &[u8], words: &mut [u16], x: u16, y: u16) -> Contacted
-    ensures { λ r. ⌜ ((room : List ℕ) → contacts (r .answer) (r .panel) (lending (now (words .exit)) room) ≡ contactOn panel (contactAt (now (table .entry)) x y) (lending (now (words .entry)) room)) ⌝ }
+    ensures { λ r. ⌜ ((rest : Lent) → contacts (r .answer) (r .panel) (withWords rest (now (words .exit))) ≡ contactOn panel (contactAt (now (table .entry)) x y) (withWords rest (now (words .entry)))) ⌝ }
 {
     let registers = panel.registers;
     if registers.is_touch_off() {
