@@ -22,8 +22,8 @@ use Rattle.words.specs.Words.{wordsWritten}
 use Rattle.commands.specs.declared.Outcome.{Outcome}
 use Rattle.commands.specs.Outcome as Outcome
 use Rattle.commands.specs.declared.Outcome.the-variants.{Done, UnknownCommand, WrongData, PastEnd, Unwritable, WrongValue, ReplyTooLong}
-use Rattle.commands.specs.Outcome.{writeRegistersOutcome, readRegistersOutcome, writeWordsOutcome, readWordsOutcome, outcome, isDone}
-use Rattle.commands.specs.Effect.{wordsWriting, replying, registersReplying, wordsReplying, answered, catchDropped, registersWriting}
+use Rattle.commands.specs.Outcome.{writeRegistersOutcome, readRegistersOutcome, writeWordsOutcome, readWordsOutcome, addCurvesOutcome, outcome, isDone}
+use Rattle.commands.specs.Effect.{wordsWriting, replying, registersReplying, wordsReplying, answered, catchDropped, registersWriting, curvesAdding}
 use Rattle.commands.specs.declared.Performed.{Performed}
 use Rattle.commands.specs.Perform.{performs, performance}
 use Rattle.commands.specs.Reply.{registersReply, wordsReply}
@@ -38,7 +38,7 @@ use Rattle.panel.specs.Reachable.{Reachable}
 use Rattle.panel.proofs.Invariant.{reachable-sound}
 use Rattle.demands.specs.Calls.{Moment, ask, after, numberGiven, reportHanded, handedOver}
 use Rattle.demands.specs.Reports.{readBehind, acknowledgementOf}
-use Rattle.demands.specs.Demand2.{readReply, fetchReply, afterWrite, afterRead, afterStore, afterFetch, afterBadCheck}
+use Rattle.demands.specs.Demand2.{readReply, fetchReply, afterWrite, afterRead, afterStore, afterFetch, afterAdd, afterBadCheck}
 use Rattle.demands.proofs.Answers.{reportedBy, momentAsked}
 use Rattle.demands.proofs.Waits.{asked-reader}
 use Rattle.demands.proofs.Rooms.{acknowledged-laid}
@@ -95,7 +95,7 @@ module _ (now : Moment) (reached : Reachable (now .panel)) (content : List ℕ) 
 
   -- what each command does that is done: what it answers, and what it leaves of what is lent, its reply over the room behind the acknowledgement
   pub does-write : Asks now 0x80 content
-      → Does now 0x80 content (record { outcome = writeRegistersOutcome (now .panel .setup .pages) content; writes = true; drops = catchDropped content; replied = 0 }) (now .lent) []
+      → Does now 0x80 content (record { outcome = writeRegistersOutcome (now .panel .setup .pages) content; writes = true; drops = catchDropped content; adds = false; replied = 0 }) (now .lent) []
   unfolding outcome performance registersWriting
   does-write asks = rw (is-done 0x80 asks, over-nil (partBehind now 0x80))
 
@@ -106,6 +106,11 @@ module _ (now : Moment) (reached : Reachable (now .panel)) (content : List ℕ) 
   does-store asks =
       let stored : isDone (writeWordsOutcome (length (now .lent .words)) content) ≡ true = rw (asks .well .words) (is-done 0x82 asks) in
       rw (stored, over-nil (partBehind now 0x82))
+
+  pub does-add : Asks now 0x84 content
+      → Does now 0x84 content (record { outcome = addCurvesOutcome content; writes = false; drops = false; adds = true; replied = 0 }) (now .lent) []
+  unfolding outcome performance curvesAdding
+  does-add asks = rw (is-done 0x84 asks, over-nil (partBehind now 0x84))
 
   pub does-read : Asks now 0x81 content
       → Does now 0x81 content (answered (readRegistersOutcome (checkingOf (now .panel .setup)) content) (length (readReply now content))) (now .lent) (readReply now content)
@@ -156,6 +161,11 @@ module _ (now : Moment) (reached : Reachable (now .panel)) (content : List ℕ) 
   unfolding afterFetch
   reads-words hands =
       let asks = handed-asks now 0x83 content hands in performance-leaves now sound 0x83 content asks _ (now .lent) (fetchReply now content) (does-fetch asks)
+
+  -- 02, §2: "command 0x84 ..: a mode byte, bit n for channel n, then 16-bit numbers in rounds"
+  pub adds-numbers : handedOver now ask ≡ acceptedFrame 0x84 content ∷ [] → after now ask ≡ afterAdd now content
+  unfolding afterAdd
+  adds-numbers hands = let asks = handed-asks now 0x84 content hands in performance-leaves now sound 0x84 content asks _ (now .lent) [] (does-add asks)
 
 -- "each bad check by the same with 0x00"; "'Nothing' changes nothing, the reply room included."
 module _ (now : Moment) where

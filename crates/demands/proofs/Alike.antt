@@ -19,7 +19,7 @@ use Rattle.demands.specs.Calls.{Moment, Call, lend, byte, bytes, mark, a
 use Rattle.demands.specs.Given.{unlessRefused, given, givenAll}
 use Rattle.demands.specs.Demand3.{ReadAlike}
 use Rattle.demands.proofs.Answers.{reportedBy}
-use Rattle.panel.proofs.Lengths.{reported-words-long, reported-room-long, contacted-words-long, contacted-room-stands}
+use Rattle.panel.proofs.Lengths.{reported-words-long, reported-area-long, reported-room-long, contacted-words-long, contacted-area-stands, contacted-room-stands}
 use Rattle.commands.specs.Lent.{Lent}
 use Rattle.demands.proofs.Reading.{contact-keeps-reader, lift-keeps-reader}
 
@@ -59,6 +59,7 @@ module _ (panel : Panel) (lent : Lent) where
 record Shared (one other : Moment) : Type 0 where
   reader : one .panel .reader ≡ other .panel .reader
   words : length (one .lent .words) ≡ length (other .lent .words)
+  curves : length (one .lent .curves) ≡ length (other .lent .curves)
   room : length (one .lent .room) ≡ length (other .lent .room)
 
 module _ (one other : Moment) (same : Shared one other) where
@@ -79,22 +80,24 @@ module _ (one other : Moment) (same : Shared one other) where
   handed-same (bytes bs) = refl
   handed-same mark = refl
   handed-same ask =
-      rw (ask-told (one .panel) (one .lent) .0, ask-told (other .panel) (other .lent) .0, same .reader, same .words, same .room)
+      rw (ask-told (one .panel) (one .lent) .0, ask-told (other .panel) (other .lent) .0, same .reader, same .words, same .curves, same .room)
   handed-same (contact c) = refl
   handed-same lift = refl
 
   shared-after : (call : Call) → Shared (after one call) (after other call)
   unfolding after fedByte fedMark fedBytes
-  shared-after (lend lent) = record { reader = same .reader; words = refl; room = refl }
-  shared-after (byte b) = record { reader = ap (λ (r : Reader). givenByte r b .reader) (same .reader); words = same .words; room = same .room }
-  shared-after (bytes bs) = record { reader = ap (λ (r : Reader). givenBytes r bs .reader) (same .reader); words = same .words; room = same .room }
-  shared-after mark = record { reader = ap (λ (r : Reader). givenMark r .reader) (same .reader); words = same .words; room = same .room }
+  shared-after (lend lent) = record { reader = same .reader; words = refl; curves = refl; room = refl }
+  shared-after (byte b) = record { reader = ap (λ (r : Reader). givenByte r b .reader) (same .reader); words = same .words; curves = same .curves; room = same .room }
+  shared-after (bytes bs) = record { reader = ap (λ (r : Reader). givenBytes r bs .reader) (same .reader); words = same .words; curves = same .curves; room = same .room }
+  shared-after mark = record { reader = ap (λ (r : Reader). givenMark r .reader) (same .reader); words = same .words; curves = same .curves; room = same .room }
   shared-after ask =
       record {
         reader =
-            rw (ask-told (one .panel) (one .lent) .1, ask-told (other .panel) (other .lent) .1, same .reader, same .words, same .room);
+            rw (ask-told (one .panel) (one .lent) .1, ask-told (other .panel) (other .lent) .1, same .reader, same .words, same .curves, same .room);
         words =
             reported-words-long (one .panel) (one .lent) ∙ same .words ∙ sym (reported-words-long (other .panel) (other .lent));
+        curves =
+            reported-area-long (one .panel) (one .lent) ∙ same .curves ∙ sym (reported-area-long (other .panel) (other .lent));
         room = reported-room-long (one .panel) (one .lent) ∙ same .room ∙ sym (reported-room-long (other .panel) (other .lent));
       }
   shared-after (contact c) =
@@ -105,12 +108,14 @@ module _ (one other : Moment) (same : Shared one other) where
             ∙ sym (contact-keeps-reader (other .panel) c (other .lent));
         words =
             contacted-words-long (one .panel) c (one .lent) ∙ same .words ∙ sym (contacted-words-long (other .panel) c (other .lent));
+        curves = rw (contacted-area-stands (one .panel) c (one .lent), contacted-area-stands (other .panel) c (other .lent)) (same .curves);
         room = rw (contacted-room-stands (one .panel) c (one .lent), contacted-room-stands (other .panel) c (other .lent)) (same .room);
       }
   shared-after lift =
       record {
         reader = lift-keeps-reader (one .panel) ∙ same .reader ∙ sym (lift-keeps-reader (other .panel));
         words = same .words;
+        curves = same .curves;
         room = same .room;
       }
 
@@ -127,7 +132,7 @@ all-handed-same one other same (call ∷ calls) =
     rw (handed-same one other same call, all-handed-same (after one call) (after other call) (shared-after one other same call) calls)
 
 pub read-alike : (one other : Moment) → one .panel .reader ≡ other .panel .reader → length (one .lent .words) ≡ length (other .lent .words)
-    → length (one .lent .room) ≡ length (other .lent .room) → ReadAlike one other
-read-alike one other reader words room =
-    let same : Shared one other = record { reader = reader; words = words; room = room } in
+    → length (one .lent .curves) ≡ length (other .lent .curves) → length (one .lent .room) ≡ length (other .lent .room) → ReadAlike one other
+read-alike one other reader words curves room =
+    let same : Shared one other = record { reader = reader; words = words; curves = curves; room = room } in
     record { give-same = all-given-same one other same; hand-same = all-handed-same one other same }

@@ -27,7 +27,8 @@ use Rattle.panel.specs.Reporting.{acknowledged, accepting, handing, reporting, 
 use Rattle.panel.specs.Sound.{Sound}
 use Rattle.demands.specs.Calls.{Moment, ask, numberGiven}
 use Rattle.demands.specs.Reports.{waitingReport}
-use Rattle.demands.specs.Demand1.{Condition, firstNumber, ofFrame, wordsNotLent, roomTooSmall, printed}
+use Rattle.demands.specs.Demand1.{Condition, firstNumber, ofFrame, wordsNotLent, areaNotLent, roomTooSmall, printed}
+use Rattle.curves.specs.Area.{curveWords}
 use Rattle.commands.specs.Lent.{Lent, withRoom}
 use Rattle.panel.specs.State.{fixedFor}
 use Rattle.demands.proofs.Waits.{asked-report, asked-payload}
@@ -98,8 +99,9 @@ handing-numbers panel lent whole a told (acceptedFrame command content ∷ rest)
     rw (is, same) (accepted-number panel lent whole command content)
 
 pub ask-number : (now : Moment) → Sound (now .panel) → numberGiven now ask ≡ firstNumber (printed now ask)
-unfolding numberGiven printed reporting reportNumber enough wordsNotLent roomTooSmall firstSaid
-ask-number now sound = go (eqb (length (now .lent .words)) wordCount) refl (leb leastRoom (length (now .lent .room))) refl
+unfolding numberGiven printed reporting reportNumber enough wordsNotLent areaNotLent roomTooSmall firstSaid
+ask-number now sound =
+    go (eqb (length (now .lent .words)) wordCount) refl (eqb (length (now .lent .curves)) curveWords) refl (leb leastRoom (length (now .lent .room))) refl
   where
     panel : Panel
     panel = now .panel
@@ -107,12 +109,13 @@ ask-number now sound = go (eqb (length (now .lent .words)) wordCount) refl (leb 
     a : Asked
     a = asked (panel .reader)
 
-    go : (w : Bool) → eqb (length (now .lent .words)) wordCount ≡ w → (r : Bool) → leb leastRoom (length (now .lent .room)) ≡ r
-        → reportNumber (reporting panel (now .lent) .reported .handed)
-        ≡ cond (not w || ltb (length (now .lent .room)) leastRoom) 14 (firstNumber (waitingNumbers (panel .setup) (waitingReport panel)))
-    go true w true r =
-        rw (w, r, le-ltb (length (now .lent .room)) leastRoom (leb-true leastRoom (length (now .lent .room)) r))
+    go : (w : Bool) → eqb (length (now .lent .words)) wordCount ≡ w → (c : Bool) → eqb (length (now .lent .curves)) curveWords ≡ c
+        → (r : Bool) → leb leastRoom (length (now .lent .room)) ≡ r → reportNumber (reporting panel (now .lent) .reported .handed)
+        ≡ cond (not w || not c || ltb (length (now .lent .room)) leastRoom) 14 (firstNumber (waitingNumbers (panel .setup) (waitingReport panel)))
+    go true w true c true r =
+        rw (w, c, r, le-ltb (length (now .lent .room)) leastRoom (leb-true leastRoom (length (now .lent .room)) r))
         (handing-numbers panel (now .lent) (eqb-true (length (now .lent .words)) wordCount w) a (a .report) (waitingReport panel) (asked-report panel sound)
         (asked-payload panel sound))
-    go true w false r = rw (w, r, lt-ltb (length (now .lent .room)) leastRoom (leb-false leastRoom (length (now .lent .room)) r))
-    go false w r s = rw w
+    go true w true c false r = rw (w, c, r, lt-ltb (length (now .lent .room)) leastRoom (leb-false leastRoom (length (now .lent .room)) r))
+    go true w false c r s = rw (w, c)
+    go false w c d r s = rw w

@@ -23,7 +23,7 @@ use Rattle.panel.proofs.Invariant.{reachable-sound}
 use Rattle.demands.specs.Calls.{Moment, ask, numberGiven, reportHanded, handedOver}
 use Rattle.demands.specs.Demand2.{afterCommand, AskLeaves, hands-nothing, hands-bad-check, refuses-command, does-command}
 use Rattle.demands.proofs.FrameAsked.{handed-asks, done-number}
-use Rattle.demands.proofs.Access.{writes-registers, reads-registers, writes-words, reads-words, answers-bad-check, nothing-changes-nothing}
+use Rattle.demands.proofs.Access.{writes-registers, reads-registers, writes-words, reads-words, adds-numbers, answers-bad-check, nothing-changes-nothing}
 use Rattle.demands.proofs.Refusals.{command-refused}
 
 -- one report at most, and its number where it is none or a bad check
@@ -48,39 +48,42 @@ bad-number handed.Nothing payload command is = never (cc)
 bad-number (handed.BadCheck c acknowledged) payload command is = refl
 bad-number (handed.Accepted c count o acknowledged replied) payload command is = never (cc)
 
--- an accepted frame that is done is one of the four commands
+-- an accepted frame that is done is one of the five commands
 module _ (now : Moment) (reached : Reachable (now .panel)) (command : ℕ) (content : List ℕ) (hands : handedOver now ask ≡ acceptedFrame command content ∷ [])
     (zero : numberGiven now ask ≡ 0) where
-  known : (eqb command 0x80 ≡ false) → (eqb command 0x81 ≡ false) → (eqb command 0x82 ≡ false) → (eqb command 0x83 ≡ false) → ⊥
+  known : (eqb command 0x80 ≡ false) → (eqb command 0x81 ≡ false) → (eqb command 0x82 ≡ false) → (eqb command 0x83 ≡ false) → (eqb command 0x84 ≡ false) → ⊥
   unfolding outcome Outcome.numberOfOutcome
-  known a b c d =
+  known a b c d e =
       let setup = now .panel .setup in
       let number = done-number now (reachable-sound (now .panel) reached) command content (handed-asks now command content hands) in
-      let unknown : Outcome.numberOfOutcome (outcome (fixedFor setup) wordCount command content) ≡ 2 = rw (a, b, c, d) in
+      let unknown : Outcome.numberOfOutcome (outcome (fixedFor setup) wordCount command content) ≡ 2 = rw (a, b, c, d, e) in
       omega arith
 
   command-done : AskLeaves now
   unfolding afterCommand
-  command-done = go (eqb command 0x80) refl (eqb command 0x81) refl (eqb command 0x82) refl (eqb command 0x83) refl
+  command-done = go (eqb command 0x80) refl (eqb command 0x81) refl (eqb command 0x82) refl (eqb command 0x83) refl (eqb command 0x84) refl
     where
       as-command : (c : ℕ) → command ≡ c → handedOver now ask ≡ acceptedFrame c content ∷ []
       as-command c is = hands ∙ ap (λ (k : ℕ). acceptedFrame k content ∷ []) is
 
       go : (a : Bool) → eqb command 0x80 ≡ a → (b : Bool) → eqb command 0x81 ≡ b → (c : Bool) → eqb command 0x82 ≡ c → (d : Bool) → eqb command 0x83 ≡ d
-          → AskLeaves now
-      go true p b q c r d s =
+          → (e : Bool) → eqb command 0x84 ≡ e → AskLeaves now
+      go true p b q c r d s e t =
           let is = eqb-true command 0x80 p in
           does-command command content hands zero (omega arith) (omega arith) (writes-registers now reached content zero (as-command 0x80 is) ∙ rw p)
-      go false p true q c r d s =
+      go false p true q c r d s e t =
           let is = eqb-true command 0x81 q in
           does-command command content hands zero (omega arith) (omega arith) (reads-registers now reached content zero (as-command 0x81 is) ∙ rw (p, q))
-      go false p false q true r d s =
+      go false p false q true r d s e t =
           let is = eqb-true command 0x82 r in
           does-command command content hands zero (omega arith) (omega arith) (writes-words now reached content zero (as-command 0x82 is) ∙ rw (p, q, r))
-      go false p false q false r true s =
+      go false p false q false r true s e t =
           let is = eqb-true command 0x83 s in
-          does-command command content hands zero (omega arith) (omega arith) (reads-words now reached content zero (as-command 0x83 is) ∙ rw (p, q, r))
-      go false p false q false r false s = absurd (known p q r s)
+          does-command command content hands zero (omega arith) (omega arith) (reads-words now reached content zero (as-command 0x83 is) ∙ rw (p, q, r, s))
+      go false p false q false r false s true t =
+          let is = eqb-true command 0x84 t in
+          does-command command content hands zero (omega arith) (omega arith) (adds-numbers now reached content zero (as-command 0x84 is) ∙ rw (p, q, r, s))
+      go false p false q false r false s false t = absurd (known p q r s t)
 
 pub asking-leaves : (now : Moment) → Reachable (now .panel) → AskLeaves now
 unfolding numberGiven handedOver

@@ -17,7 +17,7 @@ accepted-then (badCheck command ∷ these) more = accepted-then these more
 accepted-then (acceptedFrame command content ∷ these) more = ap (λ (l : List Report). acceptedFrame command content ∷ l) (accepted-then these more)
 
 pub since-arises : (s : Start) (calls : List Call) → AllTyped calls → Arises (since s calls)
-since-arises s calls typed = sequence-arises (s .setup) (s .table) (s .lent) (s .h1) (s .h2) (s .words) (s .taken) calls typed
+since-arises s calls typed = sequence-arises (s .setup) (s .table) (s .lent) (s .h1) (s .h2) (s .words) (s .curves) (s .taken) calls typed
 
 -- what ours accepts behind earlier calls is what it accepts from the moment on that they lead to
 ours-accepts : (s : Start) (earlier calls : List Call) (accepted : List Report) → acceptedOf (handedOverAll (since s earlier) calls) ≡ accepted

@@ -46,10 +46,10 @@ calls-arise now [] typed arises = arises
 calls-arise now (call ∷ calls) typed arises = calls-arise (after now call) calls (typed .1) (by-call now call (typed .0) arises)
 
 pub sequence-arises : (setup : Setup) (table : List ℕ) (lent : Lent) → setup .h1 < 256 → setup .h2 < 256 → Halfwords (lent .words)
-    → started setup table .answer ≡ start.Started → (calls : List Call) → AllTyped calls → Arises (afterAll (begun setup table lent) calls)
-sequence-arises setup table lent h1 h2 are is calls typed =
-    calls-arise (begun setup table lent) calls typed (from-start setup table lent h1 h2 are is)
+    → Halfwords (lent .curves) → started setup table .answer ≡ start.Started → (calls : List Call) → AllTyped calls → Arises (afterAll (begun setup table lent) calls)
+sequence-arises setup table lent h1 h2 are area is calls typed =
+    calls-arise (begun setup table lent) calls typed (from-start setup table lent h1 h2 are area is)
 
 pub arises-reachable : (now : Moment) → Arises now → Reachable (now .panel)
-arises-reachable _ (from-start setup table lent h1 h2 are is) = by-start setup table is
+arises-reachable _ (from-start setup table lent h1 h2 are area is) = by-start setup table is
 arises-reachable _ (by-call now call typed arises) = call-reached now call typed (arises-reachable now arises)

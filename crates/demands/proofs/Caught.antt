@@ -105,7 +105,7 @@ call-fits now lift typed fits = lift-ways (now .panel) (λ l. Fits (l .panel .ca
 
 always-fits : (now : Moment) → Arises now → Fits (now .panel .catch)
 unfolding newPanel
-always-fits _ (from-start setup table lent h1 h2 are is) = λ r f caught kind.
+always-fits _ (from-start setup table lent h1 h2 are area is) = λ r f caught kind.
     let none : newPanel setup .catch ≡ Caught r = ap (λ (p : Panel). p .catch) (sym (started-new setup table is)) ∙ caught in
     free-fits r f none kind
 always-fits _ (by-call now call typed arises) = call-fits now call typed (always-fits now arises)

@@ -20,11 +20,15 @@ use Rattle.touch.specs.Rounding.{roundingOf}
 use Rattle.touch.specs.Judge as Judge
 use Rattle.touch.specs.Table.{recordsFrom, firstOf}
 use Rattle.registers.specs.Table.{startRows, withRows, startRegisters, registerAt, registerRun, writable}
-use Rattle.registers.specs.Run.{covers, allWritable, halfPage, unwritableRun, byteFor, wrongValue, registersAfter, dropsCatch}
+use Rattle.registers.specs.Run.{covers, allWritable, halfPage, unwritableRun, byteFor, clearing, wrongValue, readAs, readsAs, registersAfter, dropsCatch, clearValue}
 use Rattle.words.specs.Words.{wordAtAddress, wordsOf, bytesOf, wordRun, wordsWritten}
-use Rattle.commands.specs.Outcome.{numberOfOutcome, replyTooLong, writeRegistersOutcome, readRegistersOutcome, writeWordsOutcome, readWordsOutcome}
+use Rattle.curves.specs.Area.{noCounts, countOf, partOf, heldBy, latest, onChannel}
+use Rattle.curves.specs.Rounds.{named, placeOf, ofRounds, numbersFor, wrongRounds}
+use Rattle.curves.specs.Adding.{addedTo, addedFrom, added}
+use Rattle.curves.specs.Clearing.{cleared, clears}
+use Rattle.commands.specs.Outcome.{numberOfOutcome, replyTooLong, writeRegistersOutcome, readRegistersOutcome, writeWordsOutcome, readWordsOutcome, addCurvesOutcome}
 use Rattle.commands.specs.Reply.{registersReply, wordsReply}
-use Rattle.commands.specs.Effect.{replying, registersReplying, wordsReplying, registersLeft, catchDropped, registersWriting, wordsWriting}
+use Rattle.commands.specs.Effect.{replying, registersReplying, wordsReplying, registersLeft, countsLeft, catchDropped, registersWriting, curvesAdding, wordsWriting}
 use Rattle.commands.specs.Perform.{performance}
 use Rattle.panel.specs.Start.{newPanel, startJudged, started}
 use Rattle.panel.specs.Inputs.{fedBytes, fedMark}
@@ -34,7 +38,7 @@ use Rattle.demands.specs.Calls.{after, afterAll, numberGiven, reportHand
 use Rattle.demands.specs.Reports.{reportWaits, acknowledgementOf}
 use Rattle.demands.specs.Given as Given
 use Rattle.demands.specs.Given.{unlessRefused, givenAll}
-use Rattle.demands.specs.Demand2.{leaving, afterWrite, afterRead, afterStore, afterFetch}
+use Rattle.demands.specs.Demand2.{leaving, afterWrite, afterRead, afterStore, afterFetch, afterAdd}
 use Rattle.demands.specs.Story.{times}
 
 unfoldable pub computingCheckValues : Unit {0}
@@ -62,19 +66,23 @@ unfolding inMode signed wordOf stepped fenced stepStores nearest roundingOf roun
 computingStores = tt
 
 unfoldable pub computingRegisters : Unit {0}
-unfolding laidAt startRows withRows startRegisters registerAt registerRun writable covers allWritable halfPage unwritableRun byteFor wrongValue registersAfter dropsCatch
+unfolding laidAt startRows withRows startRegisters registerAt registerRun writable covers allWritable halfPage unwritableRun byteFor clearing wrongValue readAs readsAs registersAfter dropsCatch clearValue
 computingRegisters = tt
 
 unfoldable pub computingWords : Unit {0}
 unfolding laidAt wordAtAddress wordsOf bytesOf wordRun wordsWritten
 computingWords = tt
 
+unfoldable pub computingCurves : Unit {0}
+unfolding computingWords noCounts countOf partOf heldBy latest onChannel named placeOf ofRounds numbersFor wrongRounds addedTo addedFrom added cleared clears
+computingCurves = tt
+
 unfoldable pub computingOutcomes : Unit {0}
-unfolding computingRegisters computingWords numberOfOutcome replyTooLong writeRegistersOutcome readRegistersOutcome writeWordsOutcome readWordsOutcome
+unfolding computingRegisters computingWords computingCurves numberOfOutcome replyTooLong writeRegistersOutcome readRegistersOutcome writeWordsOutcome readWordsOutcome addCurvesOutcome
 computingOutcomes = tt
 
 unfoldable pub computingCommands : Unit {0}
-unfolding computingOutcomes computingFrames registersReply wordsReply replying registersReplying wordsReplying registersLeft catchDropped registersWriting wordsWriting performance
+unfolding computingOutcomes computingFrames registersReply wordsReply replying registersReplying wordsReplying registersLeft countsLeft catchDropped registersWriting curvesAdding wordsWriting performance
 computingCommands = tt
 
 unfoldable pub computingStart : Unit {0}
@@ -86,7 +94,7 @@ unfolding computingReader computingCommands computingStart fedBytes fedMark enou
 computingPanel = tt
 
 unfoldable pub computingEffects : Unit {0}
-unfolding acknowledgementOf leaving afterWrite afterRead afterStore afterFetch
+unfolding acknowledgementOf leaving afterWrite afterRead afterStore afterFetch afterAdd
 computingEffects = tt
 
 unfoldable pub computingCalls : Unit {0}

@@ -21,7 +21,7 @@ use Rattle.panel.proofs.Invariant.{reachable-sound}
 use Rattle.demands.specs.Calls.{Moment, ask, handedOver}
 use Rattle.demands.specs.Reports.{rulesOf, waitingReport}
 use Rattle.demands.proofs.Waits.{kept-same, asked-payload, sound-ask-hands}
-use Rattle.demands.proofs.Below.{byte-some, below-front, below-behind, below-take, below-drop, below-append, below-zeros}
+use Rattle.wire.proofs.Below.{byte-some, below-front, below-behind, below-take, below-drop, below-append, below-zeros}
 use Rattle.demands.proofs.FrameAsked.{handed-asks}
 
 -- of the bytes that are kept, the data of the frame at the front

@@ -9,6 +9,7 @@ use Rattle.wire.specs.Addresses.{wordCount}
 use Rattle.frame.specs.Writer.{leastRoom}
 use Rattle.reading.proofs.ByteLists.{allBytes, tested-bytes}
 use Rattle.commands.specs.declared.Outcome.the-variants.{Done, UnknownCommand, PastEnd}
+use Rattle.curves.specs.Area.{curveWords}
 use Rattle.commands.specs.Lent.{lending}
 use Rattle.touch.specs.declared.Setup.{Setup}
 use Rattle.panel.specs.declared.StartAnswer.the-variants as start
@@ -26,15 +27,15 @@ acknowledging = record { h1 = 0x5A; h2 = 0xA5; flags = 3; pages = 2; width = 800
 
 -- given a frame, every byte of the room EE
 abbrev pub fed : List ℕ → Moment
-fed frame = after (begun acknowledging [] (lending (replicate wordCount 0) (replicate leastRoom 0xEE))) (bytes frame)
+fed frame = after (begun acknowledging [] (lending (replicate wordCount 0) (replicate curveWords 0) (replicate leastRoom 0xEE))) (bytes frame)
 
 -- 81 of 2 registers from FF on
 abbrev pastEnd : List ℕ
 pastEnd = 0x5A ∷ 0xA5 ∷ 0x05 ∷ 0x81 ∷ 0xFF ∷ 0x02 ∷ 0xE1 ∷ 0xD9 ∷ []
 
--- 84
+-- 85
 abbrev unknown : List ℕ
-unknown = 0x5A ∷ 0xA5 ∷ 0x05 ∷ 0x84 ∷ 0x00 ∷ 0x01 ∷ 0xF0 ∷ 0x29 ∷ []
+unknown = 0x5A ∷ 0xA5 ∷ 0x05 ∷ 0x85 ∷ 0x00 ∷ 0x01 ∷ 0xA1 ∷ 0xE9 ∷ []
 
 -- 81 with wrong check bytes
 abbrev damaged : List ℕ
@@ -47,9 +48,9 @@ starts = refl
 pub fed-arises : (frame : List ℕ) → allBytes frame ≡ true → Arises (fed frame)
 unfolding Typed
 fed-arises frame are =
-    by-call (begun acknowledging [] (lending (replicate wordCount 0) (replicate leastRoom 0xEE))) (bytes frame) (tested-bytes frame are)
-    (from-start acknowledging [] (lending (replicate wordCount 0) (replicate leastRoom 0xEE)) (omega arith) (omega arith)
-    (λ k. copies-below wordCount 0 k (omega arith)) starts)
+    by-call (begun acknowledging [] (lending (replicate wordCount 0) (replicate curveWords 0) (replicate leastRoom 0xEE))) (bytes frame) (tested-bytes frame are)
+    (from-start acknowledging [] (lending (replicate wordCount 0) (replicate curveWords 0) (replicate leastRoom 0xEE)) (omega arith) (omega arith)
+    (λ k. copies-below wordCount 0 k (omega arith)) (λ k. copies-below curveWords 0 k (omega arith)) starts)
 
 -- two bytes of data each; seven bytes of acknowledgement; nine of reply where the read is done
 pub read-counted : FrameCounted (fed version) 0x81 2 7 9
@@ -60,9 +61,9 @@ pub refused-counted : FrameCounted (fed pastEnd) 0x81 2 7 0
 unfolding computingCalls computingAcknowledgements allBytes
 refused-counted = counts-of-frame (fed pastEnd) (fed-arises pastEnd refl) 0x81 2 PastEnd 7 0 refl
 
-pub unknown-counted : FrameCounted (fed unknown) 0x84 2 7 0
+pub unknown-counted : FrameCounted (fed unknown) 0x85 2 7 0
 unfolding computingCalls computingAcknowledgements allBytes
-unknown-counted = counts-of-frame (fed unknown) (fed-arises unknown refl) 0x84 2 UnknownCommand 7 0 refl
+unknown-counted = counts-of-frame (fed unknown) (fed-arises unknown refl) 0x85 2 UnknownCommand 7 0 refl
 
 pub damaged-counted : BadCheckCounted (fed damaged) 0x81 7
 unfolding computingCalls computingAcknowledgements allBytes

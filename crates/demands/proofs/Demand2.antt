@@ -18,11 +18,15 @@ use Rattle.frame.proofs.GoodFrames.{frameOf-good, good-is-frameOf}
 use Rattle.reading.specs.Place.{badCheck, acceptedFrame}
 use Rattle.reading.specs.Demand3.{NothingHeldOrWaiting}
 use Rattle.line.specs.State.{keptOf}
+use Rattle.registers.specs.Table.{clearRegister}
+use Rattle.registers.specs.Run.{readsAs}
 use Rattle.registers.specs.Touched.{isDown, pageOf}
 use Rattle.words.specs.Words.{wordAtAddress, wordsOf}
+use Rattle.curves.specs.Area.{channelCount, channelWords}
 use Rattle.stores.specs.Store.{signed, valueIn, keyStores}
 use Rattle.stores.specs.Step.{stepped, fenced}
 use Rattle.stores.specs.Slider.{slidTo}
+use Rattle.touch.specs.declared.Setup.{Setup}
 use Rattle.touch.specs.declared.Record.{Record}
 use Rattle.touch.specs.declared.Kind.the-variants.{Key, Step, Slider}
 use Rattle.touch.specs.declared.StepFields.{StepFields}
@@ -33,11 +37,17 @@ use Rattle.touch.specs.Record.{up as stepsUp, round as goesRound, digitMode, al
 use Rattle.touch.specs.Find.{found}
 use Rattle.contact.specs.declared.Catch.the-variants.{Caught}
 use Rattle.commands.specs.declared.Outcome.{Outcome}
+use Rattle.commands.specs.Lent.{Lent}
 use Rattle.panel.specs.declared.Handed.the-variants.{BadCheck, Accepted}
-use Rattle.panel.specs.State.{headerOf, panelRegister}
-use Rattle.demands.specs.Calls.{Moment, Call, ask, contact, lift, after, afterAll, numberGiven, handedOver, AllTyped, Arises, WellLent}
+use Rattle.panel.specs.declared.StartAnswer.the-variants as start
+use Rattle.panel.specs.State.{headerOf, panelRegister, panelCount}
+use Rattle.panel.specs.Start.{started}
+use Rattle.panel.proofs.Lengths.{reported-area-long}
+use Rattle.panel.proofs.Invariant.{reachable-sound}
+use Rattle.demands.specs.Calls.{Moment, Call, ask, contact, lift, begun, after, afterAll, numberGiven, handedOver, AllTyped, Arises, WellLent}
 use Rattle.demands.specs.Reports.{rulesOf}
-use Rattle.demands.specs.Demand2.{NamesWord, NamesRegister, Some, ReadsBack, DoesCommands, afterBadCheck, AskLeaves, afterContact, afterLift}
+use Rattle.demands.specs.Demand2.{NamesWord, NamesRegister, curveWordAt, NamesCurveWord, NamesCount, Some, ReadsBack, DoesCommands, afterBadCheck, AskLeaves, afterContact, afterLift}
+use Rattle.demands.specs.History.{historyOf, areaLeft, LentAsLeft, noneLendsAnew, Keeps}
 use Rattle.demands.specs.Counts.{handedBy, replyTo, BadCheckCounted, FrameCounted}
 use Rattle.demands.specs.Acknowledged.{Acknowledges}
 use Rattle.demands.specs.Replied.{Replied}
@@ -47,6 +57,8 @@ use Rattle.demands.proofs.Named as Named
 use Rattle.demands.proofs.ReadBack as ReadBack
 use Rattle.demands.proofs.Access as Access
 use Rattle.demands.proofs.Asking as Asking
+use Rattle.demands.proofs.Curved as Curved
+use Rattle.demands.proofs.Histories.{history-kept, lent-as-left}
 use Rattle.demands.proofs.Counts as Counts
 use Rattle.demands.proofs.Acknowledged as Acknowledged
 use Rattle.demands.proofs.WrittenReads as WrittenReads
@@ -80,6 +92,7 @@ does-commands now arises =
       reads-registers = λ content. Access.reads-registers now reached content;
       writes-words = λ content. Access.writes-words now reached content;
       reads-words = λ content. Access.reads-words now reached content;
+      adds-numbers = λ content. Access.adds-numbers now reached content;
     }
 
 -- and all that asking can leave at all: nothing is handed over, a bad check, a command that is refused, or one of these four
@@ -111,13 +124,14 @@ pub frame-acknowledged : (now : Moment) → Arises now → (command : ℕ) (cont
     → Acknowledges now command true (replyTo now command content)
 frame-acknowledged now arises = Acknowledged.frame-acknowledged now (arises-reachable now arises)
 
--- what an 0x80 wrote, an 0x81 of any part of its run replies, whatever calls come between that name none of those registers: it is answered 0
+-- what an 0x80 wrote, an 0x81 of any part of its run replies, whatever calls come between that name none of those registers: it is answered 0, with the bytes as
+-- they read once written, EB as 00
 pub what-80-wrote-81-replies : (now : Moment) → Arises now → (content : List ℕ) → handedOver now ask ≡ acceptedFrame 0x80 content ∷ [] → numberGiven now ask ≡ 0
     → (calls : List Call) → AllTyped calls
     → (address count : ℕ) → byteAt content 0 ≤ address → address + count ≤ byteAt content 0 + length (drop 1 content)
     → ((k : ℕ) → address ≤ k → k < address + count → Some (λ then call. NamesRegister then k call) (after now ask) calls → ⊥)
     → handedOver (afterAll (after now ask) calls) ask ≡ acceptedFrame 0x81 (address ∷ count ∷ []) ∷ []
-    → Replied (afterAll (after now ask) calls) 0x81 (address ∷ count ∷ []) (address ∷ count ∷ take count (drop (address - byteAt content 0) (drop 1 content)))
+    → Replied (afterAll (after now ask) calls) 0x81 (address ∷ count ∷ []) (address ∷ count ∷ take count (drop (address - byteAt content 0) (readsAs (byteAt content 0) (drop 1 content))))
 what-80-wrote-81-replies now arises = WrittenReads.what-80-wrote-81-replies now (arises-reachable now arises)
 
 -- the same of an 0x82 and an 0x83, where the reply fits a frame ("7: reply frame's L would pass 255")
@@ -189,9 +203,55 @@ no-other-register-changes now arises calls typed address differs =
     ⊎-elim (λ same. absurd (differs same)) (λ named. named)
     (Named.register-stays-or-is-named now (arises-reachable now arises) calls typed address)
 
+-- 02, §2: "No word or register changes but those the command .. rule names", of the curve area and of the channels' counts
+pub no-other-curve-word-changes : (now : Moment) → Arises now → (calls : List Call) → AllTyped calls → (n : ℕ) → n < channelCount → (i : ℕ) → i < channelWords
+    → curveWordAt (afterAll now calls .lent .curves) n i ≢ curveWordAt (now .lent .curves) n i
+    → Some (λ then call. NamesCurveWord then n i call) now calls
+no-other-curve-word-changes now arises calls typed n inside i few differs =
+    ⊎-elim (λ same. absurd (differs same)) (λ named. named)
+    (Curved.curve-word-stays-or-is-named now (arises-reachable now arises) calls typed n inside i few)
+
+pub no-other-count-changes : (now : Moment) → Arises now → (calls : List Call) → AllTyped calls → (n : ℕ) → n < channelCount
+    → panelCount (afterAll now calls .panel) n ≢ panelCount (now .panel) n
+    → Some (λ then call. NamesCount then n call) now calls
+no-other-count-changes now arises calls typed n inside differs =
+    ⊎-elim (λ same. absurd (differs same)) (λ named. named)
+    (Curved.count-stays-or-is-named now (arises-reachable now arises) calls typed n inside)
+
+-- at one ask, whatever area it is lent: only the words of the channels that an 0x84 names change, and "words past its count stay"
+pub only-named-channels-change : (now : Moment) → Arises now → (n : ℕ) → n < channelCount → (i : ℕ) → i < channelWords
+    → curveWordAt (after now ask .lent .curves) n i ≢ curveWordAt (now .lent .curves) n i → NamesCurveWord now n i ask
+only-named-channels-change now arises n inside i few differs =
+    ⊎-elim (λ same. absurd (differs same)) (λ named. named)
+    (Curved.call-names-curve-word now (arises-reachable now arises) n inside i few ask)
+
+-- and all eight parts make up the area: it keeps its length
+pub area-keeps-its-length : (now : Moment) → length (after now ask .lent .curves) ≡ length (now .lent .curves)
+unfolding after
+area-keeps-its-length now = reported-area-long (now .panel) (now .lent)
+
+-- 02, §2: "Demand 2 covers channels by the whole history since the last clear, or the start where there was none, as long as each report is lent the curve area as
+-- the one before left it.": from any start, over any sequence of calls; `left` is whatever area the first report is lent
+pub channels-keep-their-history : (setup : Setup) (table : List ℕ) (lent : Lent) → started setup table .answer ≡ start.Started
+    → (calls : List Call) → AllTyped calls → (left : List ℕ) → LentAsLeft left (begun setup table lent) calls → (n : ℕ) → n < channelCount
+    → Keeps n (afterAll (begun setup table lent) calls) (areaLeft (begun setup table lent) calls left) (historyOf n (begun setup table lent) calls)
+channels-keep-their-history setup table lent is calls typed left as-left n inside = history-kept n inside setup table lent is calls typed left as-left
+
+-- the premise holds of every sequence in which the caller lends nothing anew
+pub lent-as-left-where-none-lends : (now : Moment) (calls : List Call) → noneLendsAnew calls ≡ true → LentAsLeft (now .lent .curves) now calls
+lent-as-left-where-none-lends = lent-as-left
+
+-- 02, §2: register EB "becomes writable and reads 00"
+pub clear-register-reads-00 : (now : Moment) → Arises now → panelRegister (now .panel) clearRegister ≡ 0x00
+clear-register-reads-00 now arises = reachable-sound (now .panel) (arises-reachable now arises) .clear-reads
+
 -- "256 register bytes and 28,672 variable words, .. lent by the caller as 16-bit numbers": they stay so
 pub registers-are-bytes : (now : Moment) → Arises now → (address : ℕ) → panelRegister (now .panel) address < 256
 registers-are-bytes = Sizes.registers-are-bytes
 
 pub words-are-16-bit : (now : Moment) → Arises now → (k : ℕ) → wordAtAddress (now .lent .words) k < 65536
 words-are-16-bit = Sizes.words-are-16-bit
+
+-- 02, §2: "16-bit numbers", in the curve area too
+pub curves-are-16-bit : (now : Moment) → Arises now → (k : ℕ) → getD (now .lent .curves) k 0 < 65536
+curves-are-16-bit = Sizes.curves-are-16-bit

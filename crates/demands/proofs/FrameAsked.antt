@@ -27,14 +27,15 @@ use Rattle.touch.specs.Setup.{checkingOf}
 use Rattle.panel.specs.declared.Panel.{Panel}
 use Rattle.panel.specs.Numbers.{reportNumber}
 use Rattle.panel.specs.State.{headerOf, fixedFor}
-use Rattle.panel.specs.Reporting.{acknowledged, accepting, catchAfter, Reporting, handing, reporting, wellLent, handingOver}
+use Rattle.panel.specs.Reporting.{acknowledged, accepting, catchAfter, drawing, Reporting, handing, reporting, wellLent, handingOver}
 use Rattle.panel.specs.Sound.{Sound}
 use Rattle.demands.specs.Calls.{Moment, ask, after, numberGiven, reportHanded, handedOver, WellLent}
 use Rattle.demands.specs.Reports.{readBehind, acknowledgementOf}
 use Rattle.demands.specs.Demand2.{leaving}
 use Rattle.demands.proofs.Answers.{reportedBy, momentAsked}
 use Rattle.demands.proofs.Waits.{asked-reader, frame-reporting}
-use Rattle.commands.specs.Lent.{Lent, withRoom}
+use Rattle.curves.specs.Area.{Drawn}
+use Rattle.commands.specs.Lent.{Lent, lending, withCurves, withRoom}
 use Rattle.commands.specs.declared.Performed.{Performed}
 use Rattle.demands.proofs.WellLent.{tested-well}
 use Rattle.demands.proofs.Rooms.{acknowledged-laid, acknowledgement-short}
@@ -92,14 +93,16 @@ module _ (now : Moment) (sound : Sound (now .panel)) (command : ℕ) (content : 
   leftWith : List ℕ → Laid → Reader → Moment
   leftWith came answered reader =
       let done = performance (fixedFor setup) (now .panel .registers) command came (withRoom (now .lent) (drop (answered .count) (answered .room))) in
+      let drawn = drawing (done .performed .writes) (done .performed .adds) (now .panel .counts) came (now .lent .curves) in
       record {
         panel = record {
           setup = setup;
           registers = registersBy (done .performed) (now .panel .registers) came;
           catch = catchAfter (done .performed .drops) (now .panel .catch);
+          counts = drawn .counts;
           reader = reader;
         };
-        lent = withRoom (done .lent) (take (answered .count) (answered .room) ++ done .lent .room);
+        lent = lending (done .lent .words) (drawn .area) (take (answered .count) (answered .room) ++ done .lent .room);
       }
 
   after-frame : after now ask ≡ leftWith content (lays (length answer) (over answer (now .lent .room))) (readBehind (now .panel) .reader)
@@ -125,11 +128,17 @@ module _ (now : Moment) (sound : Sound (now .panel)) (command : ℕ) (content : 
       ∙ ap (λ (n : ℕ). Outcome.numberOfOutcome (outcome (fixedFor setup) n command came)) (asks .well .words)
       ∙ ap (λ (c : List ℕ). Outcome.numberOfOutcome (outcome (fixedFor setup) wordCount command c)) (asks .content-is)
 
+  -- what a command that answers this does to the curves
+  abbrev pub drawnBy : Performed → Drawn
+  drawnBy p = drawing (p .writes) (p .adds) (now .panel .counts) content (now .lent .curves)
+
   -- a command that answers this, and leaves this of what is lent with this reply, leaves this
   pub performance-leaves : (p : Performed) (lent : Lent) (reply : List ℕ)
       → performance (fixedFor setup) (now .panel .registers) command content (withRoom (now .lent) (drop (length answer) (over answer (now .lent .room))))
       ≡ performs p (withRoom lent (over reply (drop (length answer) (over answer (now .lent .room)))))
-      → after now ask ≡ leaving now command (registersBy p (now .panel .registers) content) (catchAfter (p .drops) (now .panel .catch)) lent reply
+      → after now ask
+      ≡ leaving now command (registersBy p (now .panel .registers) content) (catchAfter (p .drops) (now .panel .catch)) (drawnBy p .counts)
+      (withCurves lent (drawnBy p .area)) reply
   unfolding leaving leftWith
   performance-leaves p lent reply does =
       after-frame
@@ -138,18 +147,20 @@ module _ (now : Moment) (sound : Sound (now .panel)) (command : ℕ) (content : 
           setup = setup;
           registers = registersBy (d .performed) (now .panel .registers) content;
           catch = catchAfter (d .performed .drops) (now .panel .catch);
+          counts = drawnBy (d .performed) .counts;
           reader = readBehind (now .panel) .reader;
         };
-        lent = withRoom (d .lent) (take (length answer) (over answer (now .lent .room)) ++ d .lent .room);
+        lent = lending (d .lent .words) (drawnBy (d .performed) .area) (take (length answer) (over answer (now .lent .room)) ++ d .lent .room);
       }) does
       ∙ ap (λ (r : List ℕ). record {
         panel = record {
           setup = setup;
           registers = registersBy p (now .panel .registers) content;
           catch = catchAfter (p .drops) (now .panel .catch);
+          counts = drawnBy p .counts;
           reader = readBehind (now .panel) .reader;
         };
-        lent = withRoom lent r;
+        lent = lending (lent .words) (drawnBy p .area) r;
       }) room-is
     where
       room-is : take (length answer) (over answer (now .lent .room)) ++ over reply (drop (length answer) (over answer (now .lent .room))) ≡ over (answer ++ reply) (now .lent .room)

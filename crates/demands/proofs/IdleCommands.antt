@@ -12,6 +12,7 @@ use Rattle.registers.specs.declared.Registers.{Registers}
 use Rattle.registers.specs.Table.{registerAt}
 use Rattle.words.specs.Words.{wordAtAddress}
 use Rattle.touch.specs.declared.Setup.{Setup}
+use Rattle.curves.specs.Area.{curveWords}
 use Rattle.commands.specs.Lent.{lending}
 use Rattle.panel.specs.declared.StartAnswer.the-variants as start
 use Rattle.panel.specs.Start.{started}
@@ -21,7 +22,7 @@ use Rattle.demands.specs.Story.{noise}
 use Rattle.demands.specs.Builds.{Start, since, Build, leftByAsking, DoesEachCommand}
 use Rattle.demands.specs.Idle.{RefusesEveryCommand, dataReplied, Stand, RepliesAlike, StoresNoRegister, StoresNoWord}
 use Rattle.demands.proofs.Computed.{computingStart, computingCalls}
-use Rattle.demands.proofs.Story.{copies-below}
+use Rattle.demands.proofs.Story.{copies-below, no-curves-16-bit}
 
 -- a panel with checking off
 abbrev pub plain : Setup
@@ -44,10 +45,11 @@ plainStart =
     record {
       setup = plain;
       table = [];
-      lent = lending words (replicate leastRoom 0);
+      lent = lending words (replicate curveWords 0) (replicate leastRoom 0);
       h1 = omega arith;
       h2 = omega arith;
       words = words-16-bit;
+      curves = no-curves-16-bit;
       taken = plain-taken;
     }
 

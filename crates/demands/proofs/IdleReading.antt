@@ -11,6 +11,7 @@ use Rattle.reading.specs.Line as Line
 use Rattle.reading.specs.Demand3.{none, next, joined, BeginsNone, acceptedOf, reportOfFrame, checked}
 use Rattle.reading.proofs.ByteLists.{allBytes}
 use Rattle.reading.proofs.Stable.{never}
+use Rattle.curves.specs.Area.{curveWords}
 use Rattle.commands.specs.Lent.{lending}
 use Rattle.panel.specs.declared.StartAnswer.the-variants as start
 use Rattle.panel.specs.Start.{started}
@@ -22,7 +23,7 @@ use Rattle.demands.specs.Builds.{Start, first, since, Build, AcceptsGood
 use Rattle.demands.specs.Idle.{RefusesEveryFrame, ReadsFirstFrameOnly, ReadsFirstStretchOnly}
 use Rattle.demands.proofs.Computed.{computingStart, computingCalls}
 use Rattle.demands.proofs.Builds.{since-arises}
-use Rattle.demands.proofs.Story.{zeros-16-bit, new-ready, version-good, version-bytes}
+use Rattle.demands.proofs.Story.{zeros-16-bit, no-curves-16-bit, new-ready, version-good, version-bytes}
 
 -- the panel of specs/Story, started
 pub story-taken : started storySetup [] .answer ≡ start.Started
@@ -35,10 +36,11 @@ storyStart =
     record {
       setup = storySetup;
       table = [];
-      lent = lending (replicate wordCount 0) (replicate leastRoom 0);
+      lent = lending (replicate wordCount 0) (replicate curveWords 0) (replicate leastRoom 0);
       h1 = omega arith;
       h2 = omega arith;
       words = zeros-16-bit;
+      curves = no-curves-16-bit;
       taken = story-taken;
     }
 

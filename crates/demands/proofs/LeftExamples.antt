@@ -5,6 +5,7 @@ use lib.Dec.{lit≤}
 use lib.ListN.{replicate}
 use Rattle.wire.specs.Addresses.{wordCount}
 use Rattle.frame.specs.Writer.{leastRoom}
+use Rattle.curves.specs.Area.{curveWords}
 use Rattle.commands.specs.Lent.{Lent, lending}
 use Rattle.panel.specs.Contacts.{Contact}
 use Rattle.demands.specs.Calls.{WellLent, Call, bytes, mark, ask, contact, afterAll, numberGiven, handedOverAll, Typed, AllTyped}
@@ -19,7 +20,7 @@ use Rattle.demands.proofs.OneWhileLeft.{one-exactly-while-left}
 use Rattle.demands.proofs.NothingLeft.{nothing-where-none-left}
 
 abbrev lent : Lent
-lent = lending (replicate wordCount 0) (replicate leastRoom 0)
+lent = lending (replicate wordCount 0) (replicate curveWords 0) (replicate leastRoom 0)
 
 -- a frame has come
 abbrev come : List Call
@@ -77,7 +78,7 @@ none-left = handed-is ∙ sym read-is
 
 still-lent : WellLent (afterAll new asked .lent)
 unfolding computingCalls
-still-lent = record { words = refl; room = lit≤ tt }
+still-lent = record { words = refl; curves = refl; room = lit≤ tt }
 
 when-asked : AnsweredNothing storySetup new asked
 unfolding computingStart

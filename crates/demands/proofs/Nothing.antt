@@ -24,7 +24,7 @@ use Rattle.demands.specs.Reports.{rulesOf, reportWaits, waitingReport}
 use Rattle.demands.specs.AsRead.{AlwaysUntilNothing}
 use Rattle.demands.proofs.Calls.{calls-reached, arises-reachable}
 use Rattle.demands.proofs.Waits.{busy-waits, sound-ask-hands}
-use Rattle.panel.proofs.Lengths.{reported-words-long, reported-room-long}
+use Rattle.panel.proofs.Lengths.{reported-words-long, reported-area-long, reported-room-long}
 use Rattle.demands.proofs.WellLent.{well-tested}
 use Rattle.demands.proofs.Reading.{ask-moves}
 
@@ -33,7 +33,11 @@ ask-well : (now : Moment) → WellLent (now .lent) → WellLent (after now ask .
 unfolding after
 ask-well now well =
     let same : length (reporting (now .panel) (now .lent) .lent .room) ≡ length (now .lent .room) = reported-room-long (now .panel) (now .lent) in
-    record { words = reported-words-long (now .panel) (now .lent) ∙ well .words; room = rw same (well .room) }
+    record {
+      words = reported-words-long (now .panel) (now .lent) ∙ well .words;
+      curves = reported-area-long (now .panel) (now .lent) ∙ well .curves;
+      room = rw same (well .room);
+    }
 
 -- n asks of a panel are n asks of the reading
 asks-move : (line : Declared.Line) (n : ℕ) (now : Moment) (kept : Kept) → Reached line kept → now .panel .reader ≡ readerOf line kept

@@ -1,5 +1,5 @@
--- What was written is read back in part, by computation: of two registers the second, of three words the last two, checking on, with the read's own bytes
--- between the write and the read.
+-- What was written is read back in part, by computation: of two registers the second, EB as 00, of three words the last two, checking on, with the read's own
+-- bytes between the write and the read.
 use mathlib.Core.Path.{_≡_, refl}
 use mathlib.Core.Bool.{true}
 use mathlib.Core.List.{List, [], _∷_}
@@ -14,6 +14,7 @@ use Rattle.demands.proofs.Computed.{computingCalls}
 use Rattle.demands.proofs.Demand2.{what-80-wrote-81-replies, what-82-wrote-83-replies}
 use Rattle.demands.proofs.Story.{new-arises}
 
+-- a new panel that has been given a frame
 abbrev fed : List ℕ → Moment
 fed frame = after new (bytes frame)
 
@@ -50,6 +51,14 @@ writeFrame = 0x5A ∷ 0xA5 ∷ 0x06 ∷ 0x80 ∷ 0x01 ∷ 0x20 ∷ 0x05 ∷ 0xA1
 abbrev readFrame : List ℕ
 readFrame = 0x5A ∷ 0xA5 ∷ 0x05 ∷ 0x81 ∷ 0x02 ∷ 0x01 ∷ 0xE1 ∷ 0x48 ∷ []
 
+-- 80 EB 55 clears all channels; 81 EB 01 reads the register
+abbrev clearFrame : List ℕ
+clearFrame = 0x5A ∷ 0xA5 ∷ 0x05 ∷ 0x80 ∷ 0xEB ∷ 0x55 ∷ 0xFE ∷ 0xE7 ∷ []
+
+-- 81 EB 01
+abbrev readClear : List ℕ
+readClear = 0x5A ∷ 0xA5 ∷ 0x05 ∷ 0x81 ∷ 0xEB ∷ 0x01 ∷ 0xAE ∷ 0xD8 ∷ []
+
 -- 82 sets words 0010 to 0012 to 500, 600 and 700; 83 reads the last two
 abbrev storeFrame : List ℕ
 storeFrame = 0x5A ∷ 0xA5 ∷ 0x0B ∷ 0x82 ∷ 0x00 ∷ 0x10 ∷ 0x01 ∷ 0xF4 ∷ 0x02 ∷ 0x58 ∷ 0x02 ∷ 0xBC ∷ 0x53 ∷ 0x29 ∷ []
@@ -60,6 +69,10 @@ fetchFrame = 0x5A ∷ 0xA5 ∷ 0x06 ∷ 0x83 ∷ 0x00 ∷ 0x11 ∷ 0x02 ∷ 0xA4
 abbrev thenRead : Moment
 thenRead = afterAll (after (fed writeFrame) ask) (bytes readFrame ∷ [])
 
+-- the clear handed over, and the read given
+abbrev thenClearRead : Moment
+thenClearRead = afterAll (after (fed clearFrame) ask) (bytes readClear ∷ [])
+
 abbrev thenFetched : Moment
 thenFetched = afterAll (after (fed storeFrame) ask) (bytes fetchFrame ∷ [])
 
@@ -68,6 +81,13 @@ unfolding computingCalls allBytes
 buzzer-reads-back =
     what-80-wrote-81-replies (fed writeFrame) (fed-arises writeFrame refl) (0x01 ∷ 0x20 ∷ 0x05 ∷ []) refl refl (bytes readFrame ∷ []) (bytes-typed readFrame refl)
     0x02 1 (omega arith) (omega arith) (λ k from below. no-register (after (fed writeFrame) ask) k readFrame) refl
+
+-- 02, §2: register EB "becomes writable and reads 00"
+pub clear-reads-back-00 : Replied thenClearRead 0x81 (0xEB ∷ 0x01 ∷ []) (0xEB ∷ 0x01 ∷ 0x00 ∷ [])
+unfolding computingCalls allBytes
+clear-reads-back-00 =
+    what-80-wrote-81-replies (fed clearFrame) (fed-arises clearFrame refl) (0xEB ∷ 0x55 ∷ []) refl refl (bytes readClear ∷ []) (bytes-typed readClear refl) 0xEB 1
+    (omega arith) (omega arith) (λ k from below. no-register (after (fed clearFrame) ask) k readClear) refl
 
 pub two-of-three-read-back : Replied thenFetched 0x83 (0x00 ∷ 0x11 ∷ 0x02 ∷ []) (0x00 ∷ 0x11 ∷ 0x02 ∷ 0x02 ∷ 0x58 ∷ 0x02 ∷ 0xBC ∷ [])
 unfolding computingCalls allBytes

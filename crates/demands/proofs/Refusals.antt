@@ -64,7 +64,7 @@ refused-numbers ReplyTooLong above = omega arith
 pub record CommandRefused (now : Moment) (command : ℕ) : Type 0 where
   pub at-least : 2 ≤ numberGiven now ask
   pub at-most : numberGiven now ask ≤ 7
-  pub left : after now ask ≡ leaving now command (now .panel .registers) (now .panel .catch) (now .lent) []
+  pub left : after now ask ≡ leaving now command (now .panel .registers) (now .panel .catch) (now .panel .counts) (now .lent) []
 
 pub command-refused : (now : Moment) → Sound (now .panel) → (command : ℕ) (content : List ℕ) → Asks now command content → 0 < numberGiven now ask
     → CommandRefused now command

@@ -14,9 +14,10 @@ use Rattle.wire.specs.ByteOrder.{word, byteAt, wordAt, highByte, lowByte, highF
 use Rattle.wire.specs.Room.{laidAt}
 use Rattle.registers.specs.declared.Registers.{Registers}
 use Rattle.wire.specs.Addresses.{registerCount}
-use Rattle.registers.specs.Table.{holding, startRegisters, registerAt}
+use Rattle.registers.specs.Table.{holding, clearRegister, startRegisters, registerAt}
 use Rattle.registers.specs.Touched.{pageOf, withPage, isDown, withStatus, withPlace}
 use Rattle.words.specs.Words.{wordAtAddress, wordSet, wordsOf, wordsWritten}
+use Rattle.words.proofs.Carried.{wordsOf-16-bit}
 use Rattle.commands.specs.Outcome.{writeRegistersOutcome, writeWordsOutcome, isDone}
 use Rattle.commands.specs.Perform.{performance, registersBy}
 use Rattle.commands.proofs.Named.{registers-stay, registers-as-done, words-stay, words-as-done}
@@ -39,9 +40,9 @@ use Rattle.contact.specs.declared.Pad.{Pad}
 use Rattle.contact.specs.Contact as Contact
 use Rattle.contact.specs.Contact.{showing, catching, acting, pressed, dragging, touched}
 use Rattle.demands.specs.Calls.{Halfwords}
-use Rattle.demands.proofs.Below.{byte-some, word-some, below-take, below-drop, below-append, below-set, below-laid, below-zeros}
+use Rattle.wire.proofs.Below.{byte-some, word-some, below-take, below-drop, below-append, below-set, below-laid, below-zeros}
 use Rattle.touch.specs.Act.{actedBy, actedOf, draggedOf}
-use Rattle.registers.specs.Run.{registersAfter}
+use Rattle.registers.specs.Run.{readAs, readsAs, registersAfter}
 use Rattle.registers.proofs.Runs.{started as start-sets}
 use Rattle.commands.specs.declared.Fixed.{Fixed}
 use Rattle.commands.specs.Lent.{Lent}
@@ -76,13 +77,24 @@ start-bytes h1 h2 checking acknowledging one two =
     either true v is = is
     either false v is = omega arith
 
+-- what a run reads once these bytes are written to it
+reads-bytes : (address : ℕ) (run : List ℕ) → Bytes run → Bytes (readsAs address run)
+unfolding readsAs readAs
+reads-bytes address [] are i = byte-some
+reads-bytes address (b ∷ run) are zero = go (eqb address clearRegister)
+  where
+    go : (c : Bool) → cond c 0x00 b < 256
+    go true = byte-some
+    go false = are 0
+reads-bytes address (b ∷ run) are (suc i) = reads-bytes (suc address) run (λ j. are (suc j)) i
+
 -- what a write, a contact and a lift set
 written-bytes : (registers : Registers) (address : ℕ) (run : List ℕ) → Bytes (registers .bytes) → Bytes run → Bytes (registersAfter registers address run .bytes)
 unfolding registersAfter
 written-bytes registers address run are new = go (leb (address + length run) registerCount)
   where
-    go : (b : Bool) → Bytes (cond b (holding (laidAt address run (registers .bytes))) registers .bytes)
-    go true = below-laid 256 byte-some address run (registers .bytes) new are
+    go : (b : Bool) → Bytes (cond b (holding (laidAt address (readsAs address run) (registers .bytes))) registers .bytes)
+    go true = below-laid 256 byte-some address (readsAs address run) (registers .bytes) (reads-bytes address run new) are
     go false = are
 
 high-bytes : (w : ℕ) → w < 65536 → Bytes (highFirst w)
@@ -227,19 +239,12 @@ module _ (setup : Setup) (pad : Pad) (table words : List ℕ) (x y : ℕ) (are :
       go false = behind (found table (pageOf (pad .registers)) x y) refl
 
 -- a command with data of bytes
-wordsOf-below : (bytes : List ℕ) → Bytes bytes → Halfwords (wordsOf bytes)
-unfolding wordsOf
-wordsOf-below [] are i = word-some
-wordsOf-below (high ∷ []) are i = word-some
-wordsOf-below (high ∷ low ∷ bytes) are zero = omega (arith, are 0, are 1)
-wordsOf-below (high ∷ low ∷ bytes) are (suc i) = wordsOf-below bytes (λ j. are (suc (suc j))) i
-
 stored-words : (words : List ℕ) (address : ℕ) (bytes : List ℕ) → Halfwords words → Bytes bytes → Halfwords (wordsWritten words address bytes)
 unfolding wordsWritten
 stored-words words address bytes old are = go (leb (address + length (wordsOf bytes)) (length words))
   where
     go : (b : Bool) → Halfwords (cond b (laidAt address (wordsOf bytes) words) words)
-    go true = below-laid 65536 word-some address (wordsOf bytes) words (wordsOf-below bytes are) old
+    go true = below-laid 65536 word-some address (wordsOf bytes) words (wordsOf-16-bit bytes are) old
     go false = old
 
 module _ (fixed : Fixed) (registers : Registers) (command : ℕ) (content : List ℕ) (lent : Lent) (are : Bytes content) where

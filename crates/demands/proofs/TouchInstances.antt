@@ -21,6 +21,7 @@ use Rattle.panel.specs.declared.StartAnswer.the-variants as start
 use Rattle.panel.specs.Start.{started}
 use Rattle.panel.specs.Numbers.{contactNumber}
 use Rattle.panel.specs.Contacts.{Contact, contactOn, contactJudged, contacting}
+use Rattle.curves.specs.Area.{curveWords}
 use Rattle.commands.specs.Lent.{lending}
 use Rattle.demands.specs.Calls.{Moment, contact, begun, after, Typed, Arises, from-start, by-call}
 use Rattle.demands.specs.Stored.{Stores}
@@ -52,7 +53,7 @@ setup = record { h1 = 0x5A; h2 = 0xA5; flags = 0; pages = 2; width = 800; height
 
 -- every word is 12FD
 abbrev up : Moment
-up = begun setup table (lending (replicate wordCount 0x12FD) (replicate leastRoom 0))
+up = begun setup table (lending (replicate wordCount 0x12FD) (replicate curveWords 0) (replicate leastRoom 0))
 
 abbrev onStep : Contact
 onStep = record { table = table; x = 11; y = 11 }
@@ -78,8 +79,8 @@ down-arises : Arises down
 unfolding Typed
 down-arises =
     by-call up (contact onSlider) (are-bytes, (omega arith, omega arith))
-    (from-start setup table (lending (replicate wordCount 0x12FD) (replicate leastRoom 0)) (omega arith) (omega arith)
-    (λ k. copies-below wordCount 0x12FD k (omega arith)) up-starts)
+    (from-start setup table (lending (replicate wordCount 0x12FD) (replicate curveWords 0) (replicate leastRoom 0)) (omega arith) (omega arith)
+    (λ k. copies-below wordCount 0x12FD k (omega arith)) (λ k. copies-below curveWords 0 k (omega arith)) up-starts)
 
 -- FD and 5 pass 255, where it stops: 12FD becomes 12FF
 pub low-byte-stepped : Stores 2 0x12FD (wordAtAddress (after up (contact onStep) .lent .words) 0x0000) (pos 255)

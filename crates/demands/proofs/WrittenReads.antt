@@ -16,6 +16,7 @@ use Rattle.reading.specs.Place.{acceptedFrame}
 use Rattle.reading.proofs.ByteLists.{bytes-drop}
 use Rattle.registers.specs.declared.Registers.{Registers}
 use Rattle.registers.specs.Table.{registerAt, registerRun}
+use Rattle.registers.specs.Run.{readsAs}
 use Rattle.registers.proofs.Written.{written-reads-back}
 use Rattle.words.specs.Words.{wordAtAddress, wordsOf, bytesOf, wordRun, wordsWritten}
 use Rattle.words.proofs.Carried.{bytesOf-wordsOf}
@@ -90,7 +91,8 @@ module _ (now : Moment) (reached : Reachable (now .panel)) (content : List ℕ) 
   unfolding after
   reached-next = by-report (now .panel) (now .lent) reached
 
-  run-still : registerRun (afterAll (after now ask) calls .panel .registers) address count ≡ take count (drop (address - byteAt content 0) (drop 1 content))
+  run-still : registerRun (afterAll (after now ask) calls .panel .registers) address count
+      ≡ take count (drop (address - byteAt content 0) (readsAs (byteAt content 0) (drop 1 content)))
   unfolding registersLeft
   run-still =
       let first = byteAt content 0 in
@@ -108,7 +110,7 @@ module _ (now : Moment) (reached : Reachable (now .panel)) (content : List ℕ) 
   -- "Reply 0x81, address, count, bytes": those bytes, as a frame right behind the acknowledgement
   pub what-80-wrote-81-replies :
       handedOver (afterAll (after now ask) calls) ask ≡ acceptedFrame 0x81 (address ∷ count ∷ []) ∷ []
-      → Replied (afterAll (after now ask) calls) 0x81 (address ∷ count ∷ []) (address ∷ count ∷ take count (drop (address - byteAt content 0) (drop 1 content)))
+      → Replied (afterAll (after now ask) calls) 0x81 (address ∷ count ∷ []) (address ∷ count ∷ take count (drop (address - byteAt content 0) (readsAs (byteAt content 0) (drop 1 content))))
   unfolding replyTo
   what-80-wrote-81-replies reads =
       let then = afterAll (after now ask) calls in

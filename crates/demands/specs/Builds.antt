@@ -22,6 +22,7 @@ pub record Start : Type 0 where
   pub h1 : setup .h1 < 256
   pub h2 : setup .h2 < 256
   pub words : Halfwords (lent .words)
+  pub curves : Halfwords (lent .curves)
   pub taken : started setup table .answer ≡ start.Started
 
 -- the moment right behind a start

@@ -11,6 +11,7 @@ use Rattle.wire.specs.Bytes.{Bytes}
 use Rattle.frame.specs.Writer.{leastRoom}
 use Rattle.reading.specs.Place.{Report, badCheck, acceptedFrame}
 use Rattle.line.specs.Methods as Line
+use Rattle.curves.specs.Area.{curveWords}
 use Rattle.commands.specs.Lent.{Lent}
 use Rattle.touch.specs.declared.Setup.{Setup}
 use Rattle.panel.specs.declared.Panel.{Panel}
@@ -23,7 +24,7 @@ use Rattle.panel.specs.Inputs.{fedByte, fedMark, fedBytes}
 use Rattle.panel.specs.Reporting.{reporting}
 use Rattle.panel.specs.Contacts.{Contact, contacting, lifting}
 
--- the panel, and what is lent to it (the variable words and the reply room), as the last call left them
+-- the panel, and what is lent to it (the variable words, the curve area and the reply room), as the last call left them
 pub record Moment : Type 0 where
   pub panel : Panel
   pub lent : Lent
@@ -47,9 +48,11 @@ withPanel now panel = record { panel = panel; lent = now .lent }
 abbrev pub begun : Setup → (table : List ℕ) → Lent → Moment
 begun setup table lent = record { panel = started setup table .panel; lent = lent }
 
--- what must be lent, so that asking is not answered 14: "words lent aren't 28,672, or reply .. room below 265"
+-- what must be lent, so that asking is not answered 14: "words lent aren't 28,672, or reply .. room below 265", 02, §2: "14 also for a curve area of the wrong
+-- length"
 pub record WellLent (lent : Lent) : Type 0 where
   pub words : length (lent .words) ≡ wordCount
+  pub curves : length (lent .curves) ≡ curveWords
   pub room : leastRoom ≤ length (lent .room)
 
 -- what a call leaves
@@ -112,6 +115,7 @@ Halfwords ws = (i : ℕ) → getD ws i 0 < 65536
 -- what the types of what is lent say: "16-bit numbers", and bytes
 pub record LentTyped (lent : Lent) : Type 0 where
   pub words : Halfwords (lent .words)
+  pub curves : Halfwords (lent .curves)
   pub room : Bytes (lent .room)
 
 -- what the types of a call's arguments say
@@ -132,5 +136,5 @@ AllTyped (call ∷ calls) = Typed call × AllTyped calls
 -- the moments that calls lead to from a start: any setup and table that are not refused, whatever is lent
 pub data Arises : Moment → Type 0 where
   from-start : (setup : Setup) (table : List ℕ) (lent : Lent) → setup .h1 < 256 → setup .h2 < 256 → Halfwords (lent .words)
-      → started setup table .answer ≡ start.Started → Arises (begun setup table lent)
+      → Halfwords (lent .curves) → started setup table .answer ≡ start.Started → Arises (begun setup table lent)
   by-call : (now : Moment) (call : Call) → Typed call → Arises now → Arises (after now call)

@@ -16,6 +16,7 @@ use Rattle.frame.specs.Frame.{mostData}
 use Rattle.frame.specs.Writer.{leastRoom}
 use Rattle.reading.specs.Place.{Report, badCheck, acceptedFrame}
 use Rattle.registers.specs.Touched.{isDown, isTouchOff}
+use Rattle.curves.specs.Area.{curveWords}
 use Rattle.commands.specs.Listed.{notCommand, wrongData, passesEnd, touchesUnwritable, valueWrong, replyPasses}
 use Rattle.commands.specs.Lent.{withRoom}
 use Rattle.touch.specs.declared.Setup.{Setup}
@@ -66,6 +67,10 @@ ofFrame (acceptedFrame command content ∷ reports) test = test command content
 unfoldable pub wordsNotLent : List ℕ → Bool
 wordsNotLent words = not (eqb (length words) wordCount)
 
+-- 02, §2: "14 also for a curve area of the wrong length"
+unfoldable pub areaNotLent : List ℕ → Bool
+areaNotLent curves = not (eqb (length curves) curveWords)
+
 -- 14: "reply or writer's room below 265"
 unfoldable pub roomTooSmall : List ℕ → Bool
 roomTooSmall room = ltb (length room) leastRoom
@@ -92,7 +97,7 @@ printed now mark = (1 when reportWaits (now .panel)) ∷ []
 printed now ask =
     let setup = now .panel .setup in
     let report = waitingReport (now .panel) in
-    (14 when wordsNotLent (now .lent .words) || roomTooSmall (now .lent .room))
+    (14 when wordsNotLent (now .lent .words) || areaNotLent (now .lent .curves) || roomTooSmall (now .lent .room))
     ∷ (2 when ofFrame report notCommand)
     ∷ (3 when ofFrame report wrongData)
     ∷ (4 when ofFrame report (passesEnd wordCount))
@@ -136,7 +141,7 @@ pub record OnlyHandedOver (now later : Moment) : Type 0 where
   pub only-read-on : later .panel ≡ readBehind (now .panel)
   pub only-acknowledged : later .lent ≡ withRoom (now .lent) (over (acknowledgementOf (now .panel .setup) command true) (now .lent .room))
 
--- "beyond that a refusal leaves the panel, the variable words and the reply room as they stood": what a refused call leaves, by its number
+-- "beyond that a refusal leaves the panel, the variable words and the reply room as they stood", and the curve area: what a refused call leaves, by its number
 pub data RefusalLeaves (now : Moment) : Call → Type 0 where
   -- 2 to 7: "answers beside a frame's report, which counts as handed over, and its acknowledgement is written"
   only-handed-over : 2 ≤ numberGiven now ask → numberGiven now ask ≤ 7 → OnlyHandedOver now (after now ask) → RefusalLeaves now ask

@@ -1,13 +1,13 @@
 -- Demand 2: "Frames, check values, register and word access, and touch effects are those of the public SGUS and AGUS manuals as condensed in document
 -- 01. What our frame writer writes, our reader reads back as the same command and data. No word or register changes but those the command or touch
--- rule names." The theorems are in proofs/Demand2.
-use Prim.Native.Nat.{ℕ, _+_, _≤_, _<_}
+-- rule names." 02, §2: "Demand 2 covers channels by the whole history": that is in specs/History. The theorems are in proofs/Demand2.
+use Prim.Native.Nat.{ℕ, _+_, _*_, _≤_, _<_}
 use mathlib.Core.Path.{_≡_}
 use mathlib.Core.Logic.{_⊎_, _≢_}
 use mathlib.Core.Bool.{true, false, cond}
 use mathlib.Core.List.{List, [], _∷_, _++_}
 use lib.Dec.{eqb}
-use lib.ListN.{length, drop}
+use lib.ListN.{length, getD, drop}
 use Rattle.wire.specs.ByteOrder.{highFirst, byteAt, wordAt}
 use Rattle.wire.specs.Room.{over}
 use Rattle.frame.specs.Frame.{frameOf}
@@ -16,8 +16,14 @@ use Rattle.reading.specs.Moves.{fresh}
 use Rattle.line.specs.State.{keptOf}
 use Rattle.registers.specs.declared.Registers.{Registers}
 use Rattle.registers.specs.Table.{registerAt, registerRun}
-use Rattle.commands.specs.Lent.{Lent, withWords, withRoom}
-use Rattle.commands.specs.Effect.{registersLeft, catchDropped}
+use Rattle.registers.specs.Run.{clearValue}
+use Rattle.curves.specs.declared.Counts.{Counts}
+use Rattle.curves.specs.Area.{channelWords}
+use Rattle.curves.specs.Rounds.{named, modeOf}
+use Rattle.curves.specs.Adding.{added}
+use Rattle.curves.specs.Clearing.{clears}
+use Rattle.commands.specs.Lent.{Lent, withWords, withCurves, withRoom}
+use Rattle.commands.specs.Effect.{registersLeft, countsLeft, catchDropped}
 use Rattle.registers.specs.Touched.{pageOf, isDown}
 use Rattle.words.specs.Words.{wordAtAddress, wordsOf, bytesOf, wordRun, wordsWritten}
 use Rattle.touch.specs.declared.Record.{Record}
@@ -29,7 +35,7 @@ use Rattle.contact.specs.declared.Catch.{Catch}
 use Rattle.contact.specs.declared.Catch.the-variants.{Free, Caught}
 use Rattle.contact.specs.Contact as Touch
 use Rattle.panel.specs.Contacts.{Contact}
-use Rattle.panel.specs.State.{headerOf, padOf, withPad}
+use Rattle.panel.specs.State.{headerOf, padOf, withPad, panelCount}
 use Rattle.demands.specs.Calls.{Moment, Call, lend, bytes, ask, contact, lift, after, numberGiven, handedOver}
 use Rattle.demands.specs.Reports.{readBehind, acknowledgementOf}
 
@@ -64,6 +70,27 @@ pub data NamesRegister (now : Moment) (address : ℕ) : Call → Type 0 where
   -- "Lift: status 02"
   by-lifting : numberGiven now lift ≡ 0 → address ≡ 0x06 → NamesRegister now address lift
 
+-- 02, §2: "channel n from word 1,024n": the word at a place of its part of the area
+abbrev pub curveWordAt : (area : List ℕ) → (n i : ℕ) → ℕ
+curveWordAt area n i = getD area (channelWords * n + i) 0
+
+-- 02, §2: a word of the curve area is named by the call, which is done: place i of channel n
+pub data NamesCurveWord (now : Moment) (n i : ℕ) : Call → Type 0 where
+  -- "command 0x84": the mode byte names the channel, and the place lies below its count; "words past its count stay"
+  by-adding : (content : List ℕ) → handedOver now ask ≡ acceptedFrame 0x84 content ∷ [] → numberGiven now ask ≡ 0
+      → named (modeOf content) n ≡ true → i < panelCount (after now ask .panel) n → NamesCurveWord now n i ask
+  -- the caller lends another area, with another number there
+  by-exchange : (lent : Lent) → curveWordAt (lent .curves) n i ≢ curveWordAt (now .lent .curves) n i → NamesCurveWord now n i (lend lent)
+
+-- 02, §2: the count of a channel is named by the call, which is done
+pub data NamesCount (now : Moment) (n : ℕ) : Call → Type 0 where
+  -- "command 0x84": the mode byte names the channel
+  by-numbers : (content : List ℕ) → handedOver now ask ≡ acceptedFrame 0x84 content ∷ [] → numberGiven now ask ≡ 0
+      → named (modeOf content) n ≡ true → NamesCount now n ask
+  -- "Register EB .. clears: 55 all, 56 to 5D channel 0 to 7"
+  by-clear : (content : List ℕ) → handedOver now ask ≡ acceptedFrame 0x80 content ∷ [] → numberGiven now ask ≡ 0
+      → clears (clearValue (byteAt content 0) (drop 1 content)) n ≡ true → NamesCount now n ask
+
 -- some call of a sequence does so
 pub data Some (P : Moment → Call → Type 0) : Moment → List Call → Type 0 where
   here : (now : Moment) (call : Call) (calls : List Call) → P now call → Some P now (call ∷ calls)
@@ -82,19 +109,20 @@ withReply now command payload =
     let setup = now .panel .setup in
     over (acknowledgementOf setup command true ++ frameOf (checkingOf setup) (headerOf setup) command payload) (now .lent .room)
 
--- "An accepted frame takes effect when its report is handed over": what asking leaves, with the registers, the catch, what is lent but for the room,
--- and the reply frame that the command makes. "The reply follows the acknowledgement at once in the same room. .. bytes past the reported count stay."
-unfoldable pub leaving : Moment → (command : ℕ) → Registers → Catch → Lent → (reply : List ℕ) → Moment
-leaving now command registers catch lent reply =
+-- "An accepted frame takes effect when its report is handed over": what asking leaves, with the registers, the catch, the channels' counts, what is lent but
+-- for the room, and the reply frame that the command makes. "The reply follows the acknowledgement at once in the same room. .. bytes past the reported count stay."
+unfoldable pub leaving : Moment → (command : ℕ) → Registers → Catch → Counts → Lent → (reply : List ℕ) → Moment
+leaving now command registers catch counts lent reply =
     record {
-      panel = record { setup = now .panel .setup; registers = registers; catch = catch; reader = readBehind (now .panel) .reader };
+      panel = record { setup = now .panel .setup; registers = registers; catch = catch; counts = counts; reader = readBehind (now .panel) .reader };
       lent = withRoom lent (over (acknowledgementOf (now .panel .setup) command true ++ reply) (now .lent .room));
     }
 
--- "0x80, address (1), one or more bytes: write registers." "Every page write by a command .. drops the catch."
+-- "0x80, address (1), one or more bytes: write registers." "Every page write by a command .. drops the catch." 02, §2: "Register EB .. clears"; the area stays
 unfoldable pub afterWrite : Moment → List ℕ → Moment
 afterWrite now content =
-    leaving now 0x80 (registersLeft (now .panel .registers) content) (cond (catchDropped content) Free (now .panel .catch)) (now .lent) []
+    leaving now 0x80 (registersLeft (now .panel .registers) content) (cond (catchDropped content) Free (now .panel .catch))
+    (countsLeft (now .panel .counts) content) (now .lent) []
 
 -- "0x81, address (1), count (1): read registers. Reply 0x81, address, count, bytes."
 abbrev pub readReply : Moment → List ℕ → List ℕ
@@ -106,12 +134,12 @@ readReply now content =
 
 -- "0x81, address (1), count (1): read registers.": what it leaves, with its reply
 unfoldable pub afterRead : Moment → List ℕ → Moment
-afterRead now content = leaving now 0x81 (now .panel .registers) (now .panel .catch) (now .lent) (readReply now content)
+afterRead now content = leaving now 0x81 (now .panel .registers) (now .panel .catch) (now .panel .counts) (now .lent) (readReply now content)
 
 -- "0x82, address (2), one or more words: write variables."
 unfoldable pub afterStore : Moment → List ℕ → Moment
 afterStore now content =
-    leaving now 0x82 (now .panel .registers) (now .panel .catch)
+    leaving now 0x82 (now .panel .registers) (now .panel .catch) (now .panel .counts)
     (withWords (now .lent) (wordsWritten (now .lent .words) (wordAt content 0) (drop 2 content))) []
 
 -- "0x83, address (2), count (1): read variables. Reply 0x83, address, count, words."
@@ -124,15 +152,22 @@ fetchReply now content =
 
 -- "0x83, address (2), count (1): read variables.": what it leaves, with its reply
 unfoldable pub afterFetch : Moment → List ℕ → Moment
-afterFetch now content = leaving now 0x83 (now .panel .registers) (now .panel .catch) (now .lent) (fetchReply now content)
+afterFetch now content = leaving now 0x83 (now .panel .registers) (now .panel .catch) (now .panel .counts) (now .lent) (fetchReply now content)
 
--- "register and word access .. are those of the .. manuals as condensed in document 01": all that asking leaves, where it hands over one of the four commands
+-- 02, §2: "command 0x84 ..: a mode byte, bit n for channel n, then 16-bit numbers in rounds": they are added to their channels; it has no reply
+unfoldable pub afterAdd : Moment → List ℕ → Moment
+afterAdd now content =
+    let drawn = added (now .panel .counts) content (now .lent .curves) in
+    leaving now 0x84 (now .panel .registers) (now .panel .catch) (drawn .counts) (withCurves (now .lent) (drawn .area)) []
+
+-- "register and word access .. are those of the .. manuals as condensed in document 01": all that asking leaves, where it hands over one of the five commands
 -- and is answered 0. `now` is the moment at which it is asked, `left` the one that is left; ours is `after now ask`.
 pub record DoesCommands (now left : Moment) : Type 0 where
   pub writes-registers : (content : List ℕ) → numberGiven now ask ≡ 0 → handedOver now ask ≡ acceptedFrame 0x80 content ∷ [] → left ≡ afterWrite now content
   pub reads-registers : (content : List ℕ) → numberGiven now ask ≡ 0 → handedOver now ask ≡ acceptedFrame 0x81 content ∷ [] → left ≡ afterRead now content
   pub writes-words : (content : List ℕ) → numberGiven now ask ≡ 0 → handedOver now ask ≡ acceptedFrame 0x82 content ∷ [] → left ≡ afterStore now content
   pub reads-words : (content : List ℕ) → numberGiven now ask ≡ 0 → handedOver now ask ≡ acceptedFrame 0x83 content ∷ [] → left ≡ afterFetch now content
+  pub adds-numbers : (content : List ℕ) → numberGiven now ask ≡ 0 → handedOver now ask ≡ acceptedFrame 0x84 content ∷ [] → left ≡ afterAdd now content
 
 -- "each bad check by the same with 0x00"
 unfoldable pub afterBadCheck : Moment → (command : ℕ) → Moment
@@ -152,13 +187,14 @@ afterContact now c =
 unfoldable pub afterLift : Moment → Moment
 afterLift now = record { panel = withPad (now .panel) (Touch.lifted (padOf (now .panel))); lent = now .lent }
 
--- "register and word access": what the four commands leave where they are done
+-- "register and word access", and 02, §2: what the five commands leave where they are done
 unfoldable pub afterCommand : Moment → (command : ℕ) → List ℕ → Moment
 afterCommand now command content =
     cond (eqb command 0x80) (afterWrite now content)
     (cond (eqb command 0x81) (afterRead now content)
     (cond (eqb command 0x82) (afterStore now content)
-    (afterFetch now content)))
+    (cond (eqb command 0x83) (afterFetch now content)
+    (afterAdd now content))))
 
 -- All that asking can leave, by what it hands over and the number it is answered: nothing, a bad check, a command that is refused, or one that is done.
 pub data AskLeaves (now : Moment) : Type 0 where
@@ -166,6 +202,6 @@ pub data AskLeaves (now : Moment) : Type 0 where
   hands-bad-check : (command : ℕ) → handedOver now ask ≡ badCheck command ∷ [] → numberGiven now ask ≡ 0 → after now ask ≡ afterBadCheck now command
       → AskLeaves now
   refuses-command : (command : ℕ) (content : List ℕ) → handedOver now ask ≡ acceptedFrame command content ∷ [] → 2 ≤ numberGiven now ask → numberGiven now ask ≤ 7
-      → after now ask ≡ leaving now command (now .panel .registers) (now .panel .catch) (now .lent) [] → AskLeaves now
+      → after now ask ≡ leaving now command (now .panel .registers) (now .panel .catch) (now .panel .counts) (now .lent) [] → AskLeaves now
   does-command : (command : ℕ) (content : List ℕ) → handedOver now ask ≡ acceptedFrame command content ∷ [] → numberGiven now ask ≡ 0
-      → 0x80 ≤ command → command ≤ 0x83 → after now ask ≡ afterCommand now command content → AskLeaves now
+      → 0x80 ≤ command → command ≤ 0x84 → after now ask ≡ afterCommand now command content → AskLeaves now

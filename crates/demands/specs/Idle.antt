@@ -49,7 +49,8 @@ abbrev pub RefusesEveryCommand : Build → Type 0
 RefusesEveryCommand build =
     (s : Start) (calls : List Call) (command : ℕ) (content : List ℕ) → handedOver (since s calls) ask ≡ acceptedFrame command content ∷ []
     → leftByAsking build s calls
-    ≡ leaving (build .leaves s calls) command (build .leaves s calls .panel .registers) (build .leaves s calls .panel .catch) (build .leaves s calls .lent) []
+    ≡ leaving (build .leaves s calls) command (build .leaves s calls .panel .registers) (build .leaves s calls .panel .catch)
+    (build .leaves s calls .panel .counts) (build .leaves s calls .lent) []
 
 -- "taking frames without storing": asking changes no register
 abbrev pub StoresNoRegister : Build → Type 0

@@ -109,7 +109,7 @@ askedBy asks = record { handsOver = ours .handsOver; leaves = λ s. leavesAll as
 unfoldable pub acknowledging : List Report → Moment → Moment
 acknowledging [] own = after own ask
 acknowledging (badCheck command ∷ later) own = after own ask
-acknowledging (acceptedFrame command content ∷ later) own = leaving own command (own .panel .registers) (own .panel .catch) (own .lent) []
+acknowledging (acceptedFrame command content ∷ later) own = leaving own command (own .panel .registers) (own .panel .catch) (own .panel .counts) (own .lent) []
 
 -- "refusing every frame": nothing is left of a command but its acknowledgement
 abbrev pub doesNothing : Build
@@ -121,7 +121,7 @@ storesNoRegister =
     askedBy (λ now own.
     let left = after own ask in
     record {
-      panel = record { setup = left .panel .setup; registers = own .panel .registers; catch = left .panel .catch; reader = left .panel .reader };
+      panel = record { setup = left .panel .setup; registers = own .panel .registers; catch = left .panel .catch; counts = left .panel .counts; reader = left .panel .reader };
       lent = left .lent;
     })
 
@@ -135,7 +135,7 @@ abbrev pub withStood : (command width : ℕ) → (address : List ℕ) → (conte
 withStood command width address content own =
     let setup = own .panel .setup in
     let count = byteAt content width in
-    leaving own command (own .panel .registers) (own .panel .catch) (own .lent)
+    leaving own command (own .panel .registers) (own .panel .catch) (own .panel .counts) (own .lent)
     (frameOf (checkingOf setup) (headerOf setup) command (address ++ (count ∷ dataReplied setup command width count (own .lent .room))))
 
 -- what asking leaves so, by the number given and the report handed over
