@@ -14,7 +14,7 @@ use Rattle.wire.specs.Room.{over}
 use Rattle.wire.proofs.Parts.{part-whole, part-end}
 use Rattle.reading.proofs.ByteLists.{bytes-drop}
 use Rattle.wire.proofs.Truths.{never, and-left, and-right}
-use Rattle.telling.specs.Memory.{remembering}
+use Rattle.telling.specs.Memory.{Memory}
 use Rattle.telling.specs.Told.{leastText}
 use Rattle.trace.specs.declared.Stepped.{Stepped}
 use Rattle.trace.specs.declared.Trace.{Trace}
@@ -51,13 +51,13 @@ pub or-some : (a b w : Bool) → b ≡ w → (a || b) ≡ true → (w ≡ true) 
 or-some true b w is so = inr refl
 or-some false b w is so = inl (sym is ∙ so)
 
-module _ (before : Held) (input : List ℕ) (trace : Trace) (table words room : List ℕ) (at filled : ℕ)
-    (going : Going before input (holds trace table (remembering words)) at filled room) where
+module _ (before : Held) (input : List ℕ) (trace : Trace) (table : List ℕ) (memory : Memory) (room : List ℕ) (at filled : ℕ)
+    (going : Going before input (holds trace table memory) at filled room) where
   abbrev held : Held
-  held = holds trace table (remembering words)
+  held = holds trace table memory
 
-  module _ (r : Stepped) (table′ words′ part′ : List ℕ)
-      (e : steps r table′ (remembering words′) part′ ≡ stepping held (take (length input - at) (drop at input)) (take (length room - filled) (drop filled room)))
+  module _ (r : Stepped) (table′ : List ℕ) (memory′ : Memory) (part′ : List ℕ)
+      (e : steps r table′ memory′ part′ ≡ stepping held (take (length input - at) (drop at input)) (take (length room - filled) (drop filled room)))
       (waiting : Bool) (is-waiting : waiting ≡ waits trace)
       (so : (leb leastText (length room - filled) && (ltb at (length input) || waiting)) ≡ true) where
     abbrev chunk : List ℕ
@@ -67,7 +67,7 @@ module _ (before : Held) (input : List ℕ) (trace : Trace) (table words room : 
     part = drop filled room
 
     abbrev next : Stepping
-    next = steps r table′ (remembering words′) part′
+    next = steps r table′ memory′ part′
 
     is-next : next ≡ stepping held chunk part
     is-next =
@@ -109,7 +109,7 @@ module _ (before : Held) (input : List ℕ) (trace : Trace) (table words room : 
     left-is = drop-drop (r .used) at input
 
     abbrev after : Held
-    after = holds (r .trace) table′ (remembering words′)
+    after = holds (r .trace) table′ memory′
 
     prints-on : (rest : List ℕ) → outputFrom before (input ++ rest) ≡ take (filled + r .count) room′ ++ outputFrom after (drop (at + r .used) input ++ rest)
     prints-on rest =
@@ -142,11 +142,11 @@ module _ (before : Held) (input : List ℕ) (trace : Trace) (table words room : 
     pub count-within : length (take filled room ++ (part′ ++ drop (length room - filled) (drop filled room))) ≡ length room → filled + r .count ≤ length room
     count-within same = omega (arith, filled-within, same)
 
-    pub goes-on : Going before input (holds (r .trace) table′ (remembering words′)) (at + r .used) (filled + r .count)
+    pub goes-on : Going before input (holds (r .trace) table′ memory′) (at + r .used) (filled + r .count)
         (take filled room ++ (part′ ++ drop (length room - filled) (drop filled room)))
     goes-on = record { bytes = going .bytes; sound = on [] .sound; within = used-within; fits = filled-within; prints = prints-on; moved = inr (omega (arith, less, less-all)) }
 
-    pub comes-nearer : callsLeft (holds (r .trace) table′ (remembering words′)) (drop (at + r .used) input) < callsLeft (holds trace table (remembering words)) (drop at input)
+    pub comes-nearer : callsLeft (holds (r .trace) table′ memory′) (drop (at + r .used) input) < callsLeft (holds trace table memory) (drop at input)
     comes-nearer = less
 
 -- ---- The end of the loop
@@ -163,15 +163,15 @@ pub or-none-right : (a b : Bool) → (a || b) ≡ false → b ≡ false
 or-none-right true b is = never (cc)
 or-none-right false b is = is
 
-pub fills : (before : Held) (input : List ℕ) (trace : Trace) (table words room : List ℕ) (at filled : ℕ) → Going before input (holds trace table (remembering words)) at filled room
+pub fills : (before : Held) (input : List ℕ) (trace : Trace) (table : List ℕ) (memory : Memory) (room : List ℕ) (at filled : ℕ) → Going before input (holds trace table memory) at filled room
     → leastText ≤ length room → (waiting : Bool) → waiting ≡ waits trace → (leb leastText (length room - filled) && (ltb at (length input) || waiting)) ≡ false
-    → Filling before input (holds trace table (remembering words)) at (take filled room)
-fills before input trace table words room at filled going enough waiting is-waiting none =
+    → Filling before input (holds trace table memory) at (take filled room)
+fills before input trace table memory room at filled going enough waiting is-waiting none =
     record { sound = going .sound; within = going .within; prints = going .prints; nearer = λ busy. go busy (going .moved) }
   where
     go : (waits (before .trace) ≡ true) ⊎ (0 < length input)
-        → ((at ≡ 0) × (filled ≡ 0) × (holds trace table (remembering words) ≡ before)) ⊎ (callsLeft (holds trace table (remembering words)) (drop at input) < callsLeft before input)
-        → callsLeft (holds trace table (remembering words)) (drop at input) < callsLeft before input
+        → ((at ≡ 0) × (filled ≡ 0) × (holds trace table memory ≡ before)) ⊎ (callsLeft (holds trace table memory) (drop at input) < callsLeft before input)
+        → callsLeft (holds trace table memory) (drop at input) < callsLeft before input
     go any (inr l) = l
     go any (inl first) = absurd (idle any (and-none (leb leastText (length room - filled)) (ltb at (length input) || waiting) none))
       where

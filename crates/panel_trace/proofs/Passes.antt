@@ -10,9 +10,10 @@ use lib.Dec.{ltb}
 use lib.ListN.{length, take, drop, replicate, length-drop, drop-of-length-le}
 use lib.Seq.{drop-drop}
 use Rattle.wire.specs.Addresses.{wordCount}
+use Rattle.curves.specs.Area.{curveWords}
 use Rattle.wire.proofs.Parts.{part-whole}
 use Rattle.wire.proofs.Truths.{never, and-right}
-use Rattle.telling.specs.Memory.{remembering, newMemory}
+use Rattle.telling.specs.Memory.{Memory, remembering, newMemory}
 use Rattle.trace.specs.declared.Trace.{Trace}
 use Rattle.items.specs.Records.{tableBytes}
 use Rattle.trace.specs.State.{Held, holds, newTrace, waits}
@@ -37,9 +38,9 @@ passes-first before input sound = record { sound = sound; within = omega arith; 
 pub passes-sound : (before : Held) (input : List ℕ) (after : Held) (at : ℕ) → Passes before input after at → HeldSound after
 passes-sound before input after at so-far = so-far .sound
 
-module _ (before : Held) (input : List ℕ) (trace : Trace) (table words : List ℕ) (at : ℕ) (so-far : Passes before input (holds trace table (remembering words)) at) where
+module _ (before : Held) (input : List ℕ) (trace : Trace) (table : List ℕ) (memory : Memory) (at : ℕ) (so-far : Passes before input (holds trace table memory) at) where
   abbrev held : Held
-  held = holds trace table (remembering words)
+  held = holds trace table memory
 
   module _ (after : Held) (used : ℕ) (text : List ℕ) (filling : Filling held (take (length input - at) (drop at input)) after used text) where
     chunk-is : take (length input - at) (drop at input) ≡ drop at input
@@ -65,7 +66,7 @@ module _ (before : Held) (input : List ℕ) (trace : Trace) (table words : List 
     passes-on = record { sound = filled .sound; within = passed-within; text = so-far .text ++ text; prints = prints-on }
 
     pub passes-nearer : (well waiting : Bool) → waiting ≡ waits trace → (well && (ltb at (length input) || waiting)) ≡ true
-        → callsLeft after (drop (at + used) input) < callsLeft (holds trace table (remembering words)) (drop at input)
+        → callsLeft after (drop (at + used) input) < callsLeft (holds trace table memory) (drop at input)
     passes-nearer well waiting is-waiting so = rw (sym left-is) (filled .nearer (go (or-some (ltb at (length input)) waiting (waits trace) is-waiting (and-right well (ltb at (length input) || waiting) so))))
       where
         go : (waits trace ≡ true) ⊎ (ltb at (length input) ≡ true) → (waits trace ≡ true) ⊎ (0 < length (drop at input))
@@ -73,7 +74,7 @@ module _ (before : Held) (input : List ℕ) (trace : Trace) (table words : List 
         go (inr is) = inr (simp length-drop (omega (arith, ltb-true at (length input) is)))
 
   pub passes-all : (well waiting : Bool) → waiting ≡ waits trace → (well && (ltb at (length input) || waiting)) ≡ false
-      → well ≡ true → Passing before input (holds trace table (remembering words))
+      → well ≡ true → Passing before input (holds trace table memory)
   passes-all well waiting is-waiting none is-well =
       let nothing : (ltb at (length input) || waiting) ≡ false = rw is-well at none in
       let past : length input ≤ at = omega (arith, ltb-false at (length input) (or-none-left (ltb at (length input)) waiting nothing)) in
@@ -90,15 +91,16 @@ pub reads-new : ReadSoFar newHeld
 unfolding traceOutput newHeld
 reads-new = record { input = []; text = []; prints = λ rest. sym (quiet-output newHeld rest new-quiet); quiet = new-quiet }
 
-module _ (trace : Trace) (table words : List ℕ) (is-trace : trace ≡ newTrace) (is-table : table ≡ replicate tableBytes 0) (is-words : words ≡ replicate wordCount 0) where
-  is-new : holds trace table (remembering words) ≡ newHeld
+module _ (trace : Trace) (table words curves : List ℕ) (is-trace : trace ≡ newTrace) (is-table : table ≡ replicate tableBytes 0) (is-words : words ≡ replicate wordCount 0)
+    (is-curves : curves ≡ replicate curveWords 0) where
+  is-new : holds trace table (remembering words curves) ≡ newHeld
   unfolding newHeld newMemory
-  is-new = rw (is-trace, is-table, is-words)
+  is-new = rw (is-trace, is-table, is-words, is-curves)
 
-  pub begins-sound : HeldSound (holds trace table (remembering words))
+  pub begins-sound : HeldSound (holds trace table (remembering words curves))
   begins-sound = subst (λ (h : Held). HeldSound h) (sym is-new) new-held-sound
 
-  pub reads-first : ReadSoFar (holds trace table (remembering words))
+  pub reads-first : ReadSoFar (holds trace table (remembering words curves))
   reads-first = subst (λ (h : Held). ReadSoFar h) (sym is-new) reads-new
 
 pub reads-on : (held : Held) (chunk : List ℕ) (after : Held) → ReadSoFar held → Passing held chunk after → ReadSoFar after

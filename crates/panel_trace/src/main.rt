@@ -1,17 +1,19 @@
 // The trace program: reads a trace from standard input to its end and writes the lines that 01 prints for it. What a line says is the
-// library's; here words, table and room for text stand, and bytes go in and out. Where a call of the system fails, one line on standard
+// library's; here words, curve area, table and room for text stand, and bytes go in and out. Where a call of the system fails, one line on standard
 // error says so and the program ends: no E and no X for a trace that was not read to its end or whose lines did not all go out.
 ghost use Prim.Native.Nat.{_≤_};
 ghost use mathlib.Core.Path.{_≡_};
 ghost use mathlib.Core.Bool.{true};
 ghost use lib.ListN.{length, take, replicate};
 ghost use Rattle.wire.specs.Addresses.{wordCount};
+ghost use Rattle.curves.specs.Area.{curveWords};
 ghost use Rattle.telling.specs.Memory.{remembering};
 ghost use Rattle.telling.specs.Told.{leastText};
 ghost use Rattle.trace.specs.Output.{endText};
 ghost use Rattle.items.specs.Records.{tableBytes};
 ghost use Rattle.trace.specs.State.{holds};
 ghost use Rattle.panel_trace.specs.Program.{ReadSoFar};
+use curves::CURVE_WORDS;
 use trace::TABLE_BYTES;
 use trace::Trace;
 use wire::WORD_COUNT;
@@ -41,9 +43,9 @@ struct Got {
 }
 
 // Reads standard input to its end, or until the trace has failed.
-fn read_all(table: &mut [u8], words: &mut [u16], room: &mut [u8]) -> Passed
-    requires { ⌜ (now table ≡ replicate tableBytes 0) × (now words ≡ replicate wordCount 0) × (leastText ≤ length (now room)) ⌝ }
-    ensures { λ r. ⌜ (r .well ≡ true → ReadSoFar (holds (r .trace) (now (table .exit)) (remembering (now (words .exit))))) ⌝ }
+fn read_all(table: &mut [u8], words: &mut [u16], curves: &mut [u16], room: &mut [u8]) -> Passed
+    requires { ⌜ (now table ≡ replicate tableBytes 0) × (now words ≡ replicate wordCount 0) × (now curves ≡ replicate curveWords 0) × (leastText ≤ length (now room)) ⌝ }
+    ensures { λ r. ⌜ (r .well ≡ true → ReadSoFar (holds (r .trace) (now (table .exit)) (remembering (now (words .exit)) (now (curves .exit))))) ⌝ }
 {
     let mut bytes = io::large_buffer();
     let mut trace = Trace::new();
@@ -57,7 +59,7 @@ fn read_all(table: &mut [u8], words: &mut [u16], room: &mut [u8]) -> Passed
                 well: got.well,
             };
         }
-        let passed = feeding::feed(trace, &bytes[0..n], table, words, room);
+        let passed = feeding::feed(trace, &bytes[0..n], table, words, curves, room);
         trace = passed.trace;
         if passed.well {
             if trace.is_over() {
@@ -88,8 +90,9 @@ fn lay_end(trace: Trace, table: &[u8], room: &mut [u8]) -> usize
 fn main() {
     let mut table = [0u8; TABLE_BYTES];
     let mut words = [0u16; WORD_COUNT];
+    let mut curves = [0u16; CURVE_WORDS];
     let mut room = io::large_buffer();
-    let passed = read_all(&mut table, &mut words, &mut room);
+    let passed = read_all(&mut table, &mut words, &mut curves, &mut room);
     if passed.well {
         let trace = passed.trace;
         let n = lay_end(trace, &table, &mut room);

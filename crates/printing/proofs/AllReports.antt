@@ -7,6 +7,7 @@ use native.Mathlib.Omega.{arith}
 use borrow.Author.Tests.{eq-eqb}
 use lib.ListN.{length}
 use Rattle.wire.specs.Addresses.{wordCount}
+use Rattle.curves.specs.Area.{curveWords}
 use Rattle.frame.specs.Frame.{longestFrame}
 use Rattle.reading.specs.Moves.{Kept, waiting, afterReport}
 use Rattle.reading.proofs.Moves.{report-shorter}
@@ -35,7 +36,7 @@ use Rattle.printing.proofs.HeldSound.{waits-started, report-held-sound}
 -- with all of the memory lent, the reader is left as asking it leaves it
 all-lent : (memory : Memory) → Whole memory → wellLent (lentFrom memory replyRoom) ≡ true
 unfolding lengths-lent replyRoom
-all-lent memory whole = rw (eq-eqb (length (memory .words)) wordCount (whole .words))
+all-lent memory whole = rw (eq-eqb (length (memory .words)) wordCount (whole .words), eq-eqb (length (memory .curves)) curveWords (whole .curves))
 
 module _ (panel : Panel) (memory : Memory) (sound : Sound panel) (is-busy : busy (panel .reader) ≡ true) where
   abbrev line-is : Line

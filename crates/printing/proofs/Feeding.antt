@@ -11,6 +11,7 @@ use lib.ListN.{length, take, drop, length-append, take-append-drop}
 use lib.Seq.{drop-append-le}
 use Rattle.wire.specs.Bytes.{Bytes}
 use Rattle.wire.specs.Addresses.{wordCount}
+use Rattle.curves.specs.Area.{curveWords}
 use Rattle.wire.proofs.Over.{take-over}
 use Rattle.reading.proofs.ByteLists.{bytes-nil, bytes-cons, bytes-append, bytes-drop}
 use Rattle.wire.proofs.Truths.{never, or-left, or-right}
@@ -95,7 +96,7 @@ new-keeps-none = refl
 pub call-done : (held : Held) (chunk room : List ℕ) → HeldSound held → leastText ≤ length room → stepCalled held chunk room .stepped .answer ≡ Done
 unfolding stepping lentTo
 call-done held chunk room sound lent =
-    rw (le-leb tableBytes (length (held .table)) (sound .table), eq-eqb (length (held .memory .words)) wordCount (sound .memory .words), le-leb leastText (length room) lent)
+    rw (le-leb tableBytes (length (held .table)) (sound .table), eq-eqb (length (held .memory .words)) wordCount (sound .memory .words), eq-eqb (length (held .memory .curves)) curveWords (sound .memory .curves), le-leb leastText (length room) lent)
 
 end-done : (held : Held) (room : List ℕ) → HeldSound held → leastText ≤ length room → endCalled held room .ended .answer ≡ Done
 unfolding ending

@@ -1,5 +1,5 @@
 -- What every trace keeps that is reached from a new one, with what is lent to it: every byte, report and run of line bytes keeps it.
-use mathlib.Core.Path.{_≡_, refl, sym, _∙_}
+use mathlib.Core.Path.{_≡_, refl, sym, ap, _∙_}
 use mathlib.Core.Bool.{Bool, true, false, not, _&&_}
 use mathlib.Core.List.{List, [], _∷_}
 use Prim.Native.Nat.{ℕ, zero, suc, _+_, _*_, _≤_, _<_}
@@ -10,6 +10,7 @@ use lib.ListN.{length, drop, set, replicate, length-set, length-replicate, lengt
 use Rattle.wire.specs.Bytes.{Bytes}
 use Rattle.wire.specs.ByteOrder.{byteAt, wordAt}
 use Rattle.wire.specs.Addresses.{wordCount}
+use Rattle.curves.specs.Area.{curveWords}
 use Rattle.wire.proofs.LaidAt.{length-laidAt}
 use Rattle.line.specs.Methods.{busy}
 use Rattle.wire.proofs.Truths.{never, and-left}
@@ -35,7 +36,7 @@ use Rattle.trace.specs.Output.{newHeld}
 use Rattle.printing.specs.Reached.{ItemSound, HeldSound}
 use Rattle.printing.proofs.ByTest.{by-test}
 use Rattle.panel.specs.Contacts.{Contact, contactAt}
-use Rattle.panel.proofs.Lengths.{reported-words-long, contacted-words-long}
+use Rattle.panel.proofs.Lengths.{reported-words-long, reported-area-long, contacted-words-long, contacted-area-stands}
 
 bytes-zeros : (n : ℕ) → Bytes (replicate n 0)
 bytes-zeros zero i = omega arith
@@ -61,7 +62,7 @@ new-quiet = refl
 
 new-whole : Whole newMemory
 unfolding newMemory
-new-whole = record { words = length-replicate {A = ℕ} wordCount 0 }
+new-whole = record { words = length-replicate {A = ℕ} wordCount 0; curves = length-replicate {A = ℕ} curveWords 0 }
 
 pub new-held-sound : HeldSound newHeld
 unfolding newHeld newTrace isStarted isOver
@@ -86,7 +87,10 @@ unfolding contactTold
 contact-told-sound panel c memory sound whole =
     record {
       panel = contact-sound panel sound c (lentFrom memory []);
-      memory = record { words = contacted-words-long panel c (lentFrom memory []) ∙ whole .words };
+      memory = record {
+        words = contacted-words-long panel c (lentFrom memory []) ∙ whole .words;
+        curves = ap length (contacted-area-stands panel c (lentFrom memory [])) ∙ whole .curves;
+      };
     }
 
 event-sound : (panel : Panel) (table : List ℕ) (memory : Memory) (item : List ℕ) → Sound panel → Whole memory → Bytes item
@@ -103,7 +107,10 @@ unfolding askedOnce
 asked-sound panel memory sound whole =
     record {
       panel = report-sound panel sound (lentFrom memory replyRoom);
-      memory = record { words = reported-words-long panel (lentFrom memory replyRoom) ∙ whole .words };
+      memory = record {
+        words = reported-words-long panel (lentFrom memory replyRoom) ∙ whole .words;
+        curves = reported-area-long panel (lentFrom memory replyRoom) ∙ whole .curves;
+      };
     }
 
 -- a panel that a start gave is sound

@@ -22,9 +22,9 @@ use Rattle.touch.specs.declared.Setup.{Setup}
 use Rattle.registers.specs.declared.Registers.{Registers}
 use Rattle.commands.specs.declared.Fixed.{Fixed}
 use Rattle.commands.specs.declared.Outcome.{Outcome}
-use Rattle.commands.specs.Lent.{Lent, lending}
+use Rattle.commands.specs.Lent.{Lent}
 use Rattle.commands.specs.Outcome.{isDone}
-use Rattle.commands.specs.Effect.{replying, registersWriting, registersReplying, wordsWriting, wordsReplying}
+use Rattle.commands.specs.Effect.{replying, registersWriting, registersReplying, wordsWriting, wordsReplying, curvesAdding}
 use Rattle.commands.specs.Perform.{Performance, performance}
 use Rattle.panel.specs.declared.Panel.{Panel}
 use Rattle.panel.specs.declared.Reported.{Reported}
@@ -73,11 +73,12 @@ reply-at-most fixed o command payload room = go (isDone o)
 
 performance-at-most : (fixed : Fixed) (registers : Registers) (command : ℕ) (content : List ℕ) (lent : Lent)
     → performance fixed registers command content lent .performed .replied ≤ longestFrame
-unfolding performance registersWriting registersReplying wordsWriting wordsReplying
+unfolding performance registersWriting registersReplying wordsWriting wordsReplying curvesAdding
 performance-at-most fixed registers command content lent =
     chosen (eqb command 0x80) _ _ (omega arith)
     (chosen (eqb command 0x81) _ _ (reply-at-most fixed _ 0x81 _ (lent .room))
-    (chosen (eqb command 0x82) _ _ (omega arith) (chosen (eqb command 0x83) _ _ (reply-at-most fixed _ 0x83 _ (lent .room)) (omega arith))))
+    (chosen (eqb command 0x82) _ _ (omega arith)
+    (chosen (eqb command 0x83) _ _ (reply-at-most fixed _ 0x83 _ (lent .room)) (chosen (eqb command 0x84) _ _ (omega arith) (omega arith)))))
   where
     chosen : (b : Bool) (p q : Performance) → p .performed .replied ≤ longestFrame → q .performed .replied ≤ longestFrame → cond b p q .performed .replied ≤ longestFrame
     chosen true p q hp hq = hp
@@ -114,10 +115,10 @@ module _ (panel : Panel) (lent : Lent) where
       chosen true p q hp hq = hp
       chosen false p q hp hq = hq
 
-module _ (panel : Panel) (words room : List ℕ) where
-  module _ (r : Reported) (words′ room′ : List ℕ) (is : reports r (lending words′ room′) ≡ reporting panel (lending words room)) where
+module _ (panel : Panel) (lent : Lent) where
+  module _ (r : Reported) (lent′ : Lent) (is : reports r lent′ ≡ reporting panel lent) where
     pub acknowledgement-brief : acknowledgedBy (r .handed) ≤ acknowledgementBytes
-    acknowledgement-brief = rw (← ap (λ (x : Reporting). x .reported .handed) is) at (reported-acknowledgement panel (lending words room))
+    acknowledgement-brief = rw (← ap (λ (x : Reporting). x .reported .handed) is) at (reported-acknowledgement panel lent)
 
     pub reply-brief : repliedBy (r .handed) ≤ longestFrame
-    reply-brief = rw (← ap (λ (x : Reporting). x .reported .handed) is) at (reported-reply panel (lending words room))
+    reply-brief = rw (← ap (λ (x : Reporting). x .reported .handed) is) at (reported-reply panel lent)

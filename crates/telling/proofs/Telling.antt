@@ -23,7 +23,7 @@ use Rattle.telling.specs.Inner.{prints}
 use Rattle.telling.specs.Told.{Told, tells, leavesPanel, panelPrinting, leastText, printedIn}
 use Rattle.telling.specs.Lines.{reportText}
 use Rattle.telling.specs.Events.{touchText, contactTold, liftTold, event, replyRoom, askedOnce}
-use Rattle.commands.specs.Lent.{lending}
+use Rattle.commands.specs.Lent.{Lent, lending, withWords}
 use Rattle.telling.specs.Memory.{Memory, remembering, memoryOf}
 
 pub byte-fed : (panel : Panel) (b : ℕ) (fed : Fed) → fed ≡ fedByte panel b → fed .panel ≡ fedByte panel b .panel
@@ -46,56 +46,57 @@ module _ (panel : Panel) (room left : List ℕ) (n k : ℕ) (is-text : lays k le
         ∙ ap (λ (d : Lifted). prints (lineText (line.Touch (liftNumber (d .answer)))) room) is-done
 
   module _ (table words words′ : List ℕ) (x y : ℕ) (done : Contacted)
-      (is-done : (lent : List ℕ) → contacts (done .answer) (done .panel) (lending words′ lent) ≡ contacting panel (contactAt table x y) (lending words lent))
+      (is-done : (rest : Lent) → contacts (done .answer) (done .panel) (withWords rest words′) ≡ contacting panel (contactAt table x y) (withWords rest words))
       (is-n : n ≡ contactNumber (done .answer)) where
-    pub contact-printed : leavesPanel (record { panel = done .panel; count = k }) (remembering words′) left
-        ≡ panelPrinting (contactTold panel (contactAt table x y) (remembering words)) room
+    pub contact-printed : (curves : List ℕ) → leavesPanel (record { panel = done .panel; count = k }) (remembering words′ curves) left
+        ≡ panelPrinting (contactTold panel (contactAt table x y) (remembering words curves)) room
     unfolding contactTold touchText
-    contact-printed =
-        told-left (done .panel) (remembering words′) (lineText (line.Touch n)) room left k is-text
-        ∙ ap (λ (i : ℕ). panelPrinting (tells (done .panel) (remembering words′) (lineText (line.Touch i))) room) is-n
-        ∙ ap (λ (d : Contacting). panelPrinting (tells (d .contacted .panel) (memoryOf (d .lent)) (lineText (line.Touch (contactNumber (d .contacted .answer))))) room) (is-done [])
+    contact-printed curves =
+        told-left (done .panel) (remembering words′ curves) (lineText (line.Touch n)) room left k is-text
+        ∙ ap (λ (i : ℕ). panelPrinting (tells (done .panel) (remembering words′ curves) (lineText (line.Touch i))) room) is-n
+        ∙ ap (λ (d : Contacting). panelPrinting (tells (d .contacted .panel) (memoryOf (d .lent)) (lineText (line.Touch (contactNumber (d .contacted .answer))))) room) (is-done (lending [] curves []))
 
 pub lift-left : (panel : Panel) (done : Lifted) → done ≡ lifting panel → done .panel ≡ lifting panel .panel
 lift-left panel done is = ap (λ (d : Lifted). d .panel) is
 
-pub report-printed : (panel : Panel) (words words′ reply reply′ room left : List ℕ) (k : ℕ) (done : Reported) → reply ≡ replyRoom
-    → reports done (lending words′ reply′) ≡ reporting panel (lending words reply) → lays k left ≡ prints (reportText (done .handed) reply′) room
-    → leavesPanel (record { panel = done .panel; count = k }) (remembering words′) left ≡ panelPrinting (askedOnce panel (remembering words)) room
+pub report-printed : (panel : Panel) (words words′ curves curves′ reply reply′ room left : List ℕ) (k : ℕ) (done : Reported) → reply ≡ replyRoom
+    → reports done (lending words′ curves′ reply′) ≡ reporting panel (lending words curves reply) → lays k left ≡ prints (reportText (done .handed) reply′) room
+    → leavesPanel (record { panel = done .panel; count = k }) (remembering words′ curves′) left ≡ panelPrinting (askedOnce panel (remembering words curves)) room
 unfolding askedOnce
-report-printed panel words words′ reply reply′ room left k done is-reply is-done is-text =
-    told-left (done .panel) (remembering words′) (reportText (done .handed) reply′) room left k is-text
+report-printed panel words words′ curves curves′ reply reply′ room left k done is-reply is-done is-text =
+    told-left (done .panel) (remembering words′ curves′) (reportText (done .handed) reply′) room left k is-text
     ∙ ap (λ (r : Reporting). panelPrinting (tells (r .reported .panel) (memoryOf (r .lent)) (reportText (r .reported .handed) (r .lent .room))) room) (rw is-reply at is-done)
 
--- ---- An event, by its kind
+-- ---- An event, by its kind, whatever the curve area holds
 
-module _ (panel : Panel) (item table room : List ℕ) (memory : Memory) where
-  quiet-left : (next : Panel) → leavesPanel (record { panel = next; count = 0 }) memory room ≡ panelPrinting (tells next memory []) room
-  quiet-left next = ap (λ (l : List ℕ). leavesPanel (record { panel = next; count = 0 }) memory l) (sym (over-nil room))
+quiet-left : (next : Panel) (memory : Memory) (room : List ℕ) → leavesPanel (record { panel = next; count = 0 }) memory room ≡ panelPrinting (tells next memory []) room
+quiet-left next memory room = ap (λ (l : List ℕ). leavesPanel (record { panel = next; count = 0 }) memory l) (sym (over-nil room))
 
-  pub event-byte : (next : Panel) → getD item 0 0 ≡ 1 → next ≡ fedByte panel (getD item 1 0) .panel
-      → leavesPanel (record { panel = next; count = 0 }) memory room ≡ panelPrinting (event panel table memory item) room
+module _ (panel : Panel) (item table room words : List ℕ) where
+  pub event-byte : (next : Panel) → getD item 0 0 ≡ 1 → next ≡ fedByte panel (getD item 1 0) .panel → (curves : List ℕ)
+      → leavesPanel (record { panel = next; count = 0 }) (remembering words curves) room ≡ panelPrinting (event panel table (remembering words curves) item) room
   unfolding event
-  event-byte next is-kind is-next = rw is-kind (rw (← is-next) (quiet-left next))
+  event-byte next is-kind is-next curves = rw is-kind (rw (← is-next) (quiet-left next (remembering words curves) room))
 
   module _ (not-1 : getD item 0 0 ≡ 1 → ⊥) where
-    pub event-mark : (next : Panel) → getD item 0 0 ≡ 2 → next ≡ fedMark panel .panel
-        → leavesPanel (record { panel = next; count = 0 }) memory room ≡ panelPrinting (event panel table memory item) room
+    pub event-mark : (next : Panel) → getD item 0 0 ≡ 2 → next ≡ fedMark panel .panel → (curves : List ℕ)
+        → leavesPanel (record { panel = next; count = 0 }) (remembering words curves) room ≡ panelPrinting (event panel table (remembering words curves) item) room
     unfolding event
-    event-mark next is-kind is-next = rw is-kind (rw (← is-next) (quiet-left next))
+    event-mark next is-kind is-next curves = rw is-kind (rw (← is-next) (quiet-left next (remembering words curves) room))
 
     module _ (not-2 : getD item 0 0 ≡ 2 → ⊥) where
-      pub event-contact : (r : PanelPrinted) (memory′ : Memory) (left : List ℕ) (x y : ℕ) → getD item 0 0 ≡ 3 → x ≡ wordAt item 1 → y ≡ wordAt item 3
-          → leavesPanel r memory′ left ≡ panelPrinting (contactTold panel (contactAt table x y) memory) room
-          → leavesPanel r memory′ left ≡ panelPrinting (event panel table memory item) room
+      pub event-contact : (r : PanelPrinted) (words′ left : List ℕ) (x y : ℕ) → getD item 0 0 ≡ 3 → x ≡ wordAt item 1 → y ≡ wordAt item 3
+          → ((curves : List ℕ) → leavesPanel r (remembering words′ curves) left ≡ panelPrinting (contactTold panel (contactAt table x y) (remembering words curves)) room)
+          → (curves : List ℕ) → leavesPanel r (remembering words′ curves) left ≡ panelPrinting (event panel table (remembering words curves) item) room
       unfolding event
-      event-contact r memory′ left x y is-kind is-x is-y e = rw is-kind (rw (is-x, is-y) at e)
+      event-contact r words′ left x y is-kind is-x is-y e curves = rw is-kind (rw (is-x, is-y) at (e curves))
 
       pub event-lift : (r : PanelPrinted) (left : List ℕ) → (getD item 0 0 ≡ 3 → ⊥) → r .panel ≡ lifting panel .panel
-          → lays (r .count) left ≡ prints (touchText (liftNumber (lifting panel .answer))) room
-          → leavesPanel r memory left ≡ panelPrinting (event panel table memory item) room
+          → lays (r .count) left ≡ prints (touchText (liftNumber (lifting panel .answer))) room → (curves : List ℕ)
+          → leavesPanel r (remembering words curves) left ≡ panelPrinting (event panel table (remembering words curves) item) room
       unfolding event liftTold
-      event-lift r left not-3 is-panel is-text =
+      event-lift r left not-3 is-panel is-text curves =
+          let memory = remembering words curves in
           rw (ne-eqb (getD item 0 0) 1 not-1, ne-eqb (getD item 0 0) 2 not-2, ne-eqb (getD item 0 0) 3 not-3)
           (ap (λ (l : Laid). leavesPanel (record { panel = r .panel; count = l .count }) memory (l .room)) is-text
           ∙ ap (λ (p : Panel). panelPrinting (tells p memory (touchText (liftNumber (lifting panel .answer)))) room) is-panel)
@@ -117,3 +118,12 @@ module _ (told : Told) (panel : Panel) (memory : Memory) (room : List ℕ) where
       → leavesPanel r memory′ left ≡ panelPrinting told room
   unfolding printedIn
   printed-in r memory′ left wide e = e ∙ rw (le-leb leastText (length room) wide)
+
+-- an event, whatever the curve area holds
+module _ (panel : Panel) (item table room words : List ℕ) where
+  pub event-told : (r : PanelPrinted) (words′ left : List ℕ) → leastText ≤ length room
+      → ((curves : List ℕ) → leavesPanel r (remembering words′ curves) left ≡ panelPrinting (event panel table (remembering words curves) item) room)
+      → (curves : List ℕ)
+      → leavesPanel r (remembering words′ curves) left ≡ printedIn (event panel table (remembering words curves) item) panel (remembering words curves) room
+  event-told r words′ left wide e curves =
+      told-in (event panel table (remembering words curves) item) panel (remembering words curves) room r (remembering words′ curves) left wide (e curves)

@@ -1,6 +1,7 @@
-// What an event does to the panel, and its line.
+// What an event does to the panel, and its line. No event is lent the curve area: what is said of one holds whatever that holds.
 ghost use mathlib.Core.Path.{_≡_};
-ghost use Prim.Native.Nat.{_≤_};
+ghost use mathlib.Core.List.{List};
+ghost use Prim.Native.Nat.{ℕ, _≤_};
 ghost use lib.ListN.{length};
 ghost use Rattle.wire.specs.Room.{lays};
 ghost use Rattle.panel.specs.Numbers.{liftNumber};
@@ -41,7 +42,7 @@ fn do_contact(
     room: &mut [u8],
 ) -> PanelPrinted
     requires { ⌜ leastText ≤ length (now room) ⌝ }
-    ensures { λ r. ⌜ leavesPanel r (remembering (now (words .exit))) (now (room .exit)) ≡ panelPrinting (contactTold panel (contactAt (now (table .entry)) x y) (remembering (now (words .entry)))) (now (room .entry)) ⌝ }
+    ensures { λ r. ⌜ ((curves : List ℕ) → leavesPanel r (remembering (now (words .exit)) curves) (now (room .exit)) ≡ panelPrinting (contactTold panel (contactAt (now (table .entry)) x y) (remembering (now (words .entry)) curves)) (now (room .entry))) ⌝ }
 {
     let done = panel.contact(table, words, x, y);
     let answer = done.answer;
@@ -75,7 +76,7 @@ pub(crate) fn do_event(
     room: &mut [u8],
 ) -> PanelPrinted
     requires { ⌜ leastText ≤ length (now room) ⌝ }
-    ensures { λ r. ⌜ leavesPanel r (remembering (now (words .exit))) (now (room .exit)) ≡ panelPrinting (event panel (now (table .entry)) (remembering (now (words .entry))) item) (now (room .entry)) ⌝ }
+    ensures { λ r. ⌜ ((curves : List ℕ) → leavesPanel r (remembering (now (words .exit)) curves) (now (room .exit)) ≡ panelPrinting (event panel (now (table .entry)) (remembering (now (words .entry)) curves) item) (now (room .entry))) ⌝ }
 {
     let kind = item[0];
     if kind == 1 {

@@ -1,5 +1,7 @@
 // What 01's trace program prints of an event or a report of a panel: the panel goes on, and its lines are written into a lent room.
 ghost use mathlib.Core.Path.{_≡_};
+ghost use mathlib.Core.List.{List};
+ghost use Prim.Native.Nat.{ℕ};
 ghost use Rattle.telling.specs.Told.{leavesPanel, printedIn};
 ghost use Rattle.telling.specs.Events.{event, askedOnce};
 ghost use Rattle.telling.specs.Memory.{remembering};
@@ -20,7 +22,7 @@ pub struct PanelPrinted {
     pub count: usize,
 }
 
-// Does an event, its kind first in the item, and prints its line; with room below `LEAST_TEXT` nothing is done.
+// Does an event, its kind first in the item, and prints its line; with room below `LEAST_TEXT` nothing is done. The curve area is left, whatever it holds.
 pub fn tell_event(
     panel: Panel,
     item: [u8; ITEM_BYTES],
@@ -28,7 +30,7 @@ pub fn tell_event(
     words: &mut [u16],
     room: &mut [u8],
 ) -> PanelPrinted
-    ensures { λ r. ⌜ leavesPanel r (remembering (now (words .exit))) (now (room .exit)) ≡ printedIn (event panel (now (table .entry)) (remembering (now (words .entry))) item) panel (remembering (now (words .entry))) (now (room .entry)) ⌝ }
+    ensures { λ r. ⌜ ((curves : List ℕ) → leavesPanel r (remembering (now (words .exit)) curves) (now (room .exit)) ≡ printedIn (event panel (now (table .entry)) (remembering (now (words .entry)) curves) item) panel (remembering (now (words .entry)) curves) (now (room .entry))) ⌝ }
 {
     if room.len() < LEAST_TEXT {
         return PanelPrinted {
@@ -40,8 +42,13 @@ pub fn tell_event(
 }
 
 // Asks for one report and prints it; with room below `LEAST_TEXT` nothing is done.
-pub fn tell_report(panel: Panel, words: &mut [u16], room: &mut [u8]) -> PanelPrinted
-    ensures { λ r. ⌜ leavesPanel r (remembering (now (words .exit))) (now (room .exit)) ≡ printedIn (askedOnce panel (remembering (now (words .entry)))) panel (remembering (now (words .entry))) (now (room .entry)) ⌝ }
+pub fn tell_report(
+    panel: Panel,
+    words: &mut [u16],
+    curves: &mut [u16],
+    room: &mut [u8],
+) -> PanelPrinted
+    ensures { λ r. ⌜ leavesPanel r (remembering (now (words .exit)) (now (curves .exit))) (now (room .exit)) ≡ printedIn (askedOnce panel (remembering (now (words .entry)) (now (curves .entry)))) panel (remembering (now (words .entry)) (now (curves .entry))) (now (room .entry)) ⌝ }
 {
     if room.len() < LEAST_TEXT {
         return PanelPrinted {
@@ -49,5 +56,5 @@ pub fn tell_report(panel: Panel, words: &mut [u16], room: &mut [u8]) -> PanelPri
             count: 0,
         };
     }
-    reports::ask_once(panel, words, room)
+    reports::ask_once(panel, words, curves, room)
 }

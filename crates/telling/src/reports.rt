@@ -18,12 +18,17 @@ fn no_reply() -> [u8; LEAST_ROOM]
 }
 
 // Asks for one report and prints it.
-pub(crate) fn ask_once(panel: Panel, words: &mut [u16], room: &mut [u8]) -> PanelPrinted
+pub(crate) fn ask_once(
+    panel: Panel,
+    words: &mut [u16],
+    curves: &mut [u16],
+    room: &mut [u8],
+) -> PanelPrinted
     requires { ⌜ leastText ≤ length (now room) ⌝ }
-    ensures { λ r. ⌜ leavesPanel r (remembering (now (words .exit))) (now (room .exit)) ≡ panelPrinting (askedOnce panel (remembering (now (words .entry)))) (now (room .entry)) ⌝ }
+    ensures { λ r. ⌜ leavesPanel r (remembering (now (words .exit)) (now (curves .exit))) (now (room .exit)) ≡ panelPrinting (askedOnce panel (remembering (now (words .entry)) (now (curves .entry)))) (now (room .entry)) ⌝ }
 {
     let mut reply = no_reply();
-    let done = panel.report(words, &mut reply);
+    let done = panel.report(words, curves, &mut reply);
     let handed = done.handed;
     let next = done.panel;
     let count = lines::print_report(handed, &reply, room);

@@ -27,10 +27,12 @@ pub is-over-determined : OneAnswer 0 is-over-kinds.ps is-over-kinds.r is-over.Po
 is-over-determined κs a x y s t p q = p ∙ sym q
 
 pub step-determined :
-    OneAnswerLeft 4 step-kinds.ps step-kinds.r step.Post {B = List ℕ × (List ℕ × List ℕ)}
-    (λ κs s. (now (s .1 .1 .0), (now (s .1 .1 .1 .0), now (s .1 .1 .1 .1 .0))))
-step-determined κs a x y s t p q =
-    (ap (λ (d : Stepping). d .stepped) (p .0 ∙ sym (q .0)), ap (λ (d : Stepping). (d .table, (d .memory .words, d .room))) (p .0 ∙ sym (q .0)))
+    OneAnswerLeft 5 step-kinds.ps step-kinds.r step.Post {B = List ℕ × (List ℕ × (List ℕ × List ℕ))}
+    (λ κs s. (now (s .1 .1 .0), (now (s .1 .1 .1 .0), (now (s .1 .1 .1 .1 .0), now (s .1 .1 .1 .1 .1 .0)))))
+step-determined κs a x y s t p q = (
+  ap (λ (d : Stepping). d .stepped) (p .0 ∙ sym (q .0)),
+  ap (λ (d : Stepping). (d .table, (d .memory .words, (d .memory .curves, d .room)))) (p .0 ∙ sym (q .0)),
+)
 
 pub end-determined : OneAnswerLeft 2 end-kinds.ps end-kinds.r end.Post (λ κs s. now (s .1 .1 .0))
 end-determined κs a x y s t p q = (ap (λ (d : Ending). d .ended) (p .0 ∙ sym (q .0)), ap (λ (d : Ending). d .room) (p .0 ∙ sym (q .0)))

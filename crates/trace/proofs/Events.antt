@@ -23,7 +23,7 @@ use Rattle.panel.specs.Numbers.{startNumber}
 use Rattle.panel.specs.Start.{startJudged, started}
 use Rattle.text.specs.declared.Line.{Line}
 use Rattle.text.specs.Text.{lineText}
-use Rattle.telling.specs.Memory.{Memory}
+use Rattle.telling.specs.Memory.{Memory, remembering}
 use Rattle.telling.specs.declared.PanelPrinted.{PanelPrinted}
 use Rattle.telling.specs.Inner.{prints}
 use Rattle.telling.specs.Told.{Told, PanelLeft, leavesPanel, printedIn, leastText}
@@ -92,6 +92,16 @@ started-left trace told panel done memory memory′ room left r wide e is =
     ap (λ (p : TracePrinted). leavesEvent p memory′ left) is
     ∙ ap (λ (l : PanelLeft). leavesEvent (afterTold trace (l .printed)) (l .memory) (l .room)) (printed-in told panel memory room done memory′ left wide e)
 
+-- an event, whatever the curve area holds
+pub event-left : (trace : Trace) (begun : Start) (part item words words′ room left : List ℕ) (done : PanelPrinted) (r : TracePrinted) → leastText ≤ length room
+    → ((curves : List ℕ) → leavesPanel done (remembering words′ curves) left
+    ≡ printedIn (event (begun .panel) part (remembering words curves) item) (begun .panel) (remembering words curves) room)
+    → r ≡ afterTold trace done → (curves : List ℕ)
+    → leavesEvent r (remembering words′ curves) left ≡ eventPrinting trace (event (begun .panel) part (remembering words curves) item) room
+event-left trace begun part item words words′ room left done r wide e is curves =
+    started-left trace (event (begun .panel) part (remembering words curves) item) (begun .panel) done (remembering words curves) (remembering words′ curves) room left r
+    wide (e curves) is
+
 module _ (trace : Trace) (table : List ℕ) (n : ℕ) (is-n : n ≡ min (trace .records) keptRecords * recordBytes) (begun : Start)
     (is-begun : begun ≡ startedBy trace (take (n - 0) table)) where
   the-part : take (n - 0) table ≡ tableOf (trace .records) table
@@ -109,14 +119,6 @@ module _ (trace : Trace) (table : List ℕ) (n : ℕ) (is-n : n ≡ min (trace .
     answered-so =
         ap (λ (s : Start). bytePrinting (eventAnswered (s .answer) (s .panel) (holds trace table memory) item) room) (is-begun ∙ ap (λ (l : List ℕ). startedBy trace l) the-part)
 
-    pub event-told : (b : Bool) → b ≡ isBegun (begun .answer) → b ≡ true → (done : TracePrinted) (memory′ : Memory) (left : List ℕ)
-        → leavesEvent done memory′ left ≡ eventPrinting trace (event (begun .panel) (take (n - 0) table) memory item) room
-        → leavesByte done table memory′ left ≡ bytePrinting (eventDone (holds trace table memory) item) room
-    event-told b is-b is done memory′ left e =
-        ap (λ (l : EventLeft). leavesByte (l .printed) table (l .memory) (l .room)) (rw the-part at e)
-        ∙ sym (ap (λ (s : Shown). bytePrinting s room) (begun-shows (begun .answer) (begun .panel) (holds trace table memory) item (sym is-b ∙ is)))
-        ∙ answered-so
-
     pub event-refused : (b : Bool) → b ≡ isBegun (begun .answer) → b ≡ false → (l : Line) → l ≡ lastLine (begun .answer) (begun .panel)
         → (done : TracePrinted) (left : List ℕ) → done .trace ≡ stopped trace → lays (done .count) left ≡ prints (lineText l) room
         → leavesByte done table memory left ≡ bytePrinting (eventDone (holds trace table memory) item) room
@@ -126,3 +128,13 @@ module _ (trace : Trace) (table : List ℕ) (n : ℕ) (is-n : n ≡ min (trace .
         ∙ ap (λ (p : Line). bytePrinting (fails (holds trace table memory) (lineText p)) room) is-l
         ∙ sym (ap (λ (s : Shown). bytePrinting s room) (refused-shows (begun .answer) (begun .panel) (holds trace table memory) item (sym is-b ∙ is)))
         ∙ answered-so
+
+  pub event-told : (item room words words′ left : List ℕ) (b : Bool) → b ≡ isBegun (begun .answer) → b ≡ true → (done : TracePrinted)
+      → ((curves : List ℕ) → leavesEvent done (remembering words′ curves) left
+      ≡ eventPrinting trace (event (begun .panel) (take (n - 0) table) (remembering words curves) item) room)
+      → (curves : List ℕ) → leavesByte done table (remembering words′ curves) left ≡ bytePrinting (eventDone (holds trace table (remembering words curves)) item) room
+  event-told item room words words′ left b is-b is done e curves =
+      let held = holds trace table (remembering words curves) in
+      ap (λ (l : EventLeft). leavesByte (l .printed) table (l .memory) (l .room)) (rw the-part at (e curves))
+      ∙ sym (ap (λ (s : Shown). bytePrinting s room) (begun-shows (begun .answer) (begun .panel) held item (sym is-b ∙ is)))
+      ∙ answered-so (remembering words curves) item room

@@ -10,11 +10,12 @@ use lib.Dec.{eqb, leb}
 use lib.ListN.{length, take, getD}
 use lib.Seq.{length-take-le}
 use Rattle.wire.specs.Addresses.{wordCount}
+use Rattle.curves.specs.Area.{curveWords}
 use Rattle.wire.specs.Room.{lays}
 use Rattle.wire.proofs.Over.{over-nil}
 use Rattle.line.specs.Methods.{busy}
 use Rattle.wire.proofs.Truths.{and-left, and-right}
-use Rattle.telling.specs.Memory.{Memory}
+use Rattle.telling.specs.Memory.{Memory, remembering}
 use Rattle.telling.specs.Told.{leastText}
 use Rattle.telling.specs.Events.{askedOnce}
 use Rattle.trace.specs.declared.Trace.{Trace}
@@ -120,14 +121,6 @@ module _ (table : List ℕ) (memory : Memory) where
           ∙ ap (λ (l : EventLeft). leavesStep (takingSo (l .printed) 0) table (l .memory) (l .room)) e
           ∙ so Waits is
 
-      pub takes-byte : (table′ : List ℕ) → f .front ≡ First → leavesByte done table′ memory′ left ≡ bytePrinting (tookByte (holds (f .trace) table memory) (f .first)) room
-          → took ≡ takingSo done 1 → leavesStep took table′ memory′ left ≡ stepPrinting (foundStep table memory f) room
-      unfolding frontStep
-      takes-byte table′ is e is-took =
-          ap (λ (t : Took). leavesStep t table′ memory′ left) is-took
-          ∙ ap (λ (l : ByteLeft). leavesStep (takingSo (l .printed) 1) (l .table) (l .memory) (l .room)) e
-          ∙ so First is
-
   either : (b : Bool) (f g : Found) (s t : Step) → s ≡ foundStep table memory f → t ≡ foundStep table memory g → cond b s t ≡ foundStep table memory (cond b f g)
   either true f g s t is-s is-t = is-s
   either false f g s t is-s is-t = is-t
@@ -145,9 +138,21 @@ module _ (table : List ℕ) (memory : Memory) where
         let lines = either (eqb (length (lineRun longestRun input)) 0) _ _ _ _ (one-taken input) refl in
         either (waits trace) _ _ _ _ refl (either (goesInRuns trace) _ _ _ _ lines (one-taken input))
 
-pub lent-judged : (table words room : ℕ) → (leb tableBytes table && eqb words wordCount && leb leastText room) ≡ lentTo table words room
+-- a byte, of which what is said holds whatever the curve area holds
+module _ (table words curves room : List ℕ) (f : Found) (done : TracePrinted) (table′ words′ left : List ℕ) (took : Took) where
+  pub takes-byte : f .front ≡ First
+      → ((area : List ℕ) → leavesByte done table′ (remembering words′ area) left ≡ bytePrinting (tookByte (holds (f .trace) table (remembering words area)) (f .first)) room)
+      → took ≡ takingSo done 1 → leavesStep took table′ (remembering words′ curves) left ≡ stepPrinting (foundStep table (remembering words curves) f) room
+  unfolding frontStep
+  takes-byte is e is-took =
+      ap (λ (t : Took). leavesStep t table′ (remembering words′ curves) left) is-took
+      ∙ ap (λ (l : ByteLeft). leavesStep (takingSo (l .printed) 1) (l .table) (l .memory) (l .room)) (e curves)
+      ∙ so table (remembering words curves) room f First is
+
+pub lent-judged : (table words curves room : ℕ)
+    → (leb tableBytes table && eqb words wordCount && eqb curves curveWords && leb leastText room) ≡ lentTo table words curves room
 unfolding lentTo
-lent-judged table words room = refl
+lent-judged table words curves room = refl
 
 module _ (trace : Trace) (table : List ℕ) (memory : Memory) (room input : List ℕ) (l : Bool) (is-l : l ≡ isLent (holds trace table memory) room) where
   pub lent-steps : (f : Found) (took : Took) (table′ : List ℕ) (memory′ : Memory) (left : List ℕ) → l ≡ true → f ≡ found trace input
@@ -167,12 +172,12 @@ module _ (trace : Trace) (table : List ℕ) (memory : Memory) (room input : List
   not-lent-steps is = rw (sym is-l ∙ is)
 
 -- what lent says, in numbers
-module _ (table words room : ℕ) (l : Bool) (is-l : l ≡ lentTo table words room) (is : l ≡ true) where
-  whole : (leb tableBytes table && eqb words wordCount && leb leastText room) ≡ true
-  whole = lent-judged table words room ∙ sym is-l ∙ is
+module _ (table words curves room : ℕ) (l : Bool) (is-l : l ≡ lentTo table words curves room) (is : l ≡ true) where
+  whole : (leb tableBytes table && eqb words wordCount && eqb curves curveWords && leb leastText room) ≡ true
+  whole = lent-judged table words curves room ∙ sym is-l ∙ is
 
   pub table-lent : tableBytes ≤ table
-  table-lent = leb-true tableBytes table (and-left (leb tableBytes table) (eqb words wordCount) (and-left (leb tableBytes table && eqb words wordCount) (leb leastText room) whole))
+  table-lent = leb-true tableBytes table (and-left _ (eqb words wordCount) (and-left _ (eqb curves curveWords) (and-left _ (leb leastText room) whole)))
 
   pub room-lent : leastText ≤ room
-  room-lent = leb-true leastText room (and-right (leb tableBytes table && eqb words wordCount) (leb leastText room) whole)
+  room-lent = leb-true leastText room (and-right (leb tableBytes table && eqb words wordCount && eqb curves curveWords) (leb leastText room) whole)

@@ -13,7 +13,7 @@ use Rattle.wire.proofs.Over.{over-nil}
 use Rattle.touch.specs.declared.Setup.{Setup}
 use Rattle.text.specs.declared.Line.the-variants as line
 use Rattle.text.specs.Text.{lineText}
-use Rattle.telling.specs.Memory.{Memory}
+use Rattle.telling.specs.Memory.{Memory, remembering}
 use Rattle.telling.specs.Inner.{prints}
 use Rattle.trace.specs.declared.Trace.{Trace}
 use Rattle.trace.specs.declared.TracePrinted.{TracePrinted}
@@ -148,11 +148,6 @@ module _ (table : List ℕ) (memory : Memory) where
           ∙ ap (λ (t : Trace). leavesByte (record { trace = t; count = length (lineText (line.Failed 15)) }) table memory (over (lineText (line.Failed 15)) room)) is-trace
           ∙ so Wrong is
 
-      pub event-taken : (memory′ : Memory) → j .comes ≡ Happens → leavesByte done table memory′ left ≡ bytePrinting (eventDone (holds (j .trace) table memory) (j .item)) room
-          → leavesByte done table memory′ left ≡ bytePrinting (tookByte (holds trace table memory) b) room
-      unfolding comesTo
-      event-taken memory′ is e = e ∙ so Happens is
-
     pub record-taken : (done : TracePrinted) (table′ : List ℕ) → j .comes ≡ Met → done ≡ quietly (withRecords (j .trace) (recordCounted (j .trace .records)))
         → table′ ≡ recordPut (j .trace .records) (j .item) table
         → leavesByte done table′ memory room ≡ bytePrinting (tookByte (holds trace table memory) b) room
@@ -160,3 +155,12 @@ module _ (table : List ℕ) (memory : Memory) where
     record-taken done table′ is is-done is-table =
         quiet-left table′ memory room done (withRecords (j .trace) (recordCounted (j .trace .records))) (recordPut (j .trace .records) (j .item) table) is-done is-table
         ∙ so Met is
+
+-- an event, whatever the curve area holds
+module _ (table words room : List ℕ) (trace : Trace) (b : ℕ) (j : Judged) (is-j : j ≡ byteJudged trace b) where
+  pub event-taken : (done : TracePrinted) (words′ left : List ℕ) → j .comes ≡ Happens
+      → ((curves : List ℕ) → leavesByte done table (remembering words′ curves) left
+      ≡ bytePrinting (eventDone (holds (j .trace) table (remembering words curves)) (j .item)) room)
+      → (curves : List ℕ) → leavesByte done table (remembering words′ curves) left ≡ bytePrinting (tookByte (holds trace table (remembering words curves)) b) room
+  unfolding comesTo
+  event-taken done words′ left is e curves = e curves ∙ so table (remembering words curves) trace room b j is-j Happens is

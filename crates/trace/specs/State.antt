@@ -5,6 +5,7 @@ use mathlib.Core.List.{List, _++_}
 use lib.Dec.{eqb, leb}
 use lib.ListN.{length}
 use Rattle.wire.specs.Addresses.{wordCount}
+use Rattle.curves.specs.Area.{curveWords}
 use Rattle.line.specs.Methods.{busy}
 use Rattle.touch.specs.declared.Setup.{Setup}
 use Rattle.panel.specs.declared.Panel.{Panel}
@@ -107,10 +108,10 @@ waits trace = isStarted (trace .stage) && busy (trace .panel .reader)
 abbrev pub metTable : Held → List ℕ
 metTable held = tableOf (held .trace .records) (held .table)
 
--- what is lent, by its lengths: room for the table, all the words, and room for the lines of a report
-unfoldable pub lentTo : (table words text : ℕ) → Bool
-lentTo table words text = leb tableBytes table && eqb words wordCount && leb leastText text
+-- what is lent, by its lengths: room for the table, all the words, all of the curve area, and room for the lines of a report
+unfoldable pub lentTo : (table words curves text : ℕ) → Bool
+lentTo table words curves text = leb tableBytes table && eqb words wordCount && eqb curves curveWords && leb leastText text
 
 -- whether what is lent is enough
 abbrev pub isLent : Held → List ℕ → Bool
-isLent held room = lentTo (length (held .table)) (length (held .memory .words)) (length room)
+isLent held room = lentTo (length (held .table)) (length (held .memory .words)) (length (held .memory .curves)) (length room)

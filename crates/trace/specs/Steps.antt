@@ -18,7 +18,8 @@ use Rattle.items.specs.Stages.{isStarted}
 use Rattle.trace.specs.State.{Held, Shown, shows, withPanel, withTrace, waits, isLent}
 use Rattle.trace.specs.Events.{tookByte, reportShown}
 
--- "0: done"; "14: words lent aren't 28,672", and the same number where the table or the room for text is too small, of which 01 does not speak
+-- "0: done"; "14: words lent aren't 28,672"; 02, §2: "14 also for a curve area of the wrong length"; and the same number where the table or the room for text
+-- is too small, of which neither speaks
 unfoldable pub numberOfStep : Answer → ℕ
 numberOfStep Done = 0
 numberOfStep NotLent = 14
@@ -92,7 +93,8 @@ stepping held input room =
     cond (isLent held room) (stepDone (step held input) room)
     (steps (record { answer = NotLent; used = 0; count = 0; trace = held .trace }) (held .table) (held .memory) room)
 
--- "14: words lent aren't 28,672, or reply .. room below 265"; the table and the lines of a report are lent here too
+-- "14: words lent aren't 28,672, or reply .. room below 265"; 02, §2: "14 also for a curve area of the wrong length"; the table and the lines of a report are
+-- lent here too
 unfoldable pub saidOfStep : Held → List ℕ → List ℕ → Said
 saidOfStep held input room =
     let s = step held input in

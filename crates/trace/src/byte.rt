@@ -1,6 +1,7 @@
-// One byte of the input, and the item that is whole with it.
+// One byte of the input, and the item that is whole with it. The curve area is not lent: what is said holds whatever that holds.
 ghost use mathlib.Core.Path.{_≡_};
-ghost use Prim.Native.Nat.{_≤_};
+ghost use mathlib.Core.List.{List};
+ghost use Prim.Native.Nat.{ℕ, _≤_};
 ghost use lib.ListN.{length};
 ghost use Rattle.telling.specs.Told.{leastText};
 ghost use Rattle.telling.specs.Memory.{remembering};
@@ -78,7 +79,7 @@ pub(crate) fn take_byte(
     room: &mut [u8],
 ) -> TracePrinted
     requires { ⌜ (tableBytes ≤ length (now table)) × (leastText ≤ length (now room)) ⌝ }
-    ensures { λ r. ⌜ leavesByte r (now (table .exit)) (remembering (now (words .exit))) (now (room .exit)) ≡ bytePrinting (tookByte (holds trace (now (table .entry)) (remembering (now (words .entry)))) b) (now (room .entry)) ⌝ }
+    ensures { λ r. ⌜ ((curves : List ℕ) → leavesByte r (now (table .exit)) (remembering (now (words .exit)) curves) (now (room .exit)) ≡ bytePrinting (tookByte (holds trace (now (table .entry)) (remembering (now (words .entry)) curves)) b) (now (room .entry))) ⌝ }
 {
     let judged = judge(trace, b);
     let comes = judged.comes;

@@ -1,6 +1,7 @@
-// An event: the panel is started where it was not, and then told of it.
+// An event: the panel is started where it was not, and then told of it. The curve area is not lent: what is said holds whatever that holds.
 ghost use mathlib.Core.Path.{_≡_};
-ghost use Prim.Native.Nat.{_≤_};
+ghost use mathlib.Core.List.{List};
+ghost use Prim.Native.Nat.{ℕ, _≤_};
 ghost use lib.ListN.{length};
 ghost use Rattle.telling.specs.Told.{leastText};
 ghost use Rattle.telling.specs.Memory.{remembering};
@@ -73,7 +74,7 @@ fn started_event(
     room: &mut [u8],
 ) -> TracePrinted
     requires { ⌜ leastText ≤ length (now room) ⌝ }
-    ensures { λ r. ⌜ leavesEvent r (remembering (now (words .exit))) (now (room .exit)) ≡ eventPrinting trace (event (begun .panel) (now (part .entry)) (remembering (now (words .entry))) item) (now (room .entry)) ⌝ }
+    ensures { λ r. ⌜ ((curves : List ℕ) → leavesEvent r (remembering (now (words .exit)) curves) (now (room .exit)) ≡ eventPrinting trace (event (begun .panel) (now (part .entry)) (remembering (now (words .entry)) curves) item) (now (room .entry))) ⌝ }
 {
     let panel = begun.panel;
     let done = telling::tell_event(panel, item, part, words, room);
@@ -89,7 +90,7 @@ pub(crate) fn any_event(
     room: &mut [u8],
 ) -> TracePrinted
     requires { ⌜ (tableBytes ≤ length (now table)) × (leastText ≤ length (now room)) ⌝ }
-    ensures { λ r. ⌜ leavesByte r (now (table .entry)) (remembering (now (words .exit))) (now (room .exit)) ≡ bytePrinting (eventDone (holds trace (now (table .entry)) (remembering (now (words .entry)))) item) (now (room .entry)) ⌝ }
+    ensures { λ r. ⌜ ((curves : List ℕ) → leavesByte r (now (table .entry)) (remembering (now (words .exit)) curves) (now (room .exit)) ≡ bytePrinting (eventDone (holds trace (now (table .entry)) (remembering (now (words .entry)) curves)) item) (now (room .entry))) ⌝ }
 {
     let part = &table[0..items::table_length(trace.records)];
     let begun = begin(trace, part);

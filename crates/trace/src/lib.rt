@@ -42,7 +42,7 @@ pub struct Trace {
 
 pub enum Answer {
     Done,
-    // Table, words or room are not what they must be; nothing was taken.
+    // Table, words, curve area or room are not what they must be; nothing was taken.
     NotLent,
 }
 
@@ -163,13 +163,20 @@ impl Trace {
     }
 
     // Hands over one report, or takes some of the input; writes the lines of it over the front of the room.
-    pub fn step(self, input: &[u8], table: &mut [u8], words: &mut [u16], room: &mut [u8]) -> Stepped
-        ensures { λ r. ⌜ steps r (now (table .exit)) (remembering (now (words .exit))) (now (room .exit)) ≡ stepping (holds self (now (table .entry)) (remembering (now (words .entry)))) (now (input .entry)) (now (room .entry)) ⌝ }
-        ensures { λ r. ⌜ stepSaid (r .answer) (r .used) (r .count) ≡ saidOfStep (holds self (now (table .entry)) (remembering (now (words .entry)))) (now (input .entry)) (now (room .entry)) ⌝ }
+    pub fn step(
+        self,
+        input: &[u8],
+        table: &mut [u8],
+        words: &mut [u16],
+        curves: &mut [u16],
+        room: &mut [u8],
+    ) -> Stepped
+        ensures { λ r. ⌜ steps r (now (table .exit)) (remembering (now (words .exit)) (now (curves .exit))) (now (room .exit)) ≡ stepping (holds self (now (table .entry)) (remembering (now (words .entry)) (now (curves .entry)))) (now (input .entry)) (now (room .entry)) ⌝ }
+        ensures { λ r. ⌜ stepSaid (r .answer) (r .used) (r .count) ≡ saidOfStep (holds self (now (table .entry)) (remembering (now (words .entry)) (now (curves .entry)))) (now (input .entry)) (now (room .entry)) ⌝ }
     {
-        if step::is_lent(table.len(), words.len(), room.len()) {
+        if step::is_lent(table.len(), words.len(), curves.len(), room.len()) {
             let found = front::find(self, input);
-            let took = step::take_step(found, table, words, room);
+            let took = step::take_step(found, table, words, curves, room);
             let next = took.trace;
             return Stepped {
                 answer: Answer::Done,

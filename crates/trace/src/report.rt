@@ -11,11 +11,16 @@ use crate::TracePrinted;
 use crate::event;
 
 // Asks for one report of the trace's panel.
-pub(crate) fn hand_over(trace: Trace, words: &mut [u16], room: &mut [u8]) -> TracePrinted
+pub(crate) fn hand_over(
+    trace: Trace,
+    words: &mut [u16],
+    curves: &mut [u16],
+    room: &mut [u8],
+) -> TracePrinted
     requires { ⌜ leastText ≤ length (now room) ⌝ }
-    ensures { λ r. ⌜ leavesEvent r (remembering (now (words .exit))) (now (room .exit)) ≡ eventPrinting trace (askedOnce (trace .panel) (remembering (now (words .entry)))) (now (room .entry)) ⌝ }
+    ensures { λ r. ⌜ leavesEvent r (remembering (now (words .exit)) (now (curves .exit))) (now (room .exit)) ≡ eventPrinting trace (askedOnce (trace .panel) (remembering (now (words .entry)) (now (curves .entry)))) (now (room .entry)) ⌝ }
 {
     let panel = trace.panel;
-    let done = telling::tell_report(panel, words, room);
+    let done = telling::tell_report(panel, words, curves, room);
     event::after_told(trace, done)
 }

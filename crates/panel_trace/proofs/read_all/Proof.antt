@@ -13,13 +13,42 @@ use Rattle.panel_trace.proofs.read_all.Statement.{statement}
 use Rattle.panel_trace.proofs.read_all.Tie as tie
 
 abbrev Inv-loop : tie.InvT-loop
-Inv-loop table₀ words₀ room₀ bytes₀ trace₀ turns₀ table words room bytes trace turns =
-    HeldSound (holds trace table (remembering words)) × ReadSoFar (holds trace table (remembering words))
+Inv-loop table₀ words₀ curves₀ room₀ bytes₀ trace₀ turns₀ table words curves room bytes trace turns =
+    HeldSound (holds trace table (remembering words curves)) × ReadSoFar (holds trace table (remembering words curves))
     × (leastText ≤ length room) × (length bytes ≡ 65536)
-    × (length table ≡ length table₀) × (length words ≡ length words₀) × (length room ≡ length room₀)
+    × (length table ≡ length table₀) × (length words ≡ length words₀) × (length curves ≡ length curves₀) × (length room ≡ length room₀)
 
 abbrev μ-loop : tie.MeasureT-loop
-μ-loop table₀ words₀ room₀ bytes₀ trace₀ turns₀ table words room bytes trace turns = turns
+μ-loop table₀ words₀ curves₀ room₀ bytes₀ trace₀ turns₀ table words curves room bytes trace turns = turns
+
+-- below, with the paths written out: a trace leaves more facts than a search looks at
+
+returns-2 : tie.Need-returns-2 Inv-loop μ-loop
+returns-2 c =
+    let turn = c .before .before .before .before .before .before .before .before .before .before .before .before .before .before .before .before .before .before .before .before .before .before .before .before .loop in
+    let fed = c .before .before .before .before .before .before .before .before .before .before .before .before .feed in
+    reads-if-well _ _ _ _ (turn .inv .1) (fed .ensures .1)
+
+returns-3 : tie.Need-returns-3 Inv-loop μ-loop
+returns-3 c =
+    let turn = c .before .before .before .before .before .before .before .before .before .before .before .before .before .before .before .before .before .before .before .before .before .before .loop in
+    let fed = c .before .before .before .before .before .before .before .before .before .before .feed in
+    reads-if-well _ _ _ _ (turn .inv .1) (fed .ensures .1)
+
+loop-again : tie.Need-loop-again Inv-loop μ-loop
+loop-again c =
+    let turn = c .before .before .before .before .before .before .before .before .before .before .before .before .before .before .before .before .before .before .before .before .before .before .before .before .loop in
+    let fed = c .before .before .before .before .before .before .before .before .before .before .before .before .feed in
+    let back = c .before .before .before .before .before .room in (
+      fed .ensures .0,
+      reads-if-well _ _ _ _ (turn .inv .1) (fed .ensures .1) (c .before .before .if2 .taken),
+      search (needs, back .given, turn .inv .2),
+      search (needs, c .before .before .before .before .before .before .before .before .before .before .before .before .before .before .before .before .before .before .before .before .bytes2 .given),
+      c .before .before .before .before .before .before .before .before .before .before .before .table .given ∙ turn .inv .4,
+      c .before .before .before .before .before .before .before .before .before .words .given ∙ turn .inv .5,
+      c .before .before .before .before .before .before .before .curves .given ∙ turn .inv .6,
+      back .given ∙ turn .inv .7,
+    )
 
 pub read-all-spec : {M : Type 1} → statement M
 read-all-spec =
@@ -35,24 +64,28 @@ read-all-spec =
     (λ c. search needs)
     (λ c. search needs)
     (λ c. search needs)
+    (λ c. search needs)
     (λ c. search reads-kept)
     (λ c. search needs)
     (λ c. search needs)
     (λ c. search needs)
     (λ c κs. search needs)
     (λ c κs. search needs)
+    (λ c. c .before .before .before .before .before .before .before .before .before .before .before .table .given ∙ c .before .before .before .before .before .before .before .before .before .before .before .before .before .before .before .before .before .before .before .before .before .before .before .before .loop .inv .4)
+    (λ c. c .before .before .before .before .before .before .before .before .before .words .given ∙ c .before .before .before .before .before .before .before .before .before .before .before .before .before .before .before .before .before .before .before .before .before .before .before .before .loop .inv .5)
+    (λ c. c .before .before .before .before .before .before .before .curves .given ∙ c .before .before .before .before .before .before .before .before .before .before .before .before .before .before .before .before .before .before .before .before .before .before .before .before .loop .inv .6)
+    (λ c. c .before .before .before .before .before .room .given ∙ c .before .before .before .before .before .before .before .before .before .before .before .before .before .before .before .before .before .before .before .before .before .before .before .before .loop .inv .7)
+    returns-2
+    (λ c. c .before .before .before .before .before .before .before .before .before .table .given ∙ c .before .before .before .before .before .before .before .before .before .before .before .before .before .before .before .before .before .before .before .before .before .before .loop .inv .4)
+    (λ c. c .before .before .before .before .before .before .before .words .given ∙ c .before .before .before .before .before .before .before .before .before .before .before .before .before .before .before .before .before .before .before .before .before .before .loop .inv .5)
+    (λ c. c .before .before .before .before .before .curves .given ∙ c .before .before .before .before .before .before .before .before .before .before .before .before .before .before .before .before .before .before .before .before .before .before .loop .inv .6)
+    (λ c. c .before .before .before .room .given ∙ c .before .before .before .before .before .before .before .before .before .before .before .before .before .before .before .before .before .before .before .before .before .before .loop .inv .7)
+    returns-3
     (λ c. search needs)
     (λ c. search needs)
-    (λ c. search needs)
-    (λ c. reads-if-well _ _ _ _ (c .before .before .before .before .before .before .before .before .before .before .before .before .before .before .before .before .before .before .before .before .before .loop .inv .1) (c .before .before .before .before .before .before .before .before .before .before .feed .ensures .1))
-    (λ c. search needs)
-    (λ c. search needs)
-    (λ c. search needs)
-    (λ c. reads-if-well _ _ _ _ (c .before .before .before .before .before .before .before .before .before .before .before .before .before .before .before .before .before .before .before .loop .inv .1) (c .before .before .before .before .before .before .before .before .feed .ensures .1))
-    (λ c. search needs)
-    (λ c. search needs)
-    (λ c. (c .before .before .before .before .before .before .before .before .before .before .feed .ensures .0, reads-if-well _ _ _ _ (c .before .before .before .before .before .before .before .before .before .before .before .before .before .before .before .before .before .before .before .before .before .loop .inv .1) (c .before .before .before .before .before .before .before .before .before .before .feed .ensures .1) (c .before .before .if2 .taken), search (needs, c .before .before .before .before .before .room .given, c .before .before .before .before .before .before .before .before .before .before .before .before .before .before .before .before .before .before .before .before .before .loop .inv .2), search needs, c .before .before .before .before .before .before .before .before .before .table .given ∙ c .before .before .before .before .before .before .before .before .before .before .before .before .before .before .before .before .before .before .before .before .before .loop .inv .4, c .before .before .before .before .before .before .before .words .given ∙ c .before .before .before .before .before .before .before .before .before .before .before .before .before .before .before .before .before .before .before .before .before .loop .inv .5, c .before .before .before .before .before .room .given ∙ c .before .before .before .before .before .before .before .before .before .before .before .before .before .before .before .before .before .before .before .before .before .loop .inv .6))
+    loop-again
     (λ c κs. search needs)
+    (λ c. search needs)
     (λ c. search needs)
     (λ c. search needs)
     (λ c. search needs)

@@ -12,4 +12,5 @@ tell-report-spec =
     (λ c κs. search needs)
     (λ c. search needs)
     (λ c. search needs)
+    (λ c. search needs)
     (λ c. search told-in))

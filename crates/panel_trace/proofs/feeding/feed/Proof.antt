@@ -12,13 +12,59 @@ use Rattle.panel_trace.proofs.feeding.feed.Statement.{statement}
 use Rattle.panel_trace.proofs.feeding.feed.Tie as tie
 
 abbrev Inv-loop : tie.InvT-loop
-Inv-loop input table₀ words₀ room₀ now₀ at₀ well₀ table words room now at well =
-    Passes (holds now₀ table₀ (remembering words₀)) input (holds now table (remembering words)) at
+Inv-loop input table₀ words₀ curves₀ room₀ now₀ at₀ well₀ table words curves room now at well =
+    Passes (holds now₀ table₀ (remembering words₀ curves₀)) input (holds now table (remembering words curves)) at
     × (leastText ≤ length room) × (at ≤ length input)
-    × (length table ≡ length table₀) × (length words ≡ length words₀) × (length room ≡ length room₀)
+    × (length table ≡ length table₀) × (length words ≡ length words₀) × (length curves ≡ length curves₀) × (length room ≡ length room₀)
 
 abbrev μ-loop : tie.MeasureT-loop
-μ-loop input table₀ words₀ room₀ now₀ at₀ well₀ table words room now at well = callsLeft (holds now table (remembering words)) (drop at input)
+μ-loop input table₀ words₀ curves₀ room₀ now₀ at₀ well₀ table words curves room now at well = callsLeft (holds now table (remembering words curves)) (drop at input)
+
+loop-holds : tie.Need-loop-holds Inv-loop μ-loop
+loop-holds c =
+    let start = c .before .before .before .before .before in
+    (passes-first _ _ (start .pre .0), start .pre .1, search needs, refl, refl, refl, refl)
+
+fill-requires : tie.Need-fill-requires Inv-loop μ-loop
+fill-requires c κs =
+    let turn = c .before .before .before .before .before .before .before .loop in
+    (turn .inv .0 .sound, turn .inv .1)
+
+add-at : tie.Need-add-at Inv-loop μ-loop
+add-at c =
+    let start = c .before .before .before .before .before .before .before .before .before .before .before .before .before .before .before .before .before .before .before .before .before .before .before .before in
+    let turn = c .before .before .before .before .before .before .before .before .before .before .before .before .before .before .before .before .before .before .loop in
+    let filled = c .before .before .before .before .before .before .before .before .before .before .fill in
+    let inside : turn .at + filled .result .used ≤ length (start .args .input .now) = passed-within _ _ _ _ _ _ (turn .inv .0) _ _ _ (filled .ensures .1) in
+    search (needs, inside, start .good .1 .0 .0)
+
+loop-less : tie.Need-loop-less Inv-loop μ-loop
+loop-less c =
+    let turn = c .before .before .before .before .before .before .before .before .before .before .before .before .before .before .before .before .before .before .before .before .before .loop in
+    let waits = c .before .before .before .before .before .before .before .before .before .before .before .before .before .before .before .before .before .before .before .before .is-waiting in
+    let more = c .before .before .before .before .before .before .before .before .before .before .before .before .before .before .before .before .before .before .before .if1 in
+    let filled = c .before .before .before .before .before .before .before .before .before .before .before .before .before .fill in
+    passes-nearer _ _ _ _ _ _ (turn .inv .0) _ _ _ (filled .ensures .1) (turn .well) _ (waits .ensures) (more .taken)
+
+loop-again : tie.Need-loop-again Inv-loop μ-loop
+loop-again c =
+    let turn = c .before .before .before .before .before .before .before .before .before .before .before .before .before .before .before .before .before .before .before .before .before .loop in
+    let filled = c .before .before .before .before .before .before .before .before .before .before .before .before .before .fill in
+    let back = c .before .before .before .before .before .before .room in (
+      passes-on _ _ _ _ _ _ (turn .inv .0) _ _ _ (filled .ensures .1),
+      search (needs, back .given, turn .inv .1),
+      passed-within _ _ _ _ _ _ (turn .inv .0) _ _ _ (filled .ensures .1),
+      c .before .before .before .before .before .before .before .before .before .before .before .before .table .given ∙ turn .inv .3,
+      c .before .before .before .before .before .before .before .before .before .before .words .given ∙ turn .inv .4,
+      c .before .before .before .before .before .before .before .before .curves .given ∙ turn .inv .5,
+      back .given ∙ turn .inv .6,
+    )
+
+returns : tie.Need-returns Inv-loop μ-loop
+returns c =
+    let turn = c .before .before .loop in
+    let waits = c .before .is-waiting in
+    (turn .inv .0 .sound, passes-all _ _ _ _ _ _ (turn .inv .0) (turn .well) _ (waits .ensures) (c .if1 .left))
 
 pub feed-spec : {M : Type 1} → statement M
 feed-spec =
@@ -26,20 +72,21 @@ feed-spec =
     (tie.spec
     Inv-loop
     μ-loop
-    (λ c. (passes-first _ _ (c .before .before .before .before .pre .0), c .before .before .before .before .pre .1, search needs, refl, refl, refl))
+    loop-holds
     (λ c κs. search needs)
     (λ c. search needs)
     (λ c. search needs)
     (λ c. search needs)
-    (λ c κs. (c .before .before .before .before .before .before .loop .inv .0 .sound, c .before .before .before .before .before .before .loop .inv .1))
-    (λ c. let inside : c .before .before .before .before .before .before .before .before .before .before .before .before .before .before .before .loop .at + c .before .before .before .before .before .before .before .before .fill .result .used ≤ length (c .before .before .before .before .before .before .before .before .before .before .before .before .before .before .before .before .before .before .before .before .args .input .now) = passed-within _ _ _ _ _ _ (c .before .before .before .before .before .before .before .before .before .before .before .before .before .before .before .loop .inv .0) _ _ _ (c .before .before .before .before .before .before .before .before .fill .ensures .1) in search (needs, inside, c .before .before .before .before .before .before .before .before .before .before .before .before .before .before .before .before .before .before .before .before .good .1 .0 .0))
+    fill-requires
+    add-at
     (λ c. search needs)
     (λ c. search needs)
     (λ c. search needs)
     (λ c κs. search needs)
-    (λ c. passes-nearer _ _ _ _ _ _ (c .before .before .before .before .before .before .before .before .before .before .before .before .before .before .before .before .before .before .loop .inv .0) _ _ _ (c .before .before .before .before .before .before .before .before .before .before .before .fill .ensures .1) (c .before .before .before .before .before .before .before .before .before .before .before .before .before .before .before .before .before .before .loop .well) _ (c .before .before .before .before .before .before .before .before .before .before .before .before .before .before .before .before .before .is-waiting .ensures) (c .before .before .before .before .before .before .before .before .before .before .before .before .before .before .before .before .if1 .taken))
-    (λ c. (passes-on _ _ _ _ _ _ (c .before .before .before .before .before .before .before .before .before .before .before .before .before .before .before .before .before .before .loop .inv .0) _ _ _ (c .before .before .before .before .before .before .before .before .before .before .before .fill .ensures .1), search (needs, c .before .before .before .before .before .before .room .given, c .before .before .before .before .before .before .before .before .before .before .before .before .before .before .before .before .before .before .loop .inv .1), passed-within _ _ _ _ _ _ (c .before .before .before .before .before .before .before .before .before .before .before .before .before .before .before .before .before .before .loop .inv .0) _ _ _ (c .before .before .before .before .before .before .before .before .before .before .before .fill .ensures .1), c .before .before .before .before .before .before .before .before .before .before .table .given ∙ c .before .before .before .before .before .before .before .before .before .before .before .before .before .before .before .before .before .before .loop .inv .3, c .before .before .before .before .before .before .before .before .words .given ∙ c .before .before .before .before .before .before .before .before .before .before .before .before .before .before .before .before .before .before .loop .inv .4, c .before .before .before .before .before .before .room .given ∙ c .before .before .before .before .before .before .before .before .before .before .before .before .before .before .before .before .before .before .loop .inv .5))
+    loop-less
+    loop-again
     (λ c. search needs)
     (λ c. search needs)
     (λ c. search needs)
-    (λ c. (c .before .before .loop .inv .0 .sound, passes-all _ _ _ _ _ _ (c .before .before .loop .inv .0) (c .before .before .loop .well) _ (c .before .is-waiting .ensures) (c .if1 .left))))
+    (λ c. search needs)
+    returns)

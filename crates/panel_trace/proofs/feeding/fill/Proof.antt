@@ -14,13 +14,68 @@ use Rattle.panel_trace.proofs.feeding.fill.Statement.{statement}
 use Rattle.panel_trace.proofs.feeding.fill.Tie as tie
 
 abbrev Inv-loop : tie.InvT-loop
-Inv-loop input table₀ words₀ room₀ now₀ at₀ filled₀ table words room now at filled =
-    Going (holds now₀ table₀ (remembering words₀)) input (holds now table (remembering words)) at filled room
+Inv-loop input table₀ words₀ curves₀ room₀ now₀ at₀ filled₀ table words curves room now at filled =
+    Going (holds now₀ table₀ (remembering words₀ curves₀)) input (holds now table (remembering words curves)) at filled room
     × (leastText ≤ length room) × (at ≤ length input) × (filled ≤ length room)
-    × (length table ≡ length table₀) × (length words ≡ length words₀) × (length room ≡ length room₀)
+    × (length table ≡ length table₀) × (length words ≡ length words₀) × (length curves ≡ length curves₀) × (length room ≡ length room₀)
 
 abbrev μ-loop : tie.MeasureT-loop
-μ-loop input table₀ words₀ room₀ now₀ at₀ filled₀ table words room now at filled = callsLeft (holds now table (remembering words)) (drop at input)
+μ-loop input table₀ words₀ curves₀ room₀ now₀ at₀ filled₀ table words curves room now at filled = callsLeft (holds now table (remembering words curves)) (drop at input)
+
+loop-holds : tie.Need-loop-holds Inv-loop μ-loop
+loop-holds c =
+    let known : Bytes (c .before .before .before .before .before .args .input .now) = λ i. omega (arith, c .before .before .before .before .shared-slice-known .given i) in
+    search (needs, begins, known)
+
+-- below, with the paths written out: a trace leaves more facts than a search looks at
+
+add-at : tie.Need-add-at Inv-loop μ-loop
+add-at c =
+    let start = c .before .before .before .before .before .before .before .before .before .before .before .before .before .before .before .before .before .before .before .before .before .before .before .before in
+    let turn = c .before .before .before .before .before .before .before .before .before .before .before .before .before .before .before .before .before .before .loop in
+    let waits = c .before .before .before .before .before .before .before .before .before .before .before .before .before .before .before .before .before .is-waiting in
+    let more = c .before .before .before .before .before .before .before .before .before .before .before .before .before .before .before .before .if1 in
+    let step = c .before .before .before .before .before .before .before .before .before .before .step in
+    let inside : turn .at + step .result .used ≤ length (start .args .input .now) =
+    search (used-within, turn .inv .0, step .ensures, waits .ensures, more .taken) in
+    search (needs, inside, start .good .1 .0 .0)
+
+add-filled : tie.Need-add-filled Inv-loop μ-loop
+add-filled c =
+    let start = c .before .before .before .before .before .before .before .before .before .before .before .before .before .before .before .before .before .before .before .before .before .before .before .before .before in
+    let turn = c .before .before .before .before .before .before .before .before .before .before .before .before .before .before .before .before .before .before .before .loop in
+    let waits = c .before .before .before .before .before .before .before .before .before .before .before .before .before .before .before .before .before .before .is-waiting in
+    let more = c .before .before .before .before .before .before .before .before .before .before .before .before .before .before .before .before .before .if1 in
+    let step = c .before .before .before .before .before .before .before .before .before .before .before .step in
+    let back = c .before .before .before .before .room in
+    let inside : turn .filled + step .result .count ≤ length (turn .room) =
+    search (count-within, turn .inv .0, step .ensures, waits .ensures, more .taken, back .given .1) in
+    search (needs, inside, turn .inv .7, start .good .1 .1 .1 .1 .1 .0 .0)
+
+loop-less : tie.Need-loop-less Inv-loop μ-loop
+loop-less c =
+    let turn = c .before .before .before .before .before .before .before .before .before .before .before .before .before .before .before .before .before .before .before .loop in
+    let waits = c .before .before .before .before .before .before .before .before .before .before .before .before .before .before .before .before .before .before .is-waiting in
+    let more = c .before .before .before .before .before .before .before .before .before .before .before .before .before .before .before .before .before .if1 in
+    let step = c .before .before .before .before .before .before .before .before .before .before .before .step in
+    search (comes-nearer, turn .inv .0, step .ensures, waits .ensures, more .taken)
+
+loop-again : tie.Need-loop-again Inv-loop μ-loop
+loop-again c =
+    let turn = c .before .before .before .before .before .before .before .before .before .before .before .before .before .before .before .before .before .before .before .loop in
+    let waits = c .before .before .before .before .before .before .before .before .before .before .before .before .before .before .before .before .before .before .is-waiting in
+    let more = c .before .before .before .before .before .before .before .before .before .before .before .before .before .before .before .before .before .if1 in
+    let step = c .before .before .before .before .before .before .before .before .before .before .before .step in
+    let back = c .before .before .before .before .room in (
+      search (goes-on, turn .inv .0, step .ensures, waits .ensures, more .taken),
+      search (needs, back .given .1, turn .inv .1),
+      search (used-within, turn .inv .0, step .ensures, waits .ensures, more .taken),
+      search (filled-within, turn .inv .0, step .ensures, waits .ensures, more .taken),
+      c .before .before .before .before .before .before .before .before .before .before .table .given ∙ turn .inv .4,
+      c .before .before .before .before .before .before .before .before .words .given ∙ turn .inv .5,
+      c .before .before .before .before .before .before .curves .given ∙ turn .inv .6,
+      back .given .1 ∙ turn .inv .7,
+    )
 
 pub fill-spec : {M : Type 1} → statement M
 fill-spec =
@@ -28,7 +83,7 @@ fill-spec =
     (tie.spec
     Inv-loop
     μ-loop
-    (λ c. let known : Bytes (c .before .before .before .before .args .input .now) = λ i. omega (arith, c .before .before .before .shared-slice-known .given i) in search (needs, begins, known))
+    loop-holds
     (λ c. search needs)
     (λ c κs. search needs)
     (λ c. search needs)
@@ -38,10 +93,11 @@ fill-spec =
     (λ c. search needs)
     (λ c. search needs)
     (λ c κs. search needs)
-    (λ c. let inside : c .before .before .before .before .before .before .before .before .before .before .before .before .before .before .before .loop .at + c .before .before .before .before .before .before .before .before .step .result .used ≤ length (c .before .before .before .before .before .before .before .before .before .before .before .before .before .before .before .before .before .before .before .before .args .input .now) = search used-within in search (needs, inside, c .before .before .before .before .before .before .before .before .before .before .before .before .before .before .before .before .before .before .before .before .good .1 .0 .0))
-    (λ c. let inside : c .before .before .before .before .before .before .before .before .before .before .before .before .before .before .before .before .loop .filled + c .before .before .before .before .before .before .before .before .before .step .result .count ≤ length (c .before .before .before .before .before .before .before .before .before .before .before .before .before .before .before .before .loop .room) = search (count-within, c .before .before .before .before .before .before .before .before .before .before .before .before .before .before .before .before .loop .inv .0, c .before .before .before .before .before .before .before .before .before .step .ensures, c .before .before .before .before .before .before .before .before .before .before .before .before .before .before .before .is-waiting .ensures, c .before .before .before .before .before .before .before .before .before .before .before .before .before .before .if1 .taken, c .before .before .before .before .room .given .1) in search (needs, inside, c .before .before .before .before .before .before .before .before .before .before .before .before .before .before .before .before .loop .inv .6, c .before .before .before .before .before .before .before .before .before .before .before .before .before .before .before .before .before .before .before .before .before .good .1 .1 .1 .1 .0 .0))
-    (λ c. search (comes-nearer, c .before .before .before .before .before .before .before .before .before .before .before .before .before .before .before .before .loop .inv .0, c .before .before .before .before .before .before .before .before .before .step .ensures, c .before .before .before .before .before .before .before .before .before .before .before .before .before .before .before .is-waiting .ensures, c .before .before .before .before .before .before .before .before .before .before .before .before .before .before .if1 .taken))
-    (λ c. (search (goes-on, c .before .before .before .before .before .before .before .before .before .before .before .before .before .before .before .before .loop .inv .0, c .before .before .before .before .before .before .before .before .before .step .ensures, c .before .before .before .before .before .before .before .before .before .before .before .before .before .before .before .is-waiting .ensures, c .before .before .before .before .before .before .before .before .before .before .before .before .before .before .if1 .taken), search (needs, c .before .before .before .before .room .given .1, c .before .before .before .before .before .before .before .before .before .before .before .before .before .before .before .before .loop .inv .1), search (used-within, c .before .before .before .before .before .before .before .before .before .before .before .before .before .before .before .before .loop .inv .0, c .before .before .before .before .before .before .before .before .before .step .ensures, c .before .before .before .before .before .before .before .before .before .before .before .before .before .before .before .is-waiting .ensures, c .before .before .before .before .before .before .before .before .before .before .before .before .before .before .if1 .taken), search (filled-within, c .before .before .before .before .before .before .before .before .before .before .before .before .before .before .before .before .loop .inv .0, c .before .before .before .before .before .before .before .before .before .step .ensures, c .before .before .before .before .before .before .before .before .before .before .before .before .before .before .before .is-waiting .ensures, c .before .before .before .before .before .before .before .before .before .before .before .before .before .before .if1 .taken), c .before .before .before .before .before .before .before .before .table .given ∙ c .before .before .before .before .before .before .before .before .before .before .before .before .before .before .before .before .loop .inv .4, c .before .before .before .before .before .before .words .given ∙ c .before .before .before .before .before .before .before .before .before .before .before .before .before .before .before .before .loop .inv .5, c .before .before .before .before .room .given .1 ∙ c .before .before .before .before .before .before .before .before .before .before .before .before .before .before .before .before .loop .inv .6))
+    add-at
+    add-filled
+    loop-less
+    loop-again
+    (λ c. search needs)
     (λ c. search needs)
     (λ c. search needs)
     (λ c. search needs)

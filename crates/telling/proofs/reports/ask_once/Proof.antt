@@ -16,4 +16,5 @@ ask-once-spec =
     (λ c κs. search (needs, acknowledgement-brief, reply-brief))
     (λ c. search needs)
     (λ c. search needs)
+    (λ c. search needs)
     (λ c. search report-printed))

@@ -15,5 +15,6 @@ step-spec =
     (λ c. search needs)
     (λ c. search needs)
     (λ c. search needs)
+    (λ c. search needs)
     (λ c. step-said _ _ _ _ _ _ _ (search lent-steps))
     (λ c. step-said _ _ _ _ _ _ _ (search not-lent-steps)))

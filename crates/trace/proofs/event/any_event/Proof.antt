@@ -21,4 +21,4 @@ any-event-spec =
     (λ c κs. search named-below)
     (λ c κs. search needs)
     (λ c. search needs)
-    (λ c. search event-refused))
+    (λ c curves. search event-refused))

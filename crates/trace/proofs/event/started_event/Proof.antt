@@ -1,6 +1,6 @@
 -- `trace::event::started_event` meets its contract.
 use borrow.Author.Needs.{needs}
-use Rattle.trace.proofs.Events.{started-left}
+use Rattle.trace.proofs.Events.{event-left}
 use Rattle.trace.proofs.event.started_event.Statement.{statement}
 use Rattle.trace.proofs.event.started_event.Tie as tie
 
@@ -12,4 +12,4 @@ started-event-spec =
     (λ c κs. search needs)
     (λ c. search needs)
     (λ c. search needs)
-    (λ c. search started-left))
+    (λ c. search event-left))

@@ -12,4 +12,5 @@ hand-over-spec =
     (λ c κs. search needs)
     (λ c. search needs)
     (λ c. search needs)
+    (λ c. search needs)
     (λ c. search started-left))

@@ -17,6 +17,7 @@ take-step-spec =
     (λ c κs. search needs)
     (λ c. search needs)
     (λ c. search needs)
+    (λ c. search needs)
     (λ c. search hands-one)
     (λ c. search ran-lines)
     (λ c. search needs)
