@@ -1,9 +1,10 @@
 #!/usr/bin/env python3
-"""A model of document 01, "The build and its rules", written from the document and the requests of 02 that it was changed by (§1); to be read beside them,
-section by section.
+"""A model of document 01, "The build and its rules", written from the document and the requests of 02 that it was changed by (§1, §2); to be read beside
+them, section by section.
 
     model.py < TRACE       prints what the panel program must print for a trace
-    model.py --examples    runs 01's printed trace, its examples a to j and the reads and writes it wants run; exit status 0 if all are right
+    model.py --examples    runs 01's printed trace, its examples a to j and the reads and writes it wants run, and what 02 and the manuals say of curves;
+                           exit status 0 if all are right
 
 Each part below bears the name of the section of 01 that it states, and a rule of 02 says so. Numbers are those of 01's table "Numbers given back".
 """
@@ -13,6 +14,7 @@ from typing import NamedTuple
 from check_value import check_value
 
 WORDS = 28672
+CURVE_WORDS = 8192
 LEAST_ROOM = 265
 RECORD = 32
 MOST_RECORDS = 128
@@ -107,7 +109,7 @@ class Line:
 # ---- Registers
 
 class Registers:
-    WRITABLE = (0x01, 0x02, 0x03, 0x04, 0x05, 0x0B)
+    WRITABLE = (0x01, 0x02, 0x03, 0x04, 0x05, 0x0B, 0xEB)       # EB by 02, §2; it reads 00
 
     def __init__(self, setup):
         self.setup = setup
@@ -130,15 +132,55 @@ class Registers:
         value[0x1C] = 0x08 if self.setup.acknowledging else 0x00
         return bytes(value)
 
-    def store(self, address, data):
-        """A write that is not refused. The page comes whole."""
-        run = dict(enumerate(data, address))
+    def store(self, run):
+        """A write that is not refused, each address with its byte. The page comes whole."""
         self.backlight = run.get(0x01, self.backlight)
         self.buzzer = run.get(0x02, self.buzzer)
         if 0x03 in run:
             self.page = run[0x03] * 256 + run[0x04]
         self.flag = run.get(0x05, self.flag)
         self.enable = run.get(0x0B, self.enable)
+
+
+# ---- Curves (02, §2)
+
+CHANNELS, KEPT = 8, 1024
+
+
+def named_by(mode):
+    """Bit n for channel n, lowest channel first."""
+    return [n for n in range(CHANNELS) if mode & (1 << n)]
+
+
+def is_curve_data(data):
+    """A mode byte that names a channel, and at least one round, the last one finished."""
+    each = 2 * len(named_by(data[0])) if data else 0
+    return each > 0 and len(data) > 1 and (len(data) - 1) % each == 0
+
+
+class Channels:
+    """How many numbers each channel has. The numbers stand in the area that is lent, channel n's from word 1,024n on."""
+
+    def __init__(self):
+        self.counts = [0] * CHANNELS
+
+    def numbers(self, n, area):
+        """Oldest first."""
+        return area[n * KEPT:n * KEPT + self.counts[n]]
+
+    def add(self, data, area):
+        """A frame that is not refused. A channel keeps its latest numbers; words past its count stay."""
+        named, numbers = named_by(data[0]), [word(data, at) for at in range(1, len(data), 2)]
+        for place, n in enumerate(named):
+            latest = (self.numbers(n, area) + numbers[place::len(named)])[-KEPT:]
+            area[n * KEPT:n * KEPT + len(latest)] = latest
+            self.counts[n] = len(latest)
+
+    def clear(self, value):
+        """55 all, 56 to 5D channel 0 to 7. The area's words stay."""
+        for n in range(CHANNELS):
+            if value in (0x55, 0x56 + n):
+                self.counts[n] = 0
 
 
 # ---- Setup and touch table
@@ -301,7 +343,7 @@ def start(setup, table):
 
 class Panel:
     def __init__(self, setup):
-        self.setup, self.line, self.registers = setup, Line(setup), Registers(setup)
+        self.setup, self.line, self.registers, self.channels = setup, Line(setup), Registers(setup), Channels()
         self.caught = None      # a copy of the slider's record
 
     def give_byte(self, byte):
@@ -310,10 +352,13 @@ class Panel:
     def give_mark(self):
         return self.line.give(None)
 
+    def curve_count(self, n):
+        return self.channels.counts[n] if n < CHANNELS else 0
+
     # ---- Commands
 
-    def report(self, words, room):
-        if len(words) != WORDS or len(room) < LEAST_ROOM:
+    def report(self, words, curves, room):
+        if len(words) != WORDS or len(curves) != CURVE_WORDS or len(room) < LEAST_ROOM:
             return Handed("14")
         if not self.line.waiting:
             return Handed("nothing")
@@ -325,17 +370,20 @@ class Panel:
         if report.accepted:
             number = self.judge(report.command, report.data)
             if number == 0:
-                reply = self.perform(report.command, report.data, words)
+                reply = self.perform(report.command, report.data, words, curves)
         written = acknowledged + reply
         room[:len(written)] = written
         return Handed("F" if report.accepted else "B", report, number, len(acknowledged), len(reply))
 
     def judge(self, command, data):
         """2 to 7: the first in order whose condition holds."""
-        if command not in (0x80, 0x81, 0x82, 0x83):
+        if command not in (0x80, 0x81, 0x82, 0x83, 0x84):
             return 2
-        if not {0x80: len(data) >= 2, 0x81: len(data) == 2, 0x82: len(data) >= 4 and len(data) % 2 == 0, 0x83: len(data) == 3}[command]:
+        if not {0x80: len(data) >= 2, 0x81: len(data) == 2, 0x82: len(data) >= 4 and len(data) % 2 == 0, 0x83: len(data) == 3,
+                0x84: is_curve_data(data)}[command]:
             return 3
+        if command == 0x84:
+            return 0        # it has neither address nor reply
         address = data[0] if command in (0x80, 0x81) else word(data, 0)
         count = {0x80: len(data) - 1, 0x81: data[1], 0x82: (len(data) - 2) // 2, 0x83: data[-1]}[command]
         if address + count > (256 if command in (0x80, 0x81) else WORDS):
@@ -347,18 +395,26 @@ class Panel:
             value = dict(zip(run, data[1:]))
             if value.get(0x01, 0) > 0x3F or (0x03 in run and value[0x03] * 256 + value[0x04] >= self.setup.pages):
                 return 6
+            if 0xEB in run and not 0x55 <= value[0xEB] <= 0x5D:
+                return 6
         if command in (0x81, 0x83):
             length = 1 + len(data) + count * (1 if command == 0x81 else 2) + (2 if self.setup.checking else 0)
             if length > 255:
                 return 7
         return 0
 
-    def perform(self, command, data, words):
+    def perform(self, command, data, words, curves):
         """A command that is not refused takes effect; its reply, if it has one."""
         if command == 0x80:
-            self.registers.store(data[0], data[1:])
-            if data[0] <= 0x03 < data[0] + len(data) - 1:
+            run = dict(enumerate(data[1:], data[0]))
+            self.registers.store(run)
+            if 0x03 in run:
                 self.caught = None
+            if 0xEB in run:
+                self.channels.clear(run[0xEB])
+            return b""
+        if command == 0x84:
+            self.channels.add(data, curves)
             return b""
         if command == 0x81:
             return frame(self.setup, 0x81, data + self.registers.all()[data[0]:data[0] + data[1]])
@@ -437,7 +493,7 @@ class TraceEnds(Exception):
 class Trace:
     def __init__(self):
         self.lines, self.setup, self.table, self.panel = [], None, b"", None
-        self.words, self.room = [0] * WORDS, bytearray(LEAST_ROOM)
+        self.words, self.curves, self.room = [0] * WORDS, [0] * CURVE_WORDS, bytearray(LEAST_ROOM)
 
     def fail(self, *numbers):
         self.lines.append("X " + " ".join(str(n) for n in numbers))
@@ -483,7 +539,7 @@ class Trace:
             self.lines.append(f"T {self.panel.contact(self.table, self.words, word(body, 0), word(body, 2))[0]}")
         else:
             self.lines.append(f"T {self.panel.lift()}")
-        while (handed := self.panel.report(self.words, self.room)).what != "nothing":
+        while (handed := self.panel.report(self.words, self.curves, self.room)).what != "nothing":
             self.handed(handed)
 
     def handed(self, handed):
@@ -517,13 +573,13 @@ PRINTED_OUTPUT = "F 81 0\nO 5A A5 06 81 00 01 10 28 44\nT 0\nT 0\nE 0000\n"
 
 
 def given(setup, line):
-    """What a panel of this setup hands over for a line of bytes and marks (None), and its words."""
-    panel, words, room, handed = Panel(setup), [0] * WORDS, bytearray(LEAST_ROOM), []
+    """What a panel of this setup hands over for a line of bytes and marks (None), its words, and the numbers of each channel."""
+    panel, words, curves, room, handed = Panel(setup), [0] * WORDS, [0] * CURVE_WORDS, bytearray(LEAST_ROOM), []
     for b in line:
         panel.line.give(b)
-        while (h := panel.report(words, room)).what != "nothing":
+        while (h := panel.report(words, curves, room)).what != "nothing":
             handed.append((h.what, h.report.command, h.number))
-    return handed, words
+    return handed, words, [panel.channels.numbers(n, curves) for n in range(CHANNELS)]
 
 
 def example_step(around):
@@ -537,8 +593,42 @@ def example_slider(begin, end, x):
     return signed(Record(b).act(0, x, 0))
 
 
+def curve_data(mode, numbers):
+    return bytes([mode]) + b"".join(two(n) for n in numbers)
+
+
+def wrongly_judged():
+    """Modes and data lengths of 84 that the model judges otherwise than by listing, for each mode, how long one round, two rounds and so on are."""
+    panel = Panel(Setup(0x5A, 0xA5, 0, 2, 800, 480))
+    for mode in range(256):
+        right = {1 + rounds * 2 * f"{mode:b}".count("1") for rounds in range(1, 128)} if mode else set()
+        for length in range(data_limit(panel.setup) + 1):
+            if panel.judge(0x84, (bytes([mode]) + bytes(253))[:length]) != (0 if length in right else 3):
+                yield mode, length
+
+
+def curve_examples(setup):
+    """What 02, §2, and the manuals say of curves, with checking off."""
+    def sent(*frames):
+        return given(setup, b"".join(frame(setup, *each) for each in frames))
+
+    yield "84 of the manuals", [[0x0001, 0x0010], [], [], [], [], [], [], []], given(setup, bytes.fromhex("5AA506840100010010"))[2]
+    yield "84, mode 45", [[1, 4], [], [2, 5], [], [], [], [3, 6], []], sent((0x84, curve_data(0x45, range(1, 7))))[2]
+    yield "84, mode 83", [[1, 4], [2, 5], [], [], [], [], [], [3, 6]], sent((0x84, curve_data(0x83, range(1, 7))))[2]
+    yield "84, no whole rounds", [[]] * CHANNELS, sent((0x84, b""), (0x84, b"\0\0\1"), (0x84, b"\1"), (0x84, b"\3\0\1"), (0x84, b"\1\0\1\0"))[2]
+    yield "84, modes and lengths", [], list(wrongly_judged())
+    for count in (1023, 1024, 1025, 3000):
+        frames = [(0x84, curve_data(0x08, range(count)[at:at + 126])) for at in range(0, count, 126)]
+        yield f"{count} numbers", list(range(count))[-1024:], sent(*frames)[2][3]
+    for value, left in ((0x55, [[]] * 8), (0x56, [[]] + [[9]] * 7), (0x5D, [[9]] * 7 + [[]]), (0x54, [[9]] * 8), (0x5E, [[9]] * 8), (0x00, [[9]] * 8)):
+        yield f"EB {value:02X}", left, sent((0x84, curve_data(0xFF, [9] * 8)), (0x80, [0xEB, value]))[2]
+    line = frame(setup, 0x80, [0xEB, 0x55]) + frame(setup, 0x81, [0xEB, 0x01])
+    trace = bytes.fromhex("00 5A A5 00 00 02 03 20 01 E0") + b"".join(bytes((0x01, b)) for b in line)
+    yield "EB reads 00", "F 80 0\nF 81 0\nO 5A A5 04 81 EB 01 00\nE 0000\n", trace_output(trace)
+
+
 def examples():
-    """Each: what, what 01 says (c and d as 02, §1, changes them), what the model says."""
+    """Each: what, what 01 says (c and d as 02, §1, changes them) or 02, what the model says."""
     on, off, acking = (Setup(0x5A, 0xA5, flags, 2, 800, 480) for flags in (1, 0, 3))
     yield "trace", PRINTED_OUTPUT, trace_output(PRINTED_TRACE)
     yield "a", 0xFFFF, check_value(b"")
@@ -555,14 +645,16 @@ def examples():
         yield f"read {count}", [("F", 0x83, number)], given(setup, frame(setup, 0x83, [0, 0, count]))[0]
     for count, number in ((1, 0), (2, 4)):
         yield f"write {count} at 6FFF", [("F", 0x82, number)], given(on, frame(on, 0x82, [0x6F, 0xFF] + [1, 2] * count))[0]
+    yield from curve_examples(off)
 
 
 def check_examples():
-    wrong = [(what, printed, ours) for what, printed, ours in examples() if printed != ours]
-    for what, printed, ours in wrong:
-        print(f"example {what}: 01 says {printed!r}, the model {ours!r}")
+    tried = list(examples())
+    wrong = [(what, due, ours) for what, due, ours in tried if due != ours]
+    for what, due, ours in wrong:
+        print(f"example {what}: due is {due!r}, the model says {ours!r}")
     if not wrong:
-        print(f"{len(list(examples()))} examples of 01: the model gives what is printed")
+        print(f"{len(tried)} examples of 01 and 02: the model gives what is due")
     return 1 if wrong else 0
 
 

@@ -12,9 +12,10 @@ import random
 import sys
 
 import model
-from model import RECORD, Setup, two
+from model import CHANNELS, KEPT, RECORD, Setup, curve_data, two
 
-ALL_WORDS, ALL_ROOM = 28700, 300
+ALL_WORDS, ALL_CURVES, ALL_ROOM = 28700, 8200, 300
+UNTOUCHED = 0xC0DE      # each word of the program's curve area at first, so that it can be seen which words stay
 NOTHING_WRONG = Setup(0x5A, 0xA5, 1, 16, 800, 480)
 
 
@@ -23,8 +24,8 @@ class Script:
 
     def __init__(self):
         self.input, self.lines, self.reached = bytearray(), [], collections.Counter()
-        self.panel, self.table, self.n_words, self.n_room = None, b"", 28672, 265
-        self.words, self.room = [0] * ALL_WORDS, bytearray(b"\xEE" * ALL_ROOM)
+        self.panel, self.table, self.n_words, self.n_curves, self.n_room = None, b"", 28672, 8192, 265
+        self.words, self.curves, self.room = [0] * ALL_WORDS, [UNTOUCHED] * ALL_CURVES, bytearray(b"\xEE" * ALL_ROOM)
 
     def call(self, letter, arguments, line=None):
         self.input += letter.encode() + bytes(arguments)
@@ -38,6 +39,16 @@ class Script:
         if len(self.panel.line.waiting) > 1:
             self.count("inputs after which", "several reports wait")
 
+    def count_curves(self, handed, before):
+        """What a frame that was done did to the channels' counts."""
+        command, data, after = handed.report.command, handed.report.data, self.panel.channels.counts
+        if command == 0x84:
+            added = (len(data) - 1) // 2 // len(model.named_by(data[0]))
+            moved = any(before[n] + added > KEPT for n in model.named_by(data[0]))
+            self.count("curve frame:", "a full channel's numbers move down" if moved else "all numbers fit")
+        elif after != before:
+            self.count("clear of", "several channels that have numbers" if sum(a != b for a, b in zip(after, before)) > 1 else "one channel that has numbers")
+
     def count_contact(self, was_down, page, caught, x, y):
         self.count(*contact_did(self.table, was_down, page, caught, x, y))
 
@@ -48,13 +59,19 @@ class Script:
         self.table = bytes(table)
         self.call("T", two(len(self.table)) + self.table)
 
-    def lend(self, words=28672, room=265):
-        self.n_words, self.n_room = words, room
-        self.call("L", two(words) + two(room))
+    def lend(self, words=28672, curves=8192, room=265):
+        self.n_words, self.n_curves, self.n_room = words, curves, room
+        self.call("L", two(words) + two(curves) + two(room))
 
     def set_word(self, address, value):
         self.words[address] = value
         self.call("K", two(address) + two(value))
+
+    def set_curve(self, address, value):
+        """A word of the curve area; past its end nothing."""
+        if address < ALL_CURVES:
+            self.curves[address] = value
+        self.call("H", two(address) + two(value))
 
     def start(self, setup, table=None):
         if table is not None:
@@ -86,16 +103,19 @@ class Script:
         self.call("M", b"", f"M {number}")
 
     def ask(self):
-        words, room, caught = self.words[:self.n_words], self.room[:self.n_room], self.panel.caught
-        h = self.panel.report(words, room)
+        words, curves, room = self.words[:self.n_words], self.curves[:self.n_curves], self.room[:self.n_room]
+        caught, counts = self.panel.caught, list(self.panel.channels.counts)
+        h = self.panel.report(words, curves, room)
         if caught:
             self.count("ask while a slider is caught:", "kept" if self.panel.caught else "dropped")
-        self.words[:self.n_words], self.room[:self.n_room] = words, room
+        self.words[:self.n_words], self.curves[:self.n_curves], self.room[:self.n_room] = words, curves, room
         line, end = h.what, h.acknowledged + h.replied
         acknowledgement, reply = spelled(room[:h.acknowledged]), spelled(room[h.acknowledged:end])
         if h.what == "F":
             line = f"F {h.report.command:02x} {h.number} data{spelled(h.report.data)} acknowledgement{acknowledgement} reply{reply}"
             self.count(f"command {h.report.command:02X}" if h.number != 2 else "command", h.number)
+            if h.number == 0:
+                self.count_curves(h, counts)
         elif h.what == "B":
             line = f"B {h.report.command:02x} acknowledgement{acknowledgement}"
         self.count("ask", h.what)
@@ -124,6 +144,12 @@ class Script:
     def register(self, address):
         self.call("R", [address], f"R {address:02x} {self.panel.registers.all()[address]:02x}")
 
+    def curve(self, channel):
+        """How many numbers a channel has, the numbers, and a sum over all of the area."""
+        count = self.panel.curve_count(channel)
+        numbers = "".join(f" {w:04x}" for w in self.curves[channel * KEPT:channel * KEPT + count])
+        self.call("N", [channel], f"N {channel:02x} count {count}{numbers} area {sum_of(self.curves)}")
+
     def word(self, address):
         self.call("V", two(address), f"V {address:04x} {self.words[address]:04x}")
 
@@ -137,6 +163,15 @@ class Script:
         self.bytes(model.frame(self.panel.setup, command, bytes(data)))
         if ask:
             self.ask_all()
+
+    def send_once(self, command, data):
+        """Asks for the one report alone, where there are many such frames."""
+        self.send(command, data, ask=False)
+        self.ask()
+
+    def curve_all(self):
+        for channel in range(CHANNELS):
+            self.curve(channel)
 
     def send_bad(self, command, data, ask=True):
         """With a wrong check value, and a mark, so that nothing of it stays."""
@@ -218,10 +253,10 @@ def starts(s):
 
 def lengths(s):
     s.title("command and data length: 2, 3")
-    for command in (0x00, 0x7F, 0x84, 0xFF):
+    for command in (0x00, 0x7F, 0x85, 0xFF):
         for data in (b"", b"\x01\x02", b"\xFF" * 4):
             s.send(command, data)
-    for command in (0x80, 0x81, 0x82, 0x83):
+    for command in (0x80, 0x81, 0x82, 0x83, 0x84):
         for n in range(7):
             s.send(command, [0x01] * n)
         for n in (model.data_limit(s.panel.setup) - 1, model.data_limit(s.panel.setup)):
@@ -237,7 +272,7 @@ def lengths(s):
 
 def register_writes(s):
     s.title("write registers: each address, one byte and two")
-    for address in [*range(0x20), 0x4F, 0xEB, 0xFE, 0xFF]:
+    for address in [*range(0x20), 0x4F, 0xEA, 0xEB, 0xEC, 0xFE, 0xFF]:
         s.send(0x80, [address, 0x07])
         s.send(0x80, [address, 0x00, 0x06])
     s.all()
@@ -283,10 +318,49 @@ def word_calls(s):
         s.send(0x83, two(address) + bytes([count]))
 
 
+def curve_calls(s):
+    s.title("curves: the manuals' frame, and their modes 45 and 83")
+    s.send(0x80, [0xEB, 0x55])
+    s.send(0x84, [0x01, 0x00, 0x01, 0x00, 0x10])
+    s.curve(0)
+    for mode in (0x45, 0x83):
+        s.send(0x84, curve_data(mode, range(mode * 256, mode * 256 + 6)))
+        s.curve_all()
+    s.title("curves: 3 for no mode byte, mode 00, no round, an unfinished round, an odd byte")
+    for data in (b"", b"\x00", b"\x00\x00\x01", curve_data(0x00, range(125)), b"\x01", b"\xFF", b"\x01\x00", b"\x01\x00\x01\x00", b"\x03\x00\x01",
+                 b"\x03\x00\x01\x00", curve_data(0x03, (1, 2, 3)), curve_data(0x83, range(125)), curve_data(0xFF, range(124)), curve_data(0xFF, range(8)) + b"\x07",
+                 curve_data(0x80, range(125)) + b"\x07"):
+        s.send(0x84, data)
+    s.curve_all()
+    s.title("EB: 3 before 4, 4 before 5, 5 before 6, 6; nothing is cleared")
+    for data in ([0xEB], [0xEB] + [0x55] * 22, [0xEB] + [0x55] * 21, [0xEB, 0x55, 0x55], [0xEB, 0x00, 0x00], [0xEA, 0x55, 0x55], [0xEA, 0x00, 0x00],
+                 [0xEA, 0x55], [0xEC, 0x55], [0xEA, 0x55, 0x55, 0x55], [0xEB, 0x00], [0xEB, 0x01], [0xEB, 0x54], [0xEB, 0x5E], [0xEB, 0xAA], [0xEB, 0xD5],
+                 [0xEB, 0xFF]):
+        s.send(0x80, data)
+    s.curve_all()
+    s.title("EB: clears one channel, and it reads 00; numbers that come then are its first")
+    for value, mode in ((0x56, 0x01), (0x58, 0x05), (0x59, 0x08)):
+        s.send(0x80, [0xEB, value])
+        s.register(0xEB)
+        s.send(0x81, [0xEB, 0x01])
+        s.curve_all()
+        s.send(0x84, curve_data(mode, range(value, value + 2)))
+        s.curve_all()
+    s.title("EB: clears all channels, also where they have nothing")
+    for _ in range(2):
+        s.send(0x80, [0xEB, 0x55])
+        s.send(0x81, [0xEA, 0x03])
+        s.curve_all()
+    s.send(0x84, curve_data(0xFF, range(8)))
+    s.curve_all()
+
+
 def checks(s):
     s.title("bad checks, and a good frame inside one")
     for command in (0x81, 0x82, 0x00):
         s.send_bad(command, [0x00, 0x01])
+    s.send_bad(0x84, [0x01, 0x00, 0x01])
+    s.send_bad(0x80, [0xEB, 0x55])
     inner = model.frame(s.panel.setup, 0x81, [0x03, 0x02])
     s.send_bad(0x82, b"\x00\x20" + inner + b"\x00")
     s.send_bad(0x82, b"\x00\x20" + inner * 3 + inner[:5])
@@ -297,8 +371,8 @@ def commands(s):
     for flags in range(4):
         s.start(NOTHING_WRONG._replace(flags=flags), b"")
         s.title(f"commands with flags {flags}")
-        s.lend(28672, 265)
-        for group in (lengths, register_writes, register_reads, word_calls):
+        s.lend()
+        for group in (lengths, register_writes, register_reads, word_calls, curve_calls):
             group(s)
         if s.panel.setup.checking:
             checks(s)
@@ -310,15 +384,21 @@ def commands(s):
         s.send(0x83, [0, 5, 2])
 
 
+# Words, curve words and room, right or wrong.
+LENT = ((28671, 8192, 265), (28673, 8192, 265), (28672, 8192, 264), (28671, 8192, 264), (0, 0, 0), (28672, 8192, 0),
+        *((28672, curves, 265) for curves in (0, 1, 1024, 8191, 8193, 8200)), (28671, 8191, 265), (28672, 8191, 264), (8192, 8192, 265),
+        (28672, 8192, 300), (28672, 8192, 266), (28672, 8192, 265))
+
+
 def lent(s):
     for flags in (0, 3):
         s.start(NOTHING_WRONG._replace(flags=flags), b"")
         s.title(f"asking, lent too little, flags {flags}")
-        for waits in ("nothing", "a read", "a bad check", "an unknown command", "a write"):
+        for waits in ("nothing", "a read", "a bad check", "an unknown command", "a write", "a curve frame", "a clear"):
             if waits == "a bad check" and not s.panel.setup.checking:
                 continue
             s.title(f"{waits} waits")
-            for words, room in ((28671, 265), (28673, 265), (28672, 264), (28671, 264), (0, 0), (28672, 0), (28672, 300), (28672, 266), (28672, 265)):
+            for words, curves, room in LENT:
                 if waits == "a read":
                     s.send(0x81, [0, 13], ask=False)
                 elif waits == "a bad check":
@@ -327,13 +407,20 @@ def lent(s):
                     s.send(0x77, [0, 13], ask=False)
                 elif waits == "a write":
                     s.send(0x82, [0, 9, words % 256, room % 256], ask=False)
-                s.lend(words, room)
+                elif waits == "a curve frame":
+                    s.send(0x84, curve_data(0x81, (curves, room)), ask=False)
+                elif waits == "a clear":
+                    s.send(0x84, curve_data(0x01, (1, 2, 3)))
+                    s.send(0x80, [0xEB, 0x56], ask=False)
+                s.lend(words, curves, room)
                 s.ask()
+                s.curve(0)
                 s.lend()
                 s.ask_all()
                 s.mark()
                 s.ask_all()
                 s.word(9)
+                s.curve(0)
 
 
 def waiting(s):
@@ -348,7 +435,9 @@ def waiting(s):
         s.contact(900, 900)
         s.lift()
         s.title("contact: 14 before 1, 1 before 12 and 13")
-        s.lend(28671, 265)
+        s.lend(words=28671)
+        s.contact(150, 100)
+        s.lend(curves=0)
         s.contact(150, 100)
         s.lend()
         for table in (b"\0", WRONG):
@@ -407,12 +496,21 @@ def refused_contacts(s):
                     s.contact(x, y)
                     if not down:
                         s.lift()
-            s.lend(28671, 265)
+            s.lend(words=28671)
             s.contact(800, 480)
-            s.lend(28673, 265)
+            s.lend(words=28673)
             s.contact(150, 100)
             s.lend()
             s.all()
+    s.title("contact: 14 is not for the curve area, which is not lent there")
+    s.send(0x80, [0x0B, 0x01])
+    s.lend_table(good)
+    for x, curves in ((150, 0), (151, 1024), (152, 8191), (153, 8200)):
+        s.lend(curves=curves)
+        s.contact(x, 100)
+        s.word(0x10)
+    s.lend()
+    s.send(0x80, [0x0B, 0x00])
     s.title("lift with touch off")
     s.lift()
     s.lift()
@@ -520,6 +618,11 @@ def catching(s):
     s.send(0x82, [0, 0x10, 0x11, 0x11])
     s.send(0x83, [0, 0x10, 1])
     moved(190)
+    s.send(0x84, curve_data(0x01, (1, 2)))
+    s.send(0x84, [0x00])
+    s.send(0x80, [0xEB, 0x55])
+    s.send(0x80, [0xEB, 0x00])
+    moved(195)
     s.lift()
     for data in ([0x03, 0, 0], [0x03, 0, 7], [0x03, 0, 7], [0x02, 1, 0, 0], [0x01, 0x3F, 0, 0, 0, 0], [0x03, 0, 0, 0x5A]):
         s.title(f"dropped by the page write{spelled(data)}")
@@ -613,7 +716,142 @@ def limits(s):
     s.ask_all()
 
 
-GROUPS = (limits, starts, commands, lent, waiting, refused_contacts, acting, catching, reading)
+# ---- Curves
+
+SOME_MODES = (0x01, 0x02, 0x04, 0x08, 0x10, 0x20, 0x40, 0x80, 0x03, 0x07, 0x0F, 0x1F, 0x3F, 0x7F, 0xFF, 0x45, 0x83, 0xAA)
+
+
+def fill(s, mode, first, count):
+    """Numbers first, first + 1, .. in frames as long as they may be; the count is one of each channel's."""
+    most = (model.data_limit(s.panel.setup) - 1) // 2 // len(model.named_by(mode)) * len(model.named_by(mode))
+    numbers = range(first, first + count * len(model.named_by(mode)))
+    for at in range(0, len(numbers), most):
+        s.send_once(0x84, curve_data(mode, numbers[at:at + most]))
+
+
+def filling(s):
+    for flags, channel in ((1, 3), (0, 7)):
+        s.start(NOTHING_WRONG._replace(flags=flags), b"")
+        s.title(f"1,023, 1,024, 1,025 and 3,000 numbers of channel {channel}, flags {flags}")
+        had = 0
+        for count in (1023, 1024, 1025, 3000):
+            fill(s, 1 << channel, had, count - had)
+            s.curve(channel)
+            had = count
+        s.title("cleared, and filled past the end by one frame")
+        s.send(0x80, [0xEB, 0x56 + channel])
+        s.curve(channel)
+        fill(s, 1 << channel, 0x4000, 1000)
+        s.curve(channel)
+        s.send(0x84, curve_data(1 << channel, range(0x5000, 0x5000 + 100)))
+        s.curve(channel)
+        for n in range(CHANNELS):
+            if n != channel:
+                s.curve(n)
+    s.title("all channels, some of them full")
+    fill(s, 0xFF, 0x6000, 30)
+    s.curve_all()
+    fill(s, 0x25, 0x9000, 1000)
+    s.curve_all()
+    s.title("refused frames and writes while channels are full")
+    for data in (b"", b"\x00\x00\x01", b"\xA5", curve_data(0xA5, range(126)), curve_data(0xFF, range(124)), curve_data(0x80, range(3)) + b"\x00"):
+        s.send(0x84, data)
+    for data in ([0xEB, 0x00], [0xEB, 0x5E], [0xEB, 0x55, 0x55]):
+        s.send(0x80, data)
+    for n in (0, 1, 2, 5, 7):
+        s.curve(n)
+
+
+def all_full(s):
+    s.start(NOTHING_WRONG, b"")
+    s.title("all channels full, then frames of all and of two")
+    fill(s, 0xFF, 0, KEPT)
+    s.curve_all()
+    for mode in (0xFF, 0x81, 0x42):
+        s.send(0x84, curve_data(mode, range(0xA000, 0xA000 + 2 * len(model.named_by(mode)))))
+        s.curve(8)
+    s.curve(0)
+    s.curve(4)
+    s.curve(6)
+    s.title("each channel cleared, the others stay")
+    for value in (0x5D, 0x56, 0x59, 0x57, 0x5C, 0x5A, 0x58):
+        s.send(0x80, [0xEB, value])
+        s.curve(value - 0x56)
+    s.curve(5)
+    s.send(0x80, [0xEB, 0x5B])
+    s.curve_all()
+
+
+def each_cleared(s):
+    s.start(NOTHING_WRONG._replace(flags=3), b"")
+    s.title("each channel cleared by itself, each with other counts; then all")
+    for value in (*range(0x56, 0x5E), 0x55):
+        for n in range(CHANNELS):
+            s.send_once(0x84, curve_data(1 << n, range(n * 256, n * 256 + n + 1)))
+        s.send(0x80, [0xEB, value])
+        s.register(0xEB)
+        s.curve_all()
+
+
+def every_mode(s):
+    s.start(NOTHING_WRONG._replace(flags=0), b"")
+    s.title("each mode, data of few lengths; one round and two, and a byte or two too many")
+    number = 0
+    for mode in range(256):
+        s.send_once(0x80, [0xEB, 0x55])
+        named = model.named_by(mode)
+        each = 2 * len(named)
+        for length in sorted({1, 2, 3, *((1 + each, 2 + each, 3 + each, 1 + 2 * each) if each else ())}):
+            s.send_once(0x84, curve_data(mode, range(number, number + 20))[:length])
+            number = (number + 20) % 60000
+        for n in sorted({named[0], named[-1]} if named else {8}):
+            s.curve(n)
+    for flags in (0, 1):
+        s.start(NOTHING_WRONG._replace(flags=flags), b"")
+        s.title(f"some modes, data of nearly the greatest length, flags {flags}")
+        for mode in SOME_MODES:
+            s.send_once(0x80, [0xEB, 0x55])
+            each, limit = 2 * len(model.named_by(mode)), model.data_limit(s.panel.setup)
+            for length in sorted({1 + (limit - 1) // each * each, limit - 1, limit}):
+                s.send_once(0x84, curve_data(mode, range(1, 128))[:length])
+            s.curve(model.named_by(mode)[-1])
+
+
+def exchanged(s):
+    s.start(NOTHING_WRONG, b"")
+    s.title("the area is exchanged between asks: words below the count, past it, of another channel, past the area")
+    s.send(0x84, curve_data(0x20, range(1, 6)))
+    for address in (5 * KEPT, 5 * KEPT + 4, 5 * KEPT + 5, 5 * KEPT + 6, 6 * KEPT, 6 * KEPT - 1, 8191, 8192, 8199, 8200, 0xFFFF):
+        s.set_curve(address, address ^ 0x5555)
+    s.curve(5)
+    s.send(0x84, curve_data(0x20, (0x0101, 0x0202)))
+    s.curve(5)
+    s.title("and where the channel is full")
+    fill(s, 0x20, 0x1000, KEPT)
+    for address in (5 * KEPT, 5 * KEPT + 1, 5 * KEPT + 2, 6 * KEPT - 1, 6 * KEPT, 5 * KEPT - 1):
+        s.set_curve(address, address ^ 0xAAAA)
+    s.send(0x84, curve_data(0x60, (0x0303, 0x0404, 0x0505, 0x0606)))
+    s.curve(5)
+    s.curve(6)
+    s.title("asks that hand over nothing, a bad check or another command leave it")
+    s.ask()
+    s.send_bad(0x84, curve_data(0xFF, range(8)))
+    s.send(0x82, [0, 9, 1, 2])
+    s.send(0x81, [0xEB, 1])
+    s.curve(6)
+    s.title("a refused start leaves the counts, another panel has none; the words stay")
+    s.start(NOTHING_WRONG._replace(flags=4), b"")
+    s.curve(6)
+    s.start(NOTHING_WRONG._replace(flags=2), b"")
+    s.curve_all()
+    s.send(0x84, curve_data(0x20, (7,)))
+    s.curve(5)
+    s.title("channels that there are not")
+    for channel in (7, 8, 9, 0x7F, 0x80, 0xFF):
+        s.curve(channel)
+
+
+GROUPS = (limits, starts, commands, lent, waiting, refused_contacts, acting, catching, reading, filling, all_full, each_cleared, every_mode, exchanged)
 
 
 def fixed():
@@ -661,14 +899,31 @@ def some_table(r):
     return table + r.choice((b"",) * 12 + (END, END + WRONG, b"\0"))
 
 
+def some_clear(r):
+    """A write of EB, mostly of a value that it takes."""
+    value = r.choice((0x55, r.randrange(0x56, 0x5E), r.randrange(0x56, 0x5E), r.randrange(0x56, 0x5E), 0x00, 0x54, 0x5E, r.randrange(256)))
+    return r.choice(([0xEB, value],) * 9 + ([0xEB, value, value], [0xEA, value, value]))
+
+
+def some_curve_data(r):
+    """Mostly whole rounds of a few channels; any setup's frame holds it."""
+    mode = r.choice((0x01, 0x02, 0x80, 0x81, 0x45, 0x83, 0xFF, r.randrange(256), r.randrange(256), 0x00))
+    each = 2 * len(model.named_by(mode))
+    most = 251 // each if each else 1
+    data = bytes([mode]) + r.randbytes(each * r.choice((1, 1, 1, 2, 3, most, r.randint(1, most))))
+    return r.choice((data,) * 8 + (data[:-1], data[:-2], (data + b"\x01")[:252], (data + b"\x01\x02")[:252], data[:1], b""))
+
+
 def some_data(r, command):
     if command == 0x80:
         return r.choice((
             [0x05, r.choice((0, 0x5A))], [0x0B, r.choice((0, 1, 1, 1))], [0x03, 0, r.choice((0, 0, 1, 1, 2, 3))], [0x01, r.randrange(0x44)],
             [0x01, r.randrange(0x44), r.randrange(256), 0, r.randrange(4), r.choice((0, 0x5A))],
-            [r.randrange(0x0D)] + [r.randrange(256) for _ in range(r.randrange(6))], [0xFF, 1, 1]))
+            [r.randrange(0x0D)] + [r.randrange(256) for _ in range(r.randrange(6))], [0xFF, 1, 1], some_clear(r), some_clear(r)))
     if command == 0x81:
-        return [r.choice((0, 3, 5, r.randrange(256))), r.choice((0, 2, 6, 13, r.randrange(256)))] + r.choice(([],) * 9 + ([0],))
+        return [r.choice((0, 3, 5, 0xEB, r.randrange(256))), r.choice((0, 1, 2, 6, 13, r.randrange(256)))] + r.choice(([],) * 9 + ([0],))
+    if command == 0x84:
+        return some_curve_data(r)
     address = two(r.choice((0x10, 0x11, 0x0F, 0x6FFE, 0x6FFF, 0x7000, r.randrange(65536))))
     if command == 0x82:
         return address + bytes(r.randrange(256) for _ in range(r.choice((0, 1, 2, 2, 2, 4, 4, 6, 7, 100, 248))))
@@ -678,7 +933,7 @@ def some_data(r, command):
 
 
 def some_frame(s, r):
-    command = r.choice((0x80, 0x80, 0x80, 0x81, 0x82, 0x82, 0x83, 0x83, r.randrange(256)))
+    command = r.choice((0x80, 0x80, 0x80, 0x81, 0x82, 0x82, 0x83, 0x83, 0x84, 0x84, 0x84, r.randrange(256)))
     b = bytearray(model.frame(s.panel.setup, command, bytes(some_data(r, command))))
     what = r.random()
     if what < 0.06:
@@ -730,16 +985,27 @@ def draw_session(s, r):
         elif what < 0.86:
             s.byte(r.choice((0, 0x5A, 0xA5, 0xFF, 3, r.randrange(256))))
         elif what < 0.88:
-            s.lend(r.choice((28671, 28672, 28672)), r.choice((264, 265, 300)))
+            s.lend(r.choice((28671, 28672, 28672)), r.choice((0, 1024, 8191, 8192, 8192, 8192, 8193)), r.choice((264, 265, 300)))
             s.ask()
             s.contact(r.randrange(320), r.randrange(270))
             s.lend()
         elif what < 0.90:
             s.set_word(r.choice((0x10, 0x11, 0x12)), r.randrange(65536))
+        elif what < 0.93:
+            s.curve(r.choice((r.randrange(CHANNELS), r.randrange(CHANNELS), r.randrange(256))))
+        elif what < 0.94:
+            s.set_curve(r.randrange(ALL_CURVES), r.randrange(65536))
+        elif what < 0.95:
+            s.ask_all()
+            fill(s, r.choice((0x01, 0x02, 0x80)), r.randrange(60000), r.randrange(900, 1100))
+        elif what < 0.97:
+            s.ask_all()
+            s.send(0x80, [0xEB, r.choice((0x55, 0x56, 0x57, 0x5D, r.randrange(0x54, 0x5F)))])
         else:
             s.ask_all()
     s.all()
     s.ask_all()
+    s.curve_all()
 
 
 def main(words):

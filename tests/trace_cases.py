@@ -48,12 +48,18 @@ class Cases(Session):
     def all(self):
         self.send(0x81, [0x00, 0x20])
 
+    def curve(self, channel):
+        """Nothing in a trace shows a curve."""
+
+    def curve_all(self):
+        pass
+
     def show(self, page):
         self.send(0x80, [0x03, *two(page)])
 
 
 def commands(s):
-    for group in (panel_model.lengths, panel_model.register_writes, panel_model.register_reads, panel_model.word_calls, panel_model.checks):
+    for group in (panel_model.lengths, panel_model.register_writes, panel_model.register_reads, panel_model.word_calls, panel_model.curve_calls, panel_model.checks):
         group(s)
     s.send(0x80, [0x0B, 0xFF])
 
@@ -102,6 +108,24 @@ def catches(s):
     s.all()
 
 
+def full_curves(s):
+    """More numbers than the channels keep, of one channel and of all, while words are written and read; a slider is caught meanwhile."""
+    s.show(6)
+    s.contact(150, 100)
+    for mode, each in ((0x10, 125), (0xFF, 15 * 8)):
+        for at in range(0, 10 * each, each):
+            s.send(0x84, model.curve_data(mode, range(at, at + each)))
+        s.send(0x82, b"\x00\x24" + two(mode))
+        s.word(0x24)
+    for value in (*range(0x54, 0x5F), 0x00):
+        s.send(0x80, [0xEB, value])
+        s.register(0xEB)
+    s.contact(200, 100)
+    s.word(0x24)
+    s.lift()
+    s.all()
+
+
 def noisy_line(s):
     good = model.frame(s.setup, 0x83, [0, 0x24, 1])
     for front in (b"\x5A", b"\x5A\xA5", b"\x5A\xA5\x02", b"\x5A\xA5\x40", b"\x5A\xA5\xFF", b"\x5A\xA5\x03\x00", good[:-1], good[:3]):
@@ -123,7 +147,7 @@ def acknowledgements(s):
 
 def session():
     s = Cases(random.Random(1), SETUP, TABLE)
-    for group in (commands, keys_and_steps, sliders, next_pages, catches, noisy_line, acknowledgements):
+    for group in (commands, keys_and_steps, sliders, next_pages, catches, full_curves, noisy_line, acknowledgements):
         group(s)
     s.show(10)
     return bytes(s.trace)

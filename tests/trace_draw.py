@@ -4,7 +4,7 @@ import random
 import limit_records
 import model
 from model import MOST_RECORDS, RECORD, Setup, two
-from panel_model import END, some_data, some_frame, some_point, some_record
+from panel_model import END, some_clear, some_curve_data, some_data, some_frame, some_point, some_record
 from trace_text import BYTE_KIND, CONTACT_KIND, LIFT_KIND, QUIET_KIND, RECORD_KIND, SETUP_KIND, joined, on_line, setup_bytes, split, spoiled
 
 HEADERS = ((0x5A, 0xA5), (0x5A, 0xA5), (0xFF, 0xFF), (0x5A, 0x5A), (0x80, 0x03), (0x00, 0x00), (0x82, 0x82))
@@ -103,7 +103,7 @@ class Session:
     # What stands on the line
 
     def good_frame(self):
-        command = self.r.choice((0x80, 0x81, 0x82, 0x83))
+        command = self.r.choice((0x80, 0x81, 0x82, 0x83, 0x84))
         return model.frame(self.setup, command, bytes(some_data(self.r, command)))
 
     def good_frames(self):
@@ -154,7 +154,21 @@ class Session:
         limit = model.data_limit(self.setup)
         head = self.r.choice((b"\x00\x10", b"\x6F\x83", b"\x6F\x84"))
         data = head + bytes(self.r.randrange(256) for _ in range(limit - 2 - self.r.choice((0, 0, 1, 2))))
-        self.line(model.frame(self.setup, self.r.choice((0x80, 0x82, 0x82, 0x82, 0x99)), data))
+        self.line(model.frame(self.setup, self.r.choice((0x80, 0x82, 0x82, 0x82, 0x84, 0x99)), data))
+
+    def curves(self):
+        """Frames of numbers, good and refused; clears, good and refused; and what EB reads then, alone or with its neighbours."""
+        for _ in range(self.r.randrange(1, 5)):
+            self.send(0x84, some_curve_data(self.r))
+        if self.r.random() < 0.7:
+            self.send(0x80, some_clear(self.r))
+            self.send(0x81, self.r.choice(([0xEB, 1], [0xEA, 3])))
+
+    def full_curve(self):
+        """More numbers than a channel keeps."""
+        mode = self.r.choice((0x01, 0x08, 0x80))
+        for _ in range(model.KEPT // 125 + self.r.randrange(1, 4)):
+            self.send(0x84, bytes([mode]) + self.r.randbytes(250))
 
     def limit_read(self):
         """As long as a reply may be, and longer; up to the end, and past it."""
@@ -237,6 +251,8 @@ class Session:
             lambda: self.send(0x82, [0, 0x10, r.randrange(256), r.randrange(256)]),
             lambda: self.send(0x83, [0, 0x10, 3]),
             lambda: self.send(0x81, [0x00, 0x0D]),
+            lambda: self.send(0x84, some_curve_data(r)),
+            lambda: self.send(0x80, [0xEB, r.choice((0x55, 0x56, 0x5D, 0x5E))]),
             lambda: self.line(spoiled(model.frame(self.setup, 0x80, b"\x03\x00\x00"))),
             lambda: self.contact(self.setup.width, 0),
             self.contact_while_off,
@@ -256,7 +272,7 @@ class Session:
 
     def run(self):
         pieces = {self.frames: 6, self.noisy: 3, self.false_front: 3, self.frames_inside: 3, self.cut_frame: 2, self.echo: 2, self.longest_frame: 1,
-                  self.limit_read: 1, self.quiet: 1, self.touch: 5, self.press: 4, self.drag: 5, self.change_page: 2,
+                  self.curves: 3, self.full_curve: 0.3, self.limit_read: 1, self.quiet: 1, self.touch: 5, self.press: 4, self.drag: 5, self.change_page: 2,
                   self.contact_while_off: 1, self.look_back: 2}
         for piece in self.r.choices(list(pieces), list(pieces.values()), k=self.r.randrange(5, 30)):
             piece()

@@ -40,8 +40,15 @@ RIGHT = [
         "stopped, 15: the trace is wrong: a cut or unknown record, none or two setups, a touch record behind an event"]),
     (USUAL, "F 80 0\nF 80 5\nB 83\nF FF 2\nX 15\n", [
         "accepted: 80, write registers: done", "accepted: 80, write registers: refused, 5: a register that may not be written, or one half of the page",
-        "bad check: 83, read words: nothing is done", "accepted: FF: refused, 2: no such command: there are 80 to 83",
+        "bad check: 83, read words: nothing is done", "accepted: FF: refused, 2: no such command: there are 80 to 84",
         f"stopped, 15: {numbers.MEANINGS[15]}"]),
+    (USUAL, "F 84 0\nO 5A A5 02 84 FF 22 F0\nF 84 3\nO 5A A5 02 84 FF 22 F0\nB 84\nO 5A A5 02 84 00 62 B0\nF 80 6\nO 5A A5 02 80 FF 20 30\nE 0000\n", [
+        "accepted: 84, add to curves: done", "acknowledgement of 84: accepted (FF); check right",
+        "accepted: 84, add to curves: refused, 3: too little or too much data for the command, half a word, or for curves no channel or no whole rounds",
+        "acknowledgement of 84: accepted (FF); check right",
+        "bad check: 84, add to curves: nothing is done", "acknowledgement of 84: bad check (00); check right",
+        "accepted: 80, write registers: refused, 6: a backlight above 3F, a page that there is not, or for EB another value than 55 to 5D",
+        "acknowledgement of 80: accepted (FF); check right", "end: page 0 is shown"]),
     (USUAL, "X 13 2\n", ["stopped, 13: a touch record is wrong: record 2, counted from 0"]),
     (FIRST, "X 13 0\n", ["stopped, 13: a touch record is wrong: record 0, counted from 0: step page=0 area=10,10..100,50 word=0x0010 "
                          "mode=word up stop by=5 least=0 greatest=100"]),
@@ -55,7 +62,10 @@ STRANGE = [
     (USUAL, "F 8a 2\nE 0000\n", 0, "not the program's: no line of the program has this form"),
     (USUAL, "E 0000", 0, "not the program's: it is cut: no line feed ends it"),
     (USUAL, "F 80 7\nE 0000\n", 0, "not the program's: 7 cannot stand here, only 0, 3, 4, 5, 6"),
-    (USUAL, "F 84 0\nE 0000\n", 0, "not the program's: 0 cannot stand here, only 2"),
+    (USUAL, "F 85 0\nE 0000\n", 0, "not the program's: 0 cannot stand here, only 2"),
+    (USUAL, "F 84 2\nE 0000\n", 0, "not the program's: 2 cannot stand here, only 0, 3"),
+    (USUAL, "F 84 4\nE 0000\n", 0, "not the program's: 4 cannot stand here, only 0, 3"),
+    (PLAIN, "F 84 0\nO 5A A5 02 84 01\nE 0000\n", 1, "not the program's: no frame is due here"),
     (USUAL, "T 2\nE 0000\n", 0, "not the program's: 2 cannot stand here, only 0, 8, 9, 10"),
     (FIRST, "T 10\nT 0\nE 0000\n", 0, "not the program's: 10 cannot stand here, only 0, 8, 9"),
     (FIRST, "T 0\nT 0\nT 0\nE 0000\n", 2, "not the program's: the trace has no more than 2 contacts and lifts"),

@@ -15,6 +15,7 @@ class Watched(model.Trace):
         super().__init__()
         self.reached, self.caught, self.page = collections.Counter(), None, 0
         self.sent, self.given = set(), b""      # the acknowledgements, and what has come of the stretch, its last bytes
+        self.history = [0] * model.CHANNELS     # of each channel, how many numbers have come since its last clear
 
     def count(self, what):
         self.reached[what] += 1
@@ -81,6 +82,8 @@ class Watched(model.Trace):
         name = f"{command:02X}" if number != 2 else "any other"
         self.count(f"command {name} {number}" if accepted else "bad check")
         self.behind_echo(handed)
+        if accepted:
+            self.curves_met(command, handed.report.data, number)
         if handed.acknowledged:
             self.sent.add(bytes(self.room[:handed.acknowledged]))
             behind = ", a reply behind it" if handed.replied else ""
@@ -90,6 +93,36 @@ class Watched(model.Trace):
         if self.caught:
             self.catch(self.frame_name(handed))
         self.page, self.caught = self.panel.registers.page, self.panel.caught
+
+    def curves_met(self, command, data, number):
+        """Numbers added, EB written or read, and each refused."""
+        if command == 0x84:
+            self.rounds_met(data, number)
+        elif command == 0x80 and data:
+            self.clear_met(dict(enumerate(data[1:], data[0])).get(0xEB), number)
+        elif command == 0x81 and number == 0 and 0xEB in range(data[0], data[0] + data[1]):
+            self.count("EB read")
+
+    def rounds_met(self, data, number):
+        """What is full is known by the history, which the panel does not keep."""
+        if number:
+            return self.count(f"84 {refused_rounds(data)}")
+        named = model.named_by(data[0])
+        self.count(f"84, channels named: {len(named)}")
+        for n in named:
+            self.history[n] += (len(data) - 1) // 2 // len(named)
+        if any(self.history[n] > model.KEPT for n in named):
+            self.count("84 of a channel that drops its oldest")
+
+    def clear_met(self, value, number):
+        """The value for EB of a register write; None where EB does not stand in its run."""
+        if value is not None and number:
+            self.count(f"EB refused with {number}")
+        elif value is not None:
+            self.count("EB done: all" if value == 0x55 else "EB done: one channel")
+            if any(count for n, count in enumerate(self.history) if value in (0x55, 0x56 + n)):
+                self.count("EB done: a channel had numbers")
+            self.history = [0 if value in (0x55, 0x56 + n) else count for n, count in enumerate(self.history)]
 
     def behind_echo(self, handed):
         """A frame that is accepted right where an acknowledgement of ours has come back."""
@@ -104,13 +137,24 @@ class Watched(model.Trace):
         if handed.number:
             return "refused register write" if handed.report.command == 0x80 else "refused frame"
         if handed.report.command != 0x80:
-            return {0x81: "register read", 0x82: "word write", 0x83: "word read"}[handed.report.command]
+            return {0x81: "register read", 0x82: "word write", 0x83: "word read", 0x84: "curve frame"}[handed.report.command]
         if self.panel.caught:
             return "register write"
         return f"page write, {'the same' if self.page == self.panel.registers.page else 'another'} page"
 
     def catch(self, by):
         self.count(f"catch {'kept' if self.panel.caught else 'dropped'}: {by}")
+
+
+def refused_rounds(data):
+    """Why 84 was refused with 3."""
+    if not data:
+        return "without a mode byte"
+    if data[0] == 0x00:
+        return "of no channel"
+    if len(data) == 1:
+        return "without a round"
+    return "with an odd byte" if len(data) % 2 == 0 else "with an unfinished round"
 
 
 def watched(trace):
@@ -141,7 +185,7 @@ def watched_seed(seed):
 
 # ---- What a run of some hundred traces must reach. 1 and 14 cannot come about in a trace.
 
-NUMBERS = {"80": (0, 3, 4, 5, 6), "81": (0, 3, 4, 7), "82": (0, 3, 4), "83": (0, 3, 4, 7), "any other": (2,)}
+NUMBERS = {"80": (0, 3, 4, 5, 6), "81": (0, 3, 4, 7), "82": (0, 3, 4), "83": (0, 3, 4, 7), "84": (0, 3), "any other": (2,)}
 SLIDER_MODES = ("00", "01", "10", "11", "20", "21")
 
 REQUIRED = [
@@ -149,6 +193,9 @@ REQUIRED = [
     *(f"started: checking {a}, acknowledging {b}" for a in ("on", "off") for b in ("on", "off")),
     "started: header FF FF", "started: H1 equal to H2, not FF", "started: 128 records",
     *(f"command {name} {number}" for name, numbers in NUMBERS.items() for number in numbers),
+    *(f"84, channels named: {count}" for count in range(1, model.CHANNELS + 1)), "84 of a channel that drops its oldest",
+    *(f"84 {why}" for why in ("without a mode byte", "of no channel", "without a round", "with an odd byte", "with an unfinished round")),
+    "EB done: all", "EB done: one channel", "EB done: a channel had numbers", "EB refused with 5", "EB refused with 6", "EB read",
     "bad check", "frame of the longest data", "input past 64 KiB", "output past 64 KiB",
     "several reports after one byte", "several reports after one quiet mark", "good frame inside a bad check",
     "acknowledgement FF", "acknowledgement FF, a reply behind it", "acknowledgement FF, refused", "acknowledgement 00",
@@ -160,5 +207,5 @@ REQUIRED = [
     "catch dropped: lift", "catch dropped: page write, the same page", "catch dropped: page write, another page",
     *(f"catch kept: {what}" for what in (
         "dragged in its area", "dragged off its area", "contact off the screen", "touch off", "quiet mark", "bad check", "register write",
-        "refused register write", "refused frame", "register read", "word read", "word write")),
+        "refused register write", "refused frame", "register read", "word read", "word write", "curve frame")),
 ]

@@ -33,6 +33,20 @@ def frames(r):
         line += pair
 
 
+def curve_frames(r):
+    """Numbers for any channels, with a clear of one now and then: whole frames, as many as SIZE holds."""
+    line = bytearray()
+    while True:
+        mode = r.randrange(1, 256)
+        numbers = r.randbytes(240 // (2 * mode.bit_count()) * 2 * mode.bit_count())
+        frame = model.frame(SETUP, 0x84, bytes([mode]) + numbers)
+        if r.randrange(64) == 0:
+            frame += model.frame(SETUP, 0x80, bytes([0xEB, 0x56 + r.randrange(8)]))
+        if len(line) + len(frame) > SIZE:
+            return bytes(line)
+        line += frame
+
+
 def noise(r):
     return r.randbytes(SIZE)
 
@@ -105,7 +119,8 @@ def main(ours, plain, folder):
     ours, plain = Program(ours, folder), Program(plain, folder)
     starts = least_times((ours, plain), stored(folder, "start", b""))
     good = on_line(frames(r))
-    for name, events in (("frames", good), ("noise", on_line(noise(r))), ("header pairs", on_line(header_pairs(r)))):
+    for name, events in (("frames", good), ("noise", on_line(noise(r))), ("header pairs", on_line(header_pairs(r))),
+                         ("curve frames", on_line(curve_frames(r)))):
         measure(name, stored(folder, name.replace(" ", "-"), events), ours, plain, starts)
     for times in (1, 8):
         path = stored(folder, "memory", good * times)

@@ -1,4 +1,4 @@
-/* The trace program of 01 as one would write it in plain C: state in place, a lookup for hex, reads and writes of 64 KiB. It prints what the
+/* The trace program of 01, with the trend curves of 02, as one would write it in plain C: state in place, a lookup for hex, reads and writes of 64 KiB. It prints what the
    proved program prints, and is what bench/trace/run measures that against. The reader of the line is bench/line/plain.h. No headers: the
    kit's clang has none. */
 #include "../line/plain.h"
@@ -11,15 +11,17 @@ long write(int, const void *, unsigned long);
 void *memcpy(void *, const void *, unsigned long);
 int memcmp(const void *, const void *, unsigned long);
 
-enum { WORDS = 28672, RECORD = 32, MOST_RECORDS = 128, CHUNK = 1 << 16 };
+enum { WORDS = 28672, CHANNELS = 8, CHANNEL = 1024, RECORD = 32, MOST_RECORDS = 128, CHUNK = 1 << 16 };
 enum { KEY = 0xFE05, STEP = 0xFE02, SLIDER = 0xFE03 };
-enum { BACKLIGHT = 1, BUZZER = 2, PAGE = 3, FLAG = 5, STATUS = 6, PLACE = 7, ENABLE = 0x0B };
+enum { BACKLIGHT = 1, BUZZER = 2, PAGE = 3, FLAG = 5, STATUS = 6, PLACE = 7, ENABLE = 0x0B, CLEAR = 0xEB };
 
 static struct { u8 h1, h2, flags; unsigned pages, width, height; } setup;
 static int checking, acknowledging, has_setup, has_started, has_caught;
 static u8 table[(MOST_RECORDS + 1) * RECORD], caught[RECORD], registers[256];
 static unsigned long records;
 static u16 words[WORDS];
+u16 curves[CHANNELS * CHANNEL]; /* not static: no line shows it, and yet it is kept */
+static unsigned counts[CHANNELS];
 static plain_reader reader;
 
 static unsigned word_at(const u8 *b, unsigned at) { return b[at] * 256u + b[at + 1]; }
@@ -101,7 +103,7 @@ static void acknowledge(u8 command, u8 verdict) {
 
 /* ---- Commands */
 
-static int is_writable(unsigned r) { return (r >= BACKLIGHT && r <= FLAG) || r == ENABLE; }
+static int is_writable(unsigned r) { return (r >= BACKLIGHT && r <= FLAG) || r == ENABLE || r == CLEAR; }
 
 static unsigned judge_register_write(unsigned address, const u8 *data, unsigned n) {
     int high = address <= PAGE && PAGE < address + n, low = address <= PAGE + 1 && PAGE + 1 < address + n;
@@ -110,12 +112,25 @@ static unsigned judge_register_write(unsigned address, const u8 *data, unsigned 
     if (high != low) return 5;
     if (address <= BACKLIGHT && BACKLIGHT < address + n && data[BACKLIGHT - address] > 0x3F) return 6;
     if (high && word_at(data, PAGE - address) >= setup.pages) return 6;
+    if (address <= CLEAR && CLEAR < address + n && (data[CLEAR - address] < 0x55 || data[CLEAR - address] > 0x5D)) return 6;
     return 0;
+}
+
+static unsigned named_by(u8 mode) {
+    unsigned size = 0;
+    for (unsigned channel = 0; channel < CHANNELS; channel++) size += mode >> channel & 1;
+    return size;
+}
+
+static unsigned judge_rounds(const u8 *data, unsigned n) {
+    unsigned size = n ? named_by(data[0]) : 0;
+    return !size || n == 1 || (n - 1) % (2 * size) ? 3 : 0;
 }
 
 static unsigned judge_command(u8 command, const u8 *data, unsigned n) {
     unsigned address, count, item = command & 2 ? 2 : 1, over = checking ? 3 : 1;
-    if (command < 0x80 || command > 0x83) return 2;
+    if (command < 0x80 || command > 0x84) return 2;
+    if (command == 0x84) return judge_rounds(data, n);
     if (command == 0x80 ? n < 2 : command == 0x81 ? n != 2 : command == 0x82 ? n < 4 || n % 2 : n != 3) return 3;
     address = item == 1 ? data[0] : word_at(data, 0);
     count = command & 1 ? data[n - 1] : (n - item) / item;
@@ -128,11 +143,31 @@ static unsigned judge_command(u8 command, const u8 *data, unsigned n) {
 static void write_registers(const u8 *data, unsigned n) {
     memcpy(registers + data[0], data + 1, n - 1);
     if (data[0] <= PAGE && PAGE < data[0] + n - 1) has_caught = 0;
+    if (data[0] > CLEAR || CLEAR >= data[0] + n - 1) return;
+    for (unsigned channel = 0; channel < CHANNELS; channel++)
+        if (registers[CLEAR] == 0x55 || registers[CLEAR] == 0x56 + channel) counts[channel] = 0;
+    registers[CLEAR] = 0;
 }
 
 static void write_words(const u8 *data, unsigned n) {
     u16 *to = words + word_at(data, 0);
     for (unsigned i = 2; i < n; i += 2) *to++ = (u16)word_at(data, i);
+}
+
+/* Adds the numbers at one place of the rounds to a channel, which moves down once where it is too full for them. */
+static void add_numbers(unsigned channel, const u8 *numbers, unsigned rounds, unsigned size) {
+    u16 *part = curves + channel * CHANNEL;
+    unsigned has = counts[channel], gone = has + rounds > CHANNEL ? has + rounds - CHANNEL : 0;
+    memmove(part, part + gone, (has - gone) * sizeof *part);
+    part += has - gone;
+    for (unsigned i = 0; i < rounds; i++) part[i] = (u16)word_at(numbers, 2 * size * i);
+    counts[channel] = has - gone + rounds;
+}
+
+static void add_rounds(const u8 *data, unsigned n) {
+    unsigned size = named_by(data[0]), place = 0;
+    for (unsigned channel = 0; channel < CHANNELS; channel++)
+        if (data[0] >> channel & 1) add_numbers(channel, data + 1 + 2 * place++, (n - 1) / (2 * size), size);
 }
 
 static void reply(u8 command, const u8 *data, unsigned n) {
@@ -166,6 +201,8 @@ static void accepted(const plain_report *p) {
         write_registers(p->data, p->len);
     else if (p->command == 0x82)
         write_words(p->data, p->len);
+    else if (p->command == 0x84)
+        add_rounds(p->data, p->len);
     else
         reply(p->command, p->data, p->len);
 }

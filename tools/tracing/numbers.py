@@ -3,11 +3,11 @@
 MEANINGS = {
     0: "done",
     1: "a report waits and has to be asked for first",
-    2: "no such command: there are 80 to 83",
-    3: "too little or too much data for the command, or half a word",
+    2: "no such command: there are 80 to 84",
+    3: "too little or too much data for the command, half a word, or for curves no channel or no whole rounds",
     4: "the address, or the run from it, goes past the last register or word",
     5: "a register that may not be written, or one half of the page",
-    6: "a backlight above 3F, or a page that there is not",
+    6: "a backlight above 3F, a page that there is not, or for EB another value than 55 to 5D",
     7: "the reply would not fit into one frame",
     8: "off the screen",
     9: "touch is switched off",
@@ -15,11 +15,11 @@ MEANINGS = {
     11: "the setup is wrong",
     12: "the table has more than 128 records, or ends within one",
     13: "a touch record is wrong",
-    14: "the words lent are not 28,672, or the room lent has less than 265 bytes",
+    14: "the words lent are not 28,672, the curve words lent not 8,192, or the room lent has less than 265 bytes",
     15: "the trace is wrong: a cut or unknown record, none or two setups, a touch record behind an event",
 }
-COMMANDS = {0x80: "write registers", 0x81: "read registers", 0x82: "write words", 0x83: "read words"}
-OF_COMMAND = {0x80: (0, 3, 4, 5, 6), 0x81: (0, 3, 4, 7), 0x82: (0, 3, 4), 0x83: (0, 3, 4, 7)}
+COMMANDS = {0x80: "write registers", 0x81: "read registers", 0x82: "write words", 0x83: "read words", 0x84: "add to curves"}
+OF_COMMAND = {0x80: (0, 3, 4, 5, 6), 0x81: (0, 3, 4, 7), 0x82: (0, 3, 4), 0x83: (0, 3, 4, 7), 0x84: (0, 3)}
 OF_ANOTHER_COMMAND = (2,)
 OF_CONTACT = (0, 8, 9)
 OF_LIFT = (0, 10)

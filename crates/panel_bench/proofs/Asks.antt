@@ -14,14 +14,14 @@ use Rattle.line.specs.declared.Asked.{Asked}
 use Rattle.line.specs.State.{rulesFor, readerOf}
 use Rattle.line.specs.Methods.{busy, asked}
 use Rattle.line.proofs.Carried.{waiting-is, ask-carried}
-use Rattle.commands.specs.Lent.{Lent, lending}
+use Rattle.commands.specs.Lent.{Lent}
 use Rattle.panel.specs.declared.Panel.{Panel}
 use Rattle.panel.specs.Start.{started}
 use Rattle.panel.specs.Inputs.{fedByte}
-use Rattle.panel.specs.Reporting.{enough, wellLent, handing, reporting}
+use Rattle.panel.specs.Reporting.{wellLent, handing, reporting}
 use Rattle.panel.specs.Sound.{lineOf}
 use Rattle.panel.proofs.Soundness.{report-sound}
-use Rattle.panel.proofs.Lengths.{reported-words-long, reported-room-long}
+use Rattle.panel.proofs.Lengths.{reported-words-long, reported-area-long, reported-room-long}
 use Rattle.panel_bench.specs.Inner.{Ready}
 use Rattle.panel_bench.specs.Stream.{weightOf, Running, runs, askedFor, askedAll, streaming, benchSetup, sums, endOf, streamed}
 
@@ -47,11 +47,9 @@ module _ (lent : Lent) (badly : wellLent lent ≡ false) where
   stuck-stream panel (b ∷ bytes) =
       ap (λ (now : Running). endOf (streaming now bytes)) (stuck-all longestFrame (fedByte panel b .panel)) ∙ stuck-stream (fedByte panel b .panel) bytes
 
-pub none-streamed : (bytes words room : List ℕ) (b : Bool) → b ≡ enough (length words) (length room) → not b ≡ true
-    → sums 0 (lending words room) ≡ streamed bytes (lending words room)
+pub none-streamed : (bytes : List ℕ) (lent : Lent) (b : Bool) → b ≡ wellLent lent → not b ≡ true → sums 0 lent ≡ streamed bytes lent
 unfolding streamed
-none-streamed bytes words room b is badly =
-    sym (stuck-stream (lending words room) (sym is ∙ not-true b badly) (started benchSetup [] .panel) bytes)
+none-streamed bytes lent b is badly = sym (stuck-stream lent (sym is ∙ not-true b badly) (started benchSetup [] .panel) bytes)
 
 -- ---- A report that waits is handed over, and leaves fewer bytes
 
@@ -70,7 +68,7 @@ unfolding askedFor
 asked-ready now ready =
     record {
       sound = report-sound (now .panel) (ready .sound) (now .lent);
-      lent = rw (reported-words-long (now .panel) (now .lent), reported-room-long (now .panel) (now .lent)) (ready .lent);
+      lent = rw (reported-words-long (now .panel) (now .lent), reported-area-long (now .panel) (now .lent), reported-room-long (now .panel) (now .lent)) (ready .lent);
     }
 
 pub asked-fewer : (now : Running) → Ready now → busy (now .panel .reader) ≡ true → keptBy (askedFor now) < keptBy now

@@ -20,7 +20,7 @@ use Rattle.line.proofs.Carried.{waiting-is, reached-new}
 use Rattle.touch.specs.declared.Setup.{Setup}
 use Rattle.touch.specs.Table.{recordsFrom, firstOf}
 use Rattle.touch.specs.Judge.{judged}
-use Rattle.commands.specs.Lent.{Lent, lending}
+use Rattle.commands.specs.Lent.{Lent}
 use Rattle.panel.specs.declared.Panel.{Panel}
 use Rattle.panel.specs.declared.FedBytes.{FedBytes}
 use Rattle.panel.specs.declared.Reported.{Reported}
@@ -28,7 +28,7 @@ use Rattle.panel.specs.declared.Start.{Start}
 use Rattle.panel.specs.declared.StartAnswer.the-variants.{Started}
 use Rattle.panel.specs.Start.{newPanel, started, startJudged}
 use Rattle.panel.specs.Inputs.{fedByte, fedBytes}
-use Rattle.panel.specs.Reporting.{enough, Reporting, reports, reporting}
+use Rattle.panel.specs.Reporting.{wellLent, Reporting, reports, reporting}
 use Rattle.panel.specs.Sound.{lineOf, Sound}
 use Rattle.panel.proofs.Soundness.{new-sound, bytes-sound}
 use Rattle.panel_bench.specs.Inner.{Ready, flow}
@@ -110,19 +110,19 @@ starts-quiet =
     ∙ waiting-is (lineOf benchSetup) fresh (reached-new (lineOf benchSetup))
     ∙ quiet-nil (rulesFor (lineOf benchSetup)) false
 
-module _ (input words room : List ℕ) (setup : Setup) (begun : Start) (is-setup : setup ≡ benchSetup) (is-begun : begun ≡ started setup (take (0 - 0) (drop 0 input))) where
+module _ (input : List ℕ) (lent : Lent) (setup : Setup) (begun : Start) (is-setup : setup ≡ benchSetup) (is-begun : begun ≡ started setup (take (0 - 0) (drop 0 input))) where
   panel-is : begun .panel ≡ started benchSetup [] .panel
   panel-is = ap (λ (s : Start). s .panel) is-begun ∙ ap (λ (s : Setup). started s [] .panel) is-setup
 
-  pub ready-new : (b : Bool) → b ≡ enough (length words) (length room) → not b ≡ false → Ready (runs (begun .panel) (lending words room) 0)
+  pub ready-new : (b : Bool) → b ≡ wellLent lent → not b ≡ false → Ready (runs (begun .panel) lent 0)
   ready-new b is well = record { sound = subst Sound (sym panel-is) starts-sound; lent = sym is ∙ not-false b well }
 
-  pub all-streamed : (r : ℕ) (left : Lent) → sums r left ≡ endOf (flow (runs (begun .panel) (lending words room) 0) input) → sums r left ≡ streamed input (lending words room)
+  pub all-streamed : (r : ℕ) (left : Lent) → sums r left ≡ endOf (flow (runs (begun .panel) lent 0) input) → sums r left ≡ streamed input lent
   unfolding flow streamed
   all-streamed r left is =
       is
-      ∙ ap (λ (panel : Panel). endOf (flow (runs panel (lending words room) 0) input)) panel-is
-      ∙ ap (λ (now : Running). endOf (streaming now input)) (none-asked longestFrame (runs (started benchSetup [] .panel) (lending words room) 0) starts-quiet)
+      ∙ ap (λ (panel : Panel). endOf (flow (runs panel lent 0) input)) panel-is
+      ∙ ap (λ (now : Running). endOf (streaming now input)) (none-asked longestFrame (runs (started benchSetup [] .panel) lent 0) starts-quiet)
 
 pub flowing-new : (input : List ℕ) (panel : Panel) (lent : Lent) → Ready (runs panel lent 0) → Bytes input → Flowing input (endOf (flow (runs panel lent 0) input)) panel lent 0 0
 flowing-new input panel lent ready are = record { ready = ready; are-bytes = are; inside = omega arith; left = refl }

@@ -8,6 +8,7 @@ ghost use Rattle.panel.specs.Reporting.{enough};
 ghost use Rattle.wire.specs.Bytes.{Bytes};
 ghost use Rattle.panel_bench.specs.Stream.{wrapped, weightOf, runs, benchSetup, sums, endOf, streamed};
 ghost use Rattle.panel_bench.specs.Inner.{Ready, flow};
+use curves::CURVE_WORDS;
 use frame::LEAST_ROOM;
 use panel::Handed;
 use panel::Panel;
@@ -56,11 +57,11 @@ fn bench_setup() -> Setup
     }
 }
 
-// Words and room are what the panel asks for; otherwise no report is ever handed over.
-fn is_lent(words: usize, room: usize) -> bool
-    ensures { λ r. ⌜ r ≡ enough words room ⌝ }
+// Words, curve area and room are what the panel asks for; otherwise no report is ever handed over.
+fn is_lent(words: usize, curves: usize, room: usize) -> bool
+    ensures { λ r. ⌜ r ≡ enough words curves room ⌝ }
 {
-    (words == WORD_COUNT) & (LEAST_ROOM <= room)
+    (words == WORD_COUNT) & (curves == CURVE_WORDS) & (LEAST_ROOM <= room)
 }
 
 // The first byte, 0 where there is none. It is read for what the prover is told of a slice that is read: that all in it are bytes.
@@ -71,16 +72,22 @@ fn first_of(s: &[u8]) -> u8
 }
 
 // Gives the bytes to the panel and asks for each report as soon as it waits.
-fn stream_on(input: &[u8], started: Panel, words: &mut [u16], room: &mut [u8]) -> u64
-    requires { ⌜ Ready (runs started (lending (now words) (now room)) 0) × Bytes (now input) ⌝ }
-    ensures { λ r. ⌜ sums r (lending (now (words .exit)) (now (room .exit))) ≡ endOf (flow (runs started (lending (now (words .entry)) (now (room .entry))) 0) (now (input .entry))) ⌝ }
+fn stream_on(
+    input: &[u8],
+    started: Panel,
+    words: &mut [u16],
+    curves: &mut [u16],
+    room: &mut [u8],
+) -> u64
+    requires { ⌜ Ready (runs started (lending (now words) (now curves) (now room)) 0) × Bytes (now input) ⌝ }
+    ensures { λ r. ⌜ sums r (lending (now (words .exit)) (now (curves .exit)) (now (room .exit))) ≡ endOf (flow (runs started (lending (now (words .entry)) (now (curves .entry)) (now (room .entry))) 0) (now (input .entry))) ⌝ }
 {
     let mut panel = started;
     let mut sum = 0u64;
     let mut i = 0usize;
     loop {
         if panel.is_waiting() {
-            let reported = panel.report(words, room);
+            let reported = panel.report(words, curves, room);
             let handed = reported.handed;
             sum = std::num::wrapping_add_u64(sum, weight(handed));
             let next = reported.panel;
@@ -98,16 +105,21 @@ fn stream_on(input: &[u8], started: Panel, words: &mut [u16], room: &mut [u8]) -
     }
 }
 
-// The whole stream through a new panel. Where words or room are not what they must be, no report is handed over and both stay.
+// The whole stream through a new panel. Where words, curve area or room are not what they must be, no report is handed over and all of them stay.
 #[no_mangle]
-pub extern "C" fn panel_bench_stream(input: &[u8], words: &mut [u16], room: &mut [u8]) -> u64
-    ensures { λ r. ⌜ sums r (lending (now (words .exit)) (now (room .exit))) ≡ streamed (now (input .entry)) (lending (now (words .entry)) (now (room .entry))) ⌝ }
+pub extern "C" fn panel_bench_stream(
+    input: &[u8],
+    words: &mut [u16],
+    curves: &mut [u16],
+    room: &mut [u8],
+) -> u64
+    ensures { λ r. ⌜ sums r (lending (now (words .exit)) (now (curves .exit)) (now (room .exit))) ≡ streamed (now (input .entry)) (lending (now (words .entry)) (now (curves .entry)) (now (room .entry))) ⌝ }
 {
-    if !is_lent(words.len(), room.len()) {
+    if !is_lent(words.len(), curves.len(), room.len()) {
         return 0;
     }
     first_of(input);
     let start = Panel::start(bench_setup(), &input[0..0]);
     let panel = start.panel;
-    stream_on(input, panel, words, room)
+    stream_on(input, panel, words, curves, room)
 }

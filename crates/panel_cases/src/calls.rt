@@ -92,17 +92,21 @@ pub fn give(bench: Bench, letter: u8) -> Bench {
     }
 }
 
-pub fn ask(bench: Bench, words: &mut [u16], room: &mut [u8]) -> Bench {
+pub fn ask(bench: Bench, words: &mut [u16], curves: &mut [u16], room: &mut [u8]) -> Bench {
     let panel = bench.panel;
     let n = bench.words;
+    let k = bench.curves;
     let m = bench.room;
     if words.len() < n {
+        return bench;
+    }
+    if curves.len() < k {
         return bench;
     }
     if room.len() < m {
         return bench;
     }
-    let reported = panel.report(&mut words[0..n], &mut room[0..m]);
+    let reported = panel.report(&mut words[0..n], &mut curves[0..k], &mut room[0..m]);
     let handed = reported.handed;
     let payload = reported.payload;
     let next = reported.panel;

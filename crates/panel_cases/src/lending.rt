@@ -26,14 +26,17 @@ pub fn lend_table(bench: Bench, table: &mut [u8]) -> Bench {
 
 pub fn lend(bench: Bench) -> Bench {
     let words = script::next_word() as usize;
+    let curves = script::next_word() as usize;
     let room = script::next_word() as usize;
     Bench {
         words: words,
+        curves: curves,
         room: room,
         ..bench
     }
 }
 
+// A word of the variable words, or of the curve area.
 pub fn set_word(bench: Bench, words: &mut [u16]) -> Bench {
     let at = script::next_word() as usize;
     let w = script::next_word();

@@ -27,6 +27,14 @@ fn bytes(s: &[u8]) {
     }
 }
 
+pub fn words(s: &[u16]) {
+    let mut i = 0;
+    while i < s.len() {
+        word(s[i]);
+        i += 1;
+    }
+}
+
 // The n bytes of s from a place on, where s has them.
 pub fn part(s: &[u8], from: usize, n: usize) {
     if from <= s.len() {

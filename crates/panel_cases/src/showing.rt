@@ -1,8 +1,9 @@
-// What stands in the panel and in the words.
+// What stands in the panel, in the words and in the curve area.
 use crate::Bench;
 use crate::say;
 use crate::script;
 use crate::sums;
+use curves::CHANNEL_WORDS;
 use panel::Panel;
 use registers::RegisterAddress;
 use wire::REGISTER_COUNT;
@@ -48,6 +49,32 @@ fn show_all(bench: Bench, words: &[u16]) -> Bench {
     say::byte(panel.buzzer());
     say::text(b" words");
     say::sum(sums::of_words(words));
+    say::text(b"\n");
+    bench
+}
+
+// The first n words of a channel's part, where the area has them.
+fn say_channel(channel: u8, n: usize, curves: &[u16]) {
+    let from = channel as usize * CHANNEL_WORDS;
+    if from <= curves.len() {
+        let rest = &curves[from..];
+        if n <= rest.len() {
+            say::words(&rest[0..n]);
+        }
+    }
+}
+
+pub fn show_channel(bench: Bench, curves: &[u16]) -> Bench {
+    let channel = script::next_byte();
+    let panel = bench.panel;
+    let n = panel.curve_count(channel as usize) as usize;
+    say::text(b"N");
+    say::byte(channel);
+    say::text(b" count ");
+    say::number(n);
+    say_channel(channel, n, curves);
+    say::text(b" area");
+    say::sum(sums::of_words(curves));
     say::text(b"\n");
     bench
 }

@@ -12,15 +12,15 @@ use Rattle.panel_bench.proofs.stream_on.Statement.{statement}
 use Rattle.panel_bench.proofs.stream_on.Tie as tie
 
 abbrev Inv-loop : tie.InvT-loop
-Inv-loop input words₀ room₀ panel₀ sum₀ i₀ words room panel sum i =
-    Flowing input (endOf (flow (runs panel₀ (lending words₀ room₀) 0) input)) panel (lending words room) sum i
-    × (length words ≡ length words₀) × (length room ≡ length room₀)
+Inv-loop input words₀ curves₀ room₀ panel₀ sum₀ i₀ words curves room panel sum i =
+    Flowing input (endOf (flow (runs panel₀ (lending words₀ curves₀ room₀) 0) input)) panel (lending words curves room) sum i
+    × (length words ≡ length words₀) × (length curves ≡ length curves₀) × (length room ≡ length room₀)
 
 abbrev μ-loop : tie.MeasureT-loop
-μ-loop input words₀ room₀ panel₀ sum₀ i₀ words room panel sum i = turnsLeft input panel i
+μ-loop input words₀ curves₀ room₀ panel₀ sum₀ i₀ words curves room panel sum i = turnsLeft input panel i
 
 loop-holds : tie.Need-loop-holds Inv-loop μ-loop
-loop-holds c = (search flowing-new, search needs, search needs)
+loop-holds c = (search flowing-new, search needs, search needs, search needs)
 
 is-waiting-requires : tie.Need-is-waiting-requires Inv-loop μ-loop
 is-waiting-requires c κs = search needs
@@ -38,7 +38,7 @@ loop-less : tie.Need-loop-less Inv-loop μ-loop
 loop-less c = search fewer-turns-asked
 
 loop-again : tie.Need-loop-again Inv-loop μ-loop
-loop-again c = (search flowing-asked, search needs, search needs)
+loop-again c = (search flowing-asked, search needs, search needs, search needs)
 
 sub-left : tie.Need-sub-left Inv-loop μ-loop
 sub-left c = search needs
@@ -48,6 +48,9 @@ same-length c = search needs
 
 same-length-2 : tie.Need-same-length-2 Inv-loop μ-loop
 same-length-2 c = search needs
+
+same-length-3 : tie.Need-same-length-3 Inv-loop μ-loop
+same-length-3 c = search needs
 
 returns : tie.Need-returns Inv-loop μ-loop
 returns c = search flowed
@@ -72,7 +75,7 @@ give-bytes-requires c κs = search needs
 
 add-i : tie.Need-add-i Inv-loop μ-loop
 add-i c =
-    let start = c .before .before .before .before .before .before .before .before .before .before .before .before in
+    let start = c .before .before .before .before .before .before .before .before .before .before .before .before .before in
     let at = c .before .before .before .before .before .before .before .before .loop in
     let fed = c .before .before .give-bytes in
     let waits = c .before .before .before .before .before .before .before .is-waiting in
@@ -83,7 +86,7 @@ loop-less-2 : tie.Need-loop-less-2 Inv-loop μ-loop
 loop-less-2 c = search fewer-turns-chunk
 
 loop-again-2 : tie.Need-loop-again-2 Inv-loop μ-loop
-loop-again-2 c = (search flowing-given, search needs, search needs)
+loop-again-2 c = (search flowing-given, search needs, search needs, search needs)
 
 pub stream-on-spec : {M : Type 1} → statement M
 stream-on-spec =
@@ -101,6 +104,7 @@ stream-on-spec =
     sub-left
     same-length
     same-length-2
+    same-length-3
     returns
     least-requires
     add-give-bytes
