@@ -3,14 +3,14 @@ use mathlib.Core.Path.{sym, ap, _∙_}
 use denote.Ref.{now}
 use Rattle.wire.specs.Room.{Laid}
 use Rattle.wire.specs.OneAnswer.{OneAnswer, OneAnswerLeft}
-use Rattle.registers.proofs.is_unwritable.Reads as is-unwritable
-use Rattle.registers.proofs.is_unwritable.Kinds as is-unwritable-kinds
-use Rattle.registers.proofs.is_wrong_value.Reads as is-wrong-value
-use Rattle.registers.proofs.is_wrong_value.Kinds as is-wrong-value-kinds
-use Rattle.registers.proofs.clear_value.Reads as clear-value
-use Rattle.registers.proofs.clear_value.Kinds as clear-value-kinds
-use Rattle.registers.proofs.drops_catch.Reads as drops-catch
-use Rattle.registers.proofs.drops_catch.Kinds as drops-catch-kinds
+use Rattle.registers.proofs.judging.is_unwritable.Reads as is-unwritable
+use Rattle.registers.proofs.judging.is_unwritable.Kinds as is-unwritable-kinds
+use Rattle.registers.proofs.judging.is_wrong_value.Reads as is-wrong-value
+use Rattle.registers.proofs.judging.is_wrong_value.Kinds as is-wrong-value-kinds
+use Rattle.registers.proofs.judging.clear_value.Reads as clear-value
+use Rattle.registers.proofs.judging.clear_value.Kinds as clear-value-kinds
+use Rattle.registers.proofs.judging.drops_catch.Reads as drops-catch
+use Rattle.registers.proofs.judging.drops_catch.Kinds as drops-catch-kinds
 use Rattle.registers.proofs.RegisterAddress.passes_end.Reads as passes-end
 use Rattle.registers.proofs.RegisterAddress.passes_end.Kinds as passes-end-kinds
 use Rattle.registers.proofs.Registers.start.Reads as start
@@ -19,8 +19,8 @@ use Rattle.registers.proofs.Registers.at.Reads as at
 use Rattle.registers.proofs.Registers.at.Kinds as at-kinds
 use Rattle.registers.proofs.Registers.write.Reads as write
 use Rattle.registers.proofs.Registers.write.Kinds as write-kinds
-use Rattle.registers.proofs.read.Reads as read
-use Rattle.registers.proofs.read.Kinds as read-kinds
+use Rattle.registers.proofs.laying.read.Reads as read
+use Rattle.registers.proofs.laying.read.Kinds as read-kinds
 use Rattle.registers.proofs.Registers.page.Reads as page
 use Rattle.registers.proofs.Registers.page.Kinds as page-kinds
 use Rattle.registers.proofs.Registers.with_page.Reads as with-page

@@ -1,5 +1,6 @@
 -- Laws of `readsAs`: what a run reads once it has been written.
 use mathlib.Core.Path.{_≡_, refl, sym, ap, _∙_}
+use mathlib.Core.Logic.{_⊎_, inl, inr}
 use mathlib.Core.List.{List, [], _∷_}
 use Prim.Native.Nat.{ℕ, zero, suc, _+_, _≤_, _<_}
 use native.Mathlib.Nat.{add-zero}
@@ -33,6 +34,15 @@ clear-reads register b is = rw (eq-eqb register clearRegister is)
 pub other-reads : (register b : ℕ) → (register ≡ clearRegister → ⊥) → b ≡ readAs register b
 unfolding readAs
 other-reads register b not = rw (ne-eqb register clearRegister not)
+
+-- a run without EB reads what was written
+pub reads-as-written : (address : ℕ) (bytes : List ℕ) → (clearRegister < address) ⊎ (address + length bytes ≤ clearRegister) → readsAs address bytes ≡ bytes
+unfolding readsAs
+reads-as-written address [] outside = refl
+reads-as-written address (b ∷ bytes) (inl past) =
+    rw (← other-reads address b (λ is. omega arith), reads-as-written (suc address) bytes (inl (omega arith)))
+reads-as-written address (b ∷ bytes) (inr before) =
+    rw (← other-reads address b (λ is. omega arith), reads-as-written (suc address) bytes (inr (omega arith)))
 
 -- the loop that writes a run
 pub written-more : (old bytes next : List ℕ) (at i n v : ℕ) → next ≡ paste old at (readsAs at bytes) i → length old ≡ n → at + length bytes ≤ n → i < length bytes

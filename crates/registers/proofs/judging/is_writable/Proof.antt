@@ -1,8 +1,8 @@
--- `registers::is_writable` meets its contract.
+-- `registers::judging::is_writable` meets its contract.
 use mathlib.Core.Path.{refl}
 use Rattle.registers.specs.Table.{writable}
-use Rattle.registers.proofs.is_writable.Statement.{statement}
-use Rattle.registers.proofs.is_writable.Tie as tie
+use Rattle.registers.proofs.judging.is_writable.Statement.{statement}
+use Rattle.registers.proofs.judging.is_writable.Tie as tie
 
 returns : tie.Need-returns
 unfolding writable

@@ -1,8 +1,8 @@
--- `registers::is_clearing` meets its contract.
+-- `registers::judging::is_clearing` meets its contract.
 use mathlib.Core.Path.{refl}
 use Rattle.registers.specs.Run.{clearing}
-use Rattle.registers.proofs.is_clearing.Statement.{statement}
-use Rattle.registers.proofs.is_clearing.Tie as tie
+use Rattle.registers.proofs.judging.is_clearing.Statement.{statement}
+use Rattle.registers.proofs.judging.is_clearing.Tie as tie
 
 returns : tie.Need-returns
 unfolding clearing

@@ -1,9 +1,9 @@
--- `registers::has` meets its contract.
+-- `registers::judging::has` meets its contract.
 use borrow.Author.Needs.{needs}
 use mathlib.Core.Path.{refl}
 use Rattle.registers.specs.Run.{covers}
-use Rattle.registers.proofs.has.Statement.{statement}
-use Rattle.registers.proofs.has.Tie as tie
+use Rattle.registers.proofs.judging.has.Statement.{statement}
+use Rattle.registers.proofs.judging.has.Tie as tie
 
 returns : tie.Need-returns
 unfolding covers

@@ -1,4 +1,4 @@
--- `registers::read_run` meets its contract.
+-- `registers::laying::read_run` meets its contract.
 use borrow.Author.Needs.{needs}
 use Prim.Native.Nat.{_-_, _≤_}
 use mathlib.Core.Path.{_≡_}
@@ -6,8 +6,8 @@ use lib.ListN.{length}
 use Rattle.wire.specs.Room.{over}
 use Rattle.registers.specs.Table.{holding, registerRun}
 use Rattle.registers.proofs.Copying.{read-none, read-more, read-all}
-use Rattle.registers.proofs.read_run.Statement.{statement}
-use Rattle.registers.proofs.read_run.Tie as tie
+use Rattle.registers.proofs.laying.read_run.Statement.{statement}
+use Rattle.registers.proofs.laying.read_run.Tie as tie
 
 abbrev Inv-loop : tie.InvT-loop
 Inv-loop registers a n room₀ i₀ room i = (i ≤ n) × (length room ≡ length room₀) × (room ≡ over (registerRun (holding registers) a i) room₀)

@@ -1,8 +1,8 @@
--- `registers::byte_for` meets its contract.
+-- `registers::judging::byte_for` meets its contract.
 use borrow.Author.Needs.{needs}
 use Rattle.registers.proofs.Runs.{byte-behind, byte-before}
-use Rattle.registers.proofs.byte_for.Statement.{statement}
-use Rattle.registers.proofs.byte_for.Tie as tie
+use Rattle.registers.proofs.judging.byte_for.Statement.{statement}
+use Rattle.registers.proofs.judging.byte_for.Tie as tie
 
 pub byte-for-spec : {M : Type 1} → statement M
 byte-for-spec =

@@ -1,7 +1,7 @@
--- `registers::read_as` meets its contract.
+-- `registers::storing::read_as` meets its contract.
 use Rattle.registers.proofs.ReadsAs.{clear-reads, other-reads}
-use Rattle.registers.proofs.read_as.Statement.{statement}
-use Rattle.registers.proofs.read_as.Tie as tie
+use Rattle.registers.proofs.storing.read_as.Statement.{statement}
+use Rattle.registers.proofs.storing.read_as.Tie as tie
 
 pub read-as-spec : {M : Type 1} → statement M
 read-as-spec =

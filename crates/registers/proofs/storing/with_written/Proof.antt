@@ -1,4 +1,4 @@
--- `registers::with_written` meets its contract.
+-- `registers::storing::with_written` meets its contract.
 use borrow.Author.Needs.{needs}
 use Prim.Native.Nat.{_-_, _≤_}
 use mathlib.Core.Path.{_≡_}
@@ -6,8 +6,8 @@ use lib.ListN.{length}
 use lib.Seq.{paste, paste-zero}
 use Rattle.registers.specs.Run.{readsAs}
 use Rattle.registers.proofs.ReadsAs.{written-more, written-all}
-use Rattle.registers.proofs.with_written.Statement.{statement}
-use Rattle.registers.proofs.with_written.Tie as tie
+use Rattle.registers.proofs.storing.with_written.Statement.{statement}
+use Rattle.registers.proofs.storing.with_written.Tie as tie
 
 abbrev Inv-loop : tie.InvT-loop
 Inv-loop at bytes next₀ i₀ next i = (i ≤ length bytes) × (length next ≡ 256) × (length next₀ ≡ 256) × (next ≡ paste next₀ at (readsAs at bytes) i)

@@ -1,8 +1,8 @@
--- `registers::is_unwritable` meets its contract.
+-- `registers::judging::is_unwritable` meets its contract.
 use borrow.Author.Needs.{needs}
 use Rattle.registers.proofs.Runs.{run-unwritable}
-use Rattle.registers.proofs.is_unwritable.Statement.{statement}
-use Rattle.registers.proofs.is_unwritable.Tie as tie
+use Rattle.registers.proofs.judging.is_unwritable.Statement.{statement}
+use Rattle.registers.proofs.judging.is_unwritable.Tie as tie
 
 pub is-unwritable-spec : {M : Type 1} → statement M
 is-unwritable-spec =

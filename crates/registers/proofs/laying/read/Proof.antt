@@ -1,8 +1,8 @@
--- `registers::read` meets its contract.
+-- `registers::laying::read` meets its contract.
 use borrow.Author.Needs.{needs}
 use Rattle.registers.proofs.Copying.{read-past, read-no-room, read-done}
-use Rattle.registers.proofs.read.Statement.{statement}
-use Rattle.registers.proofs.read.Tie as tie
+use Rattle.registers.proofs.laying.read.Statement.{statement}
+use Rattle.registers.proofs.laying.read.Tie as tie
 
 pub read-spec : {M : Type 1} → statement M
 read-spec =

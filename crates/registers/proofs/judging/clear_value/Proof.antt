@@ -1,8 +1,8 @@
--- `registers::clear_value` meets its contract.
+-- `registers::judging::clear_value` meets its contract.
 use borrow.Author.Needs.{needs}
 use Rattle.registers.proofs.Runs.{run-clears, run-clears-none}
-use Rattle.registers.proofs.clear_value.Statement.{statement}
-use Rattle.registers.proofs.clear_value.Tie as tie
+use Rattle.registers.proofs.judging.clear_value.Statement.{statement}
+use Rattle.registers.proofs.judging.clear_value.Tie as tie
 
 pub clear-value-spec : {M : Type 1} → statement M
 clear-value-spec =

@@ -1,11 +1,11 @@
--- `registers::all_writable` meets its contract.
+-- `registers::judging::all_writable` meets its contract.
 use borrow.Author.Needs.{needs}
 use Prim.Native.Nat.{_+_, _-_, _≤_}
 use mathlib.Core.Path.{_≡_}
 use Rattle.registers.specs.Run.{allWritable}
 use Rattle.registers.proofs.Runs.{writable-start, writable-on, writable-stops, writable-all}
-use Rattle.registers.proofs.all_writable.Statement.{statement}
-use Rattle.registers.proofs.all_writable.Tie as tie
+use Rattle.registers.proofs.judging.all_writable.Statement.{statement}
+use Rattle.registers.proofs.judging.all_writable.Tie as tie
 
 abbrev Inv-loop : tie.InvT-loop
 Inv-loop address n i₀ i = (i ≤ n) × (allWritable address n ≡ allWritable (address + i) (n - i))
