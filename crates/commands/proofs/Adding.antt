@@ -35,16 +35,13 @@ pub curves-refused : (content : List ℕ) → isDone (addCurvesOutcome content) 
 unfolding curvesAdding
 curves-refused content refused = rw refused
 
-module _ (counts : Counts) (content : List ℕ) where
-  pub no-counts-cleared : length content < 1 → counts ≡ countsLeft counts content
-  unfolding countsLeft clearValue covers cleared
-  no-counts-cleared short = rw (nil-of content short)
-    where
-      nil-of : (l : List ℕ) → length l < 1 → l ≡ []
-      nil-of [] short = refl
-      nil-of (x ∷ l) short = absurd (omega arith)
+-- data without an address clears nothing
+pub no-counts-cleared : (counts : Counts) (content : List ℕ) → length content < 1 → counts ≡ countsLeft counts content
+unfolding countsLeft clearValue covers cleared
+no-counts-cleared counts [] short = refl
+no-counts-cleared counts (address ∷ bytes) short = absurd (omega arith)
 
-  pub counts-cleared : (value : ℕ) (next : Counts) → value ≡ clearValue (getD content 0 0) (take (length content - 1) (drop 1 content)) → next ≡ cleared value counts
-      → next ≡ countsLeft counts content
-  unfolding countsLeft
-  counts-cleared value next is-value is = is ∙ ap (λ (v : ℕ). cleared v counts) (is-value ∙ rw (part-whole content 1))
+pub counts-cleared : (counts : Counts) (content : List ℕ) (value : ℕ) (next : Counts) → value ≡ clearValue (getD content 0 0) (take (length content - 1) (drop 1 content)) → next ≡ cleared value counts
+    → next ≡ countsLeft counts content
+unfolding countsLeft
+counts-cleared counts content value next is-value is = is ∙ ap (λ (v : ℕ). cleared v counts) (is-value ∙ rw (part-whole content 1))
