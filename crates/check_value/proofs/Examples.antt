@@ -1,7 +1,9 @@
--- 01, "Proved examples", a and b, by computation from the bitwise definition.
+-- 01, "Proved examples", a and b, by computation from the bitwise definition; and b by the formula of 02, §3.
 use mathlib.Core.Path.{_≡_, refl}
 use mathlib.Core.List.{[], _∷_}
+use lib.Count.{ones, onesIn}
 use Rattle.check_value.specs.CheckValue.{polynomial, bitStep, bitSteps, byteStep, checkFrom, checkValue}
+use Rattle.check_value.specs.Formula.{parity, byteFormula}
 
 -- a. "Check of no bytes FFFF."
 pub no-bytes : checkValue [] ≡ 0xFFFF
@@ -12,3 +14,8 @@ no-bytes = refl
 pub read-version : checkValue (0x81 ∷ 0x00 ∷ 0x01 ∷ []) ≡ 0x28E0
 unfolding checkValue checkFrom byteStep bitSteps bitStep polynomial
 read-version = refl
+
+-- the same three bytes, one after the other, by the formula
+pub read-version-by-formula : byteFormula (byteFormula (byteFormula 0xFFFF 0x81) 0x00) 0x01 ≡ 0x28E0
+unfolding byteFormula parity ones onesIn
+read-version-by-formula = refl

@@ -1,6 +1,7 @@
 pub mod Xor
 pub mod Steps
-pub mod PrintedTables
+pub mod Linear
+pub mod Formula
 pub mod ReadingOn
 pub mod Examples
 pub mod Determined

@@ -56,11 +56,11 @@ all-read value i xs h = rw (drop-of-length-le xs h)
 
 -- a turn that reads two bytes, and the two ways to end: with a byte left over, and with none
 module _ (whole value i : ℕ) (xs : List ℕ) (so-far : checkFrom value (drop i xs) ≡ checkFrom whole xs) where
-  pub two-more : (first r : ℕ) → first ≡ byteStep value (getD xs i 0) → r ≡ byteStep first (getD xs (i + 1) 0) → 1 < length xs - i
+  pub two-more : (r : ℕ) → r ≡ byteStep (byteStep value (getD xs i 0)) (getD xs (i + 1) 0) → 1 < length xs - i
       → checkFrom r (drop (i + 2) xs) ≡ checkFrom whole xs
-  two-more first r e f h =
+  two-more r e h =
       let place : i + 2 ≡ i + 1 + 1 = omega arith in
-      rw place (one-more first (i + 1) xs f (omega arith) ∙ one-more value i xs e (omega arith) ∙ so-far)
+      rw place (one-more (byteStep value (getD xs i 0)) (i + 1) xs e (omega arith) ∙ one-more value i xs refl (omega arith) ∙ so-far)
 
   pub one-last : (r : ℕ) → r ≡ byteStep value (getD xs i 0) → i < length xs → length xs - i ≤ 1 → r ≡ checkFrom whole xs
   one-last r e h last = all-read r (i + 1) xs (omega arith) ∙ one-more value i xs e h ∙ so-far

@@ -1,2 +1,2 @@
 pub mod CheckValue
-pub mod Tables
+pub mod Formula

@@ -3,14 +3,13 @@ use mathlib.Core.Path.{_≡_}
 use mathlib.Core.Logic.{_≢_, ⊎-elim}
 use mathlib.Core.Bool.{Bool, true, false}
 use mathlib.Core.List.{List, [], _∷_, _++_}
-use Prim.Native.Nat.{ℕ, _+_, _-_, _*_, _/_, _^_, _≤_, _<_}
+use Prim.Native.Nat.{ℕ, _+_, _-_, _*_, _^_, _≤_, _<_}
 use lib.ListN.{length, getD, take, drop}
-use lib.Bits.{bitAnd, bitXor}
 use Rattle.wire.specs.Bytes.{Bytes}
 use Rattle.wire.specs.ByteOrder.{highFirst, byteAt, wordAt}
-use Rattle.check_value.specs.CheckValue.{bitSteps}
-use Rattle.check_value.specs.Tables.{lowTable, highTable}
-use Rattle.check_value.proofs.PrintedTables.{by-tables}
+use Rattle.check_value.specs.CheckValue.{byteStep}
+use Rattle.check_value.specs.Formula.{byteFormula}
+use Rattle.check_value.proofs.Formula.{formula-steps}
 use Rattle.frame.specs.declared.Written.the-variants.{Frame}
 use Rattle.frame.specs.Frame.{frameOf, mostData, GoodFrame}
 use Rattle.frame.specs.Writer.{writing}
@@ -78,10 +77,9 @@ pub good-frames-are-frames : (checking : Bool) (header frame : List ℕ) → Goo
     → (command : ℕ) × (payload : List ℕ) × (length payload ≤ mostData checking) × (frame ≡ frameOf checking header command payload)
 good-frames-are-frames = good-is-frameOf
 
--- "check values": "the value is defined bit by bit from the polynomial", and the two printed tables give eight of its steps
-pub tables-give-eight-steps : (x : ℕ)
-    → bitXor (bitXor (x / 2 ^ 8) (getD lowTable (bitAnd x 15) 0)) (getD highTable (bitAnd (x / 2 ^ 4) 15) 0) ≡ bitSteps 8 x
-tables-give-eight-steps = by-tables
+-- "check values": "the value is defined bit by bit from the polynomial", and the formula of 02, §3, gives the eight steps of a byte
+pub formula-gives-eight-steps : (value byte : ℕ) → byte < 2 ^ 8 → byteFormula value byte ≡ byteStep value byte
+formula-gives-eight-steps = formula-steps
 
 -- "register and word access .. are those of the .. manuals as condensed in document 01"
 pub does-commands : (now : Moment) → Arises now → DoesCommands now (after now ask)

@@ -4,19 +4,17 @@ use mathlib.Core.Path.{_≡_, refl}
 use borrow.Author.Needs.{needs}
 use lib.ListN.{length, drop}
 use Rattle.check_value.specs.CheckValue.{checkFrom}
-use Rattle.check_value.specs.Tables.{lowTable, highTable}
 use Rattle.check_value.proofs.ReadingOn.{two-more, one-last, none-left}
 use Rattle.check_value.proofs.check_from.Statement.{statement}
 use Rattle.check_value.proofs.check_from.Tie as tie
 
 abbrev Inv-loop : tie.InvT-loop
-Inv-loop value bytes low high reached₀ i₀ reached i = (i ≤ length bytes) × (checkFrom reached (drop i bytes) ≡ checkFrom reached₀ bytes)
+Inv-loop value bytes reached₀ i₀ reached i = (i ≤ length bytes) × (checkFrom reached (drop i bytes) ≡ checkFrom reached₀ bytes)
 
 abbrev μ-loop : tie.MeasureT-loop
-μ-loop value bytes low high reached₀ i₀ reached i = length bytes - i
+μ-loop value bytes reached₀ i₀ reached i = length bytes - i
 
 pub check-from-spec : {M : Type 1} → statement M
-unfolding lowTable highTable
 check-from-spec =
     tie.close
     (tie.spec
@@ -27,18 +25,11 @@ check-from-spec =
     (λ c. search needs)
     (λ c. search needs)
     (λ c. search needs)
-    (λ c κs. (refl, refl))
-    (λ c. search needs)
-    (λ c. search needs)
-    (λ c. search needs)
-    (λ c. search needs)
-    (λ c κs. (refl, refl))
+    (λ c κs. search needs)
     (λ c. search needs)
     (λ c. search needs)
     (λ c. (search needs, search two-more))
     (λ c. search needs)
-    (λ c. search needs)
-    (λ c. search needs)
-    (λ c κs. (refl, refl))
+    (λ c κs. search needs)
     (λ c. search one-last)
     (λ c. search none-left))
