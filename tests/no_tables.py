@@ -7,7 +7,6 @@ print nor the one of 256 entries. So that each of these can be seen to fail, the
 that goes bit by bit, of which the compiler makes a table.
 """
 import pathlib
-import platform
 import re
 import subprocess
 import sys
@@ -102,8 +101,7 @@ def library():
 
 def compiled(text):
     """Plain C, as the kit's clang compiles proved code."""
-    guide = pathlib.Path(subprocess.run(["rt", "doc"], capture_output=True, text=True, check=True).stdout.strip())
-    clang = guide.parent.parent / "on" / platform.machine() / "toolchain" / "bin" / "clang"
+    clang = program.toolchain() / "bin" / "clang"
     with tempfile.TemporaryDirectory() as folder:
         made, written = pathlib.Path(folder, "made.o"), pathlib.Path(folder, "written.c")
         written.write_text(text)
@@ -130,12 +128,14 @@ def cut_troubles(content):
     return [f"cut off behind {size} bytes, it is read as if it were whole" for size in range(0, len(content), 7) if object_troubles(content[:size]) in ([], whole)]
 
 
-def main():
+def program_troubles():
     built = program.chosen()
-    troubles = object_troubles(library()) + source_troubles() + control_troubles()
-    if built:
-        troubles += [f"{built.name}: {trouble}" for trouble in table_troubles(built.read_bytes())]
-    print("\n".join(troubles) or f"no table in check_value's source, in its object code{', or in the panel program' if built else ''}")
+    return [f"{built.name}: {trouble}" for trouble in table_troubles(built.read_bytes())]
+
+
+def main():
+    troubles = control_troubles() + source_troubles() + object_troubles(library()) or program_troubles()
+    print("\n".join(troubles) or "no table in check_value's source, in its object code, or in the panel program")
     return 1 if troubles else 0
 
 

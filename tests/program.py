@@ -20,9 +20,14 @@ SECONDS = 60
 
 
 @functools.lru_cache
-def emulator():
+def toolchain():
+    """The folder of the kit's compiler, linker and emulator for this machine."""
     guide = pathlib.Path(subprocess.run(["rt", "doc"], capture_output=True, text=True, check=True).stdout.strip())
-    tools = guide.parent.parent / "on" / platform.machine() / "toolchain"
+    return guide.parent.parent / "on" / platform.machine() / "toolchain"
+
+
+def emulator():
+    tools = toolchain()
     return [str(tools / "bin" / "qemu-x86_64"), str(tools / "lib" / "ld-linux-x86-64.so.2"), "--library-path", str(tools / "lib")]
 
 
