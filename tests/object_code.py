@@ -7,7 +7,7 @@ from typing import NamedTuple
 
 # Of a section: what it holds, and what it is in memory.
 RELOCATIONS_ADDING, RELOCATIONS, SYMBOLS, NO_BYTES, NOTE, UNWINDING = 4, 9, 2, 8, 7, 0x70000001
-WRITTEN, IN_MEMORY, CODE = 1, 2, 4
+IN_MEMORY, CODE = 2, 4
 # A symbol's section from here on is none: an absolute value, or room that the linker finds.
 NO_SECTION = 0xFF00
 
@@ -116,7 +116,10 @@ def read_object(name, content):
         raise Broken(f"{name} is no 64-bit object, low byte first")
     try:
         found, links = sections(content)
-        return Object(name, found, symbols(found, links), relocations(found))
+        named, told = symbols(found, links), relocations(found)
+        if any(about >= len(found) or number >= len(named) for about, number in told):
+            raise Broken("an address is of no symbol, or in no section")
+        return Object(name, found, named, told)
     except (Broken, struct.error, IndexError) as error:
         raise Broken(f"{name}: {error}") from None
 

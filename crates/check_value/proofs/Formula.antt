@@ -12,6 +12,7 @@ use Rattle.check_value.proofs.Xor.{xor-assoc}
 use Rattle.check_value.proofs.Steps.{bitSteps-xor, bitSteps-out, bitSteps-low, bitSteps-add}
 use Rattle.check_value.proofs.Linear.{Keeps, agreeing, same-by-bits, xor-keeps, then-keeps, up-keeps, odd-keeps}
 
+-- C001 where the parity is odd
 abbrev odd : ℕ → ℕ
 odd x = parity x * 0xC001
 

@@ -3,7 +3,7 @@ use Prim.Native.Nat.{ℕ, _*_, _/_, _%_, _^_}
 use lib.Bits.{bitXor}
 use lib.Count.{ones}
 
--- odd, 1, or even, 0: how many bits of a number are 1
+-- 1 where an odd number of bits of x are 1, and 0 where an even number are
 unfoldable pub parity : ℕ → ℕ
 parity x = ones x % 2
 
