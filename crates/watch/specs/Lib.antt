@@ -1,0 +1,4 @@
+pub mod Watched
+pub mod Judge
+pub mod Noting
+pub mod Sending
