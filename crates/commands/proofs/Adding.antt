@@ -26,7 +26,7 @@ module _ (content : List ℕ) (w : Bool) (is-w : w ≡ wrongRounds content) wher
   add-good is = rw (sym is-w ∙ is)
 
 pub add-judged : (content : List ℕ) (o : Outcome) (b : Bool) → o ≡ addCurvesOutcome content → b ≡ isDone o
-    → _≡_ {A = Performed} (record { outcome = o; writes = false; drops = false; adds = b; replied = 0 }) (curvesAdding content)
+    → _≡_ {A = Performed} (record { outcome = o; writes = false; drops = false; adds = b; notes = false; replied = 0 }) (curvesAdding content)
 unfolding curvesAdding
 add-judged content o b is-o is-b = rw (is-b, ← is-o)
 

@@ -76,6 +76,10 @@ module _ (fixed : Fixed) (registers : Registers) (content : List ℕ) (lent : Le
   unfolding performance curvesAdding
   adds-by-84 = refl
 
+  notes-by-82 : performance fixed registers 0x82 content lent .performed .notes ≡ writesWords (lent .words) content
+  unfolding performance wordsWriting
+  notes-by-82 = refl
+
   written-by-82 : performance fixed registers 0x82 content lent .lent .words
       ≡ cond (writesWords (lent .words) content) (wordsWritten (lent .words) (wordAt content 0) (drop 2 content)) (lent .words)
   unfolding performance wordsWriting
@@ -100,6 +104,17 @@ module _ (fixed : Fixed) (registers : Registers) (content : List ℕ) (lent : Le
 
     pub adds-as-done : command ≡ 0x84 → performance fixed registers command content lent .performed .adds ≡ isDone (addCurvesOutcome content)
     adds-as-done is = rw (is, adds-by-84)
+
+    -- only 0x82 has words noted, where it is done
+    pub notes-none : eqb command 0x82 ≡ false → performance fixed registers command content lent .performed .notes ≡ false
+    unfolding performance registersWriting registersReplying wordsReplying replying curvesAdding
+    notes-none not =
+        rw not
+        (of-five (λ (d : Performance). d .performed .notes) false (eqb command 0x80) (eqb command 0x81) (eqb command 0x83) (eqb command 0x84) _ _ _ _ _ refl refl
+        refl refl refl)
+
+    pub notes-as-done : command ≡ 0x82 → performance fixed registers command content lent .performed .notes ≡ writesWords (lent .words) content
+    notes-as-done is = rw (is, notes-by-82)
 
     pub catch-stays : eqb command 0x80 ≡ false → performance fixed registers command content lent .performed .drops ≡ false
     unfolding performance registersReplying wordsWriting wordsReplying replying curvesAdding

@@ -10,46 +10,46 @@ use Rattle.registers.specs.declared.Registers.{Registers}
 use Rattle.commands.specs.declared.Fixed.{Fixed}
 use Rattle.commands.specs.declared.Outcome.the-variants.{UnknownCommand}
 use Rattle.commands.specs.declared.Performed.{Performed}
-use Rattle.commands.specs.Lent.{Lent, lending}
+use Rattle.commands.specs.Lent.{Lent, withWordsRoom}
 use Rattle.commands.specs.Outcome.{outcome}
 use Rattle.commands.specs.Effect.{answered, registersWriting, curvesAdding, leavesWords, wordsWriting, replies, replying, registersReplying, wordsReplying}
 use Rattle.commands.specs.Perform.{Performance, performs, onWords, onRoom, performance}
 
-module _ (fixed : Fixed) (registers : Registers) (command : ℕ) (content words curves room : List ℕ) where
+module _ (fixed : Fixed) (registers : Registers) (command : ℕ) (content words room : List ℕ) (rest : Lent) where
   pub performs-80 : (p : Performed) → command ≡ 0x80 → p ≡ registersWriting (fixed .pages) content
-      → performs p (lending words curves room) ≡ performance fixed registers command content (lending words curves room)
+      → performs p (withWordsRoom rest words room) ≡ performance fixed registers command content (withWordsRoom rest words room)
   unfolding performance
   performs-80 p is e = rw (eq-eqb command 0x80 is, e)
 
   module _ (not-80 : command ≡ 0x80 → ⊥) where
     pub performs-81 : (p : Performed) (left : List ℕ) → command ≡ 0x81 → replies p left ≡ registersReplying fixed registers content room
-        → performs p (lending words curves left) ≡ performance fixed registers command content (lending words curves room)
+        → performs p (withWordsRoom rest words left) ≡ performance fixed registers command content (withWordsRoom rest words room)
     unfolding performance
-    performs-81 p left is e = rw (ne-eqb command 0x80 not-80, eq-eqb command 0x81 is) (ap (onRoom (lending words curves room)) e)
+    performs-81 p left is e = rw (ne-eqb command 0x80 not-80, eq-eqb command 0x81 is) (ap (onRoom (withWordsRoom rest words room)) e)
 
     module _ (not-81 : command ≡ 0x81 → ⊥) where
       pub performs-82 : (p : Performed) (left : List ℕ) → command ≡ 0x82 → leavesWords p left ≡ wordsWriting words content
-          → performs p (lending left curves room) ≡ performance fixed registers command content (lending words curves room)
+          → performs p (withWordsRoom rest left room) ≡ performance fixed registers command content (withWordsRoom rest words room)
       unfolding performance
       performs-82 p left is e =
-          rw (ne-eqb command 0x80 not-80, ne-eqb command 0x81 not-81, eq-eqb command 0x82 is) (ap (onWords (lending words curves room)) e)
+          rw (ne-eqb command 0x80 not-80, ne-eqb command 0x81 not-81, eq-eqb command 0x82 is) (ap (onWords (withWordsRoom rest words room)) e)
 
       module _ (not-82 : command ≡ 0x82 → ⊥) where
         pub performs-83 : (p : Performed) (left : List ℕ) → command ≡ 0x83 → replies p left ≡ wordsReplying fixed words content room
-            → performs p (lending words curves left) ≡ performance fixed registers command content (lending words curves room)
+            → performs p (withWordsRoom rest words left) ≡ performance fixed registers command content (withWordsRoom rest words room)
         unfolding performance
         performs-83 p left is e =
-            rw (ne-eqb command 0x80 not-80, ne-eqb command 0x81 not-81, ne-eqb command 0x82 not-82, eq-eqb command 0x83 is) (ap (onRoom (lending words curves room)) e)
+            rw (ne-eqb command 0x80 not-80, ne-eqb command 0x81 not-81, ne-eqb command 0x82 not-82, eq-eqb command 0x83 is) (ap (onRoom (withWordsRoom rest words room)) e)
 
         module _ (not-83 : command ≡ 0x83 → ⊥) where
           pub performs-84 : (p : Performed) → command ≡ 0x84 → p ≡ curvesAdding content
-              → performs p (lending words curves room) ≡ performance fixed registers command content (lending words curves room)
+              → performs p (withWordsRoom rest words room) ≡ performance fixed registers command content (withWordsRoom rest words room)
           unfolding performance
           performs-84 p is e =
               rw (ne-eqb command 0x80 not-80, ne-eqb command 0x81 not-81, ne-eqb command 0x82 not-82, ne-eqb command 0x83 not-83, eq-eqb command 0x84 is, e)
 
           pub performs-none : (p : Performed) → (command ≡ 0x84 → ⊥) → p ≡ answered UnknownCommand 0
-              → performs p (lending words curves room) ≡ performance fixed registers command content (lending words curves room)
+              → performs p (withWordsRoom rest words room) ≡ performance fixed registers command content (withWordsRoom rest words room)
           unfolding performance
           performs-none p not-84 is-p =
               rw (

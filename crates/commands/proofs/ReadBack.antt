@@ -18,7 +18,7 @@ use Rattle.words.specs.Words.{wordsOf}
 use Rattle.words.proofs.Written.{words-read-back}
 use Rattle.words.proofs.Carried.{bytesOf-wordsOf}
 use Rattle.commands.specs.declared.Fixed.{Fixed}
-use Rattle.commands.specs.Lent.{Lent, lending, withRoom}
+use Rattle.commands.specs.Lent.{Lent, withWords, withRoom}
 use Rattle.commands.specs.declared.Outcome.{Outcome}
 use Rattle.commands.specs.declared.Outcome.the-variants.{Done, UnknownCommand, WrongData, PastEnd, Unwritable, WrongValue, ReplyTooLong}
 use Rattle.commands.specs.Outcome.{isDone, writeRegistersOutcome, readRegistersOutcome, writeWordsOutcome, readWordsOutcome}
@@ -97,10 +97,10 @@ module _ (fixed : Fixed) (registers : Registers) (content : List ℕ) (lent : Le
         second,
       )
 
-  pub what-82-wrote-83-reads : (registers′ : Registers) (curves′ room′ : List ℕ) → Bytes content → isDone (writeWordsOutcome (length (lent .words)) content) ≡ true
+  pub what-82-wrote-83-reads : (registers′ : Registers) (lent′ : Lent) → Bytes content → isDone (writeWordsOutcome (length (lent .words)) content) ≡ true
       → isDone (readWordsOutcome (length wordsAfter) (fixed .checking) (byteAt content 0 ∷ byteAt content 1 ∷ length (wordsOf (drop 2 content)) ∷ [])) ≡ true
-      → performance fixed registers′ 0x83 (byteAt content 0 ∷ byteAt content 1 ∷ length (wordsOf (drop 2 content)) ∷ []) (lending wordsAfter curves′ room′)
-      ≡ repliesWith fixed 0x83 (byteAt content 0 ∷ byteAt content 1 ∷ length (wordsOf (drop 2 content)) ∷ drop 2 content) (lending wordsAfter curves′ room′)
-  what-82-wrote-83-reads registers′ curves′ room′ are done ask =
-      reads-words fixed (lending wordsAfter curves′ room′) registers′ (byteAt content 0) (byteAt content 1) (length (wordsOf (drop 2 content))) _ ask
+      → performance fixed registers′ 0x83 (byteAt content 0 ∷ byteAt content 1 ∷ length (wordsOf (drop 2 content)) ∷ []) (withWords lent′ wordsAfter)
+      ≡ repliesWith fixed 0x83 (byteAt content 0 ∷ byteAt content 1 ∷ length (wordsOf (drop 2 content)) ∷ drop 2 content) (withWords lent′ wordsAfter)
+  what-82-wrote-83-reads registers′ lent′ are done ask =
+      reads-words fixed (withWords lent′ wordsAfter) registers′ (byteAt content 0) (byteAt content 1) (length (wordsOf (drop 2 content))) _ ask
       (words-come-back are done)

@@ -22,7 +22,8 @@ use Rattle.commands.specs.declared.Fixed.{Fixed}
 use Rattle.commands.specs.declared.Performed.{Performed}
 use Rattle.commands.specs.declared.Outcome.{Outcome}
 use Rattle.commands.specs.declared.Outcome.the-variants.{Done, UnknownCommand, WrongData, PastEnd, Unwritable, WrongValue, ReplyTooLong}
-use Rattle.commands.specs.Lent.{Lent, lending}
+use Rattle.watch.specs.Watched.{noneWatched}
+use Rattle.commands.specs.Lent.{Lent, lending, withWordsRoom}
 use Rattle.commands.specs.Outcome.{numberOfOutcome, replyTooLong, writeRegistersOutcome, readRegistersOutcome, writeWordsOutcome, readWordsOutcome, addCurvesOutcome}
 use Rattle.commands.specs.Reply.{registersReply, wordsReply}
 use Rattle.commands.specs.Effect.{answered, registersWriting, curvesAdding, wordsWriting, replying, registersReplying, wordsReplying}
@@ -160,10 +161,14 @@ module _ (fixed : Fixed) (registers : Registers) (content : List ℕ) (lent : Le
           (eqb-false command 0x84 t) in
           rw (is, p, q, r, t, none)
 
--- what is said of a command does not go by the curve area, which it leaves
+-- where a thing holds whatever is lent, it may be taken to be this
+abbrev pub nothingLent : Lent
+nothingLent = lending [] [] [] noneWatched
+
+-- what is said of a command does not go by what else is lent, which it leaves
 pub perform-said : (fixed : Fixed) (registers : Registers) (command : ℕ) (content words room : List ℕ) (p : Performed) (words′ left : List ℕ)
-    → ((curves : List ℕ) → performs p (lending words′ curves left) ≡ performance fixed registers command content (lending words curves room))
-    → ((curves : List ℕ) → performs p (lending words′ curves left) ≡ performance fixed registers command content (lending words curves room))
+    → ((rest : Lent) → performs p (withWordsRoom rest words′ left) ≡ performance fixed registers command content (withWordsRoom rest words room))
+    → ((rest : Lent) → performs p (withWordsRoom rest words′ left) ≡ performance fixed registers command content (withWordsRoom rest words room))
     × (performedSaid p ≡ performSaid fixed (length words) (length room) command content)
 perform-said fixed registers command content words room p words′ left is =
-    (is, ap (λ (d : Performance). performedSaid (d .performed)) (is []) ∙ perform-as-listed fixed registers content (lending words [] room) command)
+    (is, ap (λ (d : Performance). performedSaid (d .performed)) (is nothingLent) ∙ perform-as-listed fixed registers content (withWordsRoom nothingLent words room) command)

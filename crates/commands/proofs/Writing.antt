@@ -43,7 +43,7 @@ module _ (pages : ℕ) (content : List ℕ) (o : Outcome) (b : Bool) (is-o : o �
   registers-long done = omega (arith, not-short (length content) 2 o _ is-o (sym is-b ∙ done))
 
   pub registers-done : (first : ℕ) (drops : Bool) → b ≡ true → first ≡ getD content 0 0 → drops ≡ dropsCatch first (take (length content - 1) (drop 1 content))
-      → _≡_ {A = Performed} (record { outcome = o; writes = true; drops = drops; adds = false; replied = 0 }) (registersWriting pages content)
+      → _≡_ {A = Performed} (record { outcome = o; writes = true; drops = drops; adds = false; notes = false; replied = 0 }) (registersWriting pages content)
   unfolding registersWriting catchDropped
   registers-done first drops done is-first is-drops = rw (is-drops, is-first, part-whole content 1, ← is-o, sym is-b ∙ done)
 
@@ -71,10 +71,11 @@ module _ (words content : List ℕ) (o : Outcome) (b : Bool) (is-o : o ≡ write
   unfolding writeWordsOutcome
   words-long done = omega (arith, either-short (length content) o _ is-o (sym is-b ∙ done))
 
-  pub words-done : (left : List ℕ) (a : ℕ) (answer : Performed) → b ≡ true → a ≡ wordAt content 0
-      → left ≡ wordsWritten words a (take (length content - 2) (drop 2 content)) → answer ≡ answered o 0 → leavesWords answer left ≡ wordsWriting words content
+  pub words-done : (left : List ℕ) (a : ℕ) → b ≡ true → a ≡ wordAt content 0
+      → left ≡ wordsWritten words a (take (length content - 2) (drop 2 content))
+      → leavesWords (record { outcome = o; writes = false; drops = false; adds = false; notes = true; replied = 0 }) left ≡ wordsWriting words content
   unfolding wordsWriting
-  words-done left a answer done is-a is-left is-answer = rw (is-answer, is-left, is-a, part-whole content 2, ← is-o, sym is-b ∙ done)
+  words-done left a done is-a is-left = rw (is-left, is-a, part-whole content 2, ← is-o, sym is-b ∙ done)
 
   pub words-refused : (answer : Performed) → b ≡ false → answer ≡ answered o 0 → leavesWords answer words ≡ wordsWriting words content
   unfolding wordsWriting

@@ -18,9 +18,9 @@ use Rattle.commands.specs.declared.Performed.{Performed}
 use Rattle.commands.specs.Outcome.{isDone, writeRegistersOutcome, readRegistersOutcome, writeWordsOutcome, readWordsOutcome, addCurvesOutcome}
 use Rattle.commands.specs.Reply.{registersReply, wordsReply}
 
--- an outcome with so long a reply, of a command that leaves registers, catch and curves
+-- an outcome with so long a reply, of a command that leaves registers, catch and curves, and has nothing noted
 abbrev pub answered : Outcome → (replied : ℕ) → Performed
-answered o replied = record { outcome = o; writes = false; drops = false; adds = false; replied = replied }
+answered o replied = record { outcome = o; writes = false; drops = false; adds = false; notes = false; replied = replied }
 
 -- "0x80, address (1), one or more bytes: write registers.": what a write with this data leaves of the registers, where it is done
 unfoldable pub registersLeft : Registers → (content : List ℕ) → Registers
@@ -34,7 +34,7 @@ catchDropped content = dropsCatch (byteAt content 0) (drop 1 content)
 unfoldable pub registersWriting : (pages : ℕ) → (content : List ℕ) → Performed
 registersWriting pages content =
     let o = writeRegistersOutcome pages content in
-    record { outcome = o; writes = isDone o; drops = isDone o && catchDropped content; adds = false; replied = 0 }
+    record { outcome = o; writes = isDone o; drops = isDone o && catchDropped content; adds = false; notes = false; replied = 0 }
 
 -- 02, §2: "Register EB .. clears: 55 all, 56 to 5D channel 0 to 7": what a write with this data leaves of the channels' counts, where it is done
 unfoldable pub countsLeft : Counts → (content : List ℕ) → Counts
@@ -44,7 +44,7 @@ countsLeft counts content = cleared (clearValue (byteAt content 0) (drop 1 conte
 unfoldable pub curvesAdding : (content : List ℕ) → Performed
 curvesAdding content =
     let o = addCurvesOutcome content in
-    record { outcome = o; writes = false; drops = false; adds = isDone o; replied = 0 }
+    record { outcome = o; writes = false; drops = false; adds = isDone o; notes = false; replied = 0 }
 
 -- what a write of words answers, and the words as it leaves them
 pub record WordsWriting : Type 0 where
@@ -55,11 +55,13 @@ pub record WordsWriting : Type 0 where
 abbrev pub leavesWords : Performed → List ℕ → WordsWriting
 leavesWords performed words = record { performed = performed; words = words }
 
--- "0x82, address (2), one or more words: write variables."; "otherwise a refusal changes nothing"
+-- "0x82, address (2), one or more words: write variables."; "otherwise a refusal changes nothing". 02, §4: "Line writes note the new value": one that is done
+-- asks the panel to note it
 unfoldable pub wordsWriting : (words content : List ℕ) → WordsWriting
 wordsWriting words content =
     let o = writeWordsOutcome (length words) content in
-    leavesWords (answered o 0) (cond (isDone o) (wordsWritten words (wordAt content 0) (drop 2 content)) words)
+    leavesWords (record { outcome = o; writes = false; drops = false; adds = false; notes = isDone o; replied = 0 })
+    (cond (isDone o) (wordsWritten words (wordAt content 0) (drop 2 content)) words)
 
 -- what a read answers, and the room as it leaves it
 pub record Replying : Type 0 where

@@ -38,5 +38,7 @@ pub struct Performed {
     pub drops: bool,
     // Its numbers are to be added to the curves.
     pub adds: bool,
+    // Its words are to be noted in the watch list.
+    pub notes: bool,
     pub replied: usize,
 }

@@ -28,6 +28,7 @@ pub fn add(content: &[u8]) -> Performed
         writes: false,
         drops: false,
         adds: outcomes::is_done(o),
+        notes: false,
         replied: 0,
     }
 }

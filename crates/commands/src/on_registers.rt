@@ -67,6 +67,7 @@ pub fn write(pages: u16, content: &[u8]) -> Performed
             writes: true,
             drops: registers::drops_catch(address, &content[1..]),
             adds: false,
+            notes: false,
             replied: 0,
         }
     } else {

@@ -46,7 +46,7 @@ fn judge_read(end: usize, checking: bool, content: &[u8]) -> Outcome
     Outcome::Done
 }
 
-// Judges a write and does it.
+// Judges a write and does it. One that is done asks for its words to be noted.
 pub fn write(words: &mut [u16], content: &[u8]) -> Performed
     ensures { λ r. ⌜ leavesWords r (now (words .exit)) ≡ wordsWriting (now (words .entry)) (now (content .entry)) ⌝ }
 {
@@ -54,7 +54,14 @@ pub fn write(words: &mut [u16], content: &[u8]) -> Performed
     if outcomes::is_done(o) {
         let address = WordAddress(wire::word_at(content, 0));
         words::write(words, address, &content[2..]);
-        return outcomes::answer(o, 0);
+        return Performed {
+            outcome: o,
+            writes: false,
+            drops: false,
+            adds: false,
+            notes: true,
+            replied: 0,
+        };
     }
     outcomes::answer(o, 0)
 }

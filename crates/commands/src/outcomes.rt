@@ -20,7 +20,7 @@ pub fn is_done(o: Outcome) -> bool
     }
 }
 
-// Registers, catch and curves stay.
+// Registers, catch and curves stay, and nothing is noted.
 pub fn answer(o: Outcome, replied: usize) -> Performed
     ensures { λ r. ⌜ r ≡ answered o replied ⌝ }
 {
@@ -29,6 +29,7 @@ pub fn answer(o: Outcome, replied: usize) -> Performed
         writes: false,
         drops: false,
         adds: false,
+        notes: false,
         replied: replied,
     }
 }

@@ -1,10 +1,8 @@
 // Which command it is.
 ghost use mathlib.Core.Path.{_≡_};
-ghost use mathlib.Core.List.{List};
-ghost use Prim.Native.Nat.{ℕ};
 ghost use lib.ListN.{length};
 ghost use Rattle.registers.specs.Table.{holding};
-ghost use Rattle.commands.specs.Lent.{lending};
+ghost use Rattle.commands.specs.Lent.{Lent, withWordsRoom};
 ghost use Rattle.commands.specs.Listed.{performedSaid, performSaid};
 ghost use Rattle.commands.specs.Perform.{performs, performance};
 use crate::Fixed;
@@ -16,7 +14,7 @@ use crate::on_words;
 use crate::outcomes;
 
 // A command with its data takes effect on what is lent, or is refused with nothing changed; a reply is laid over the front of the room. The
-// registers are only read, and the curves not at all: what is to be written into them is answered.
+// registers are only read, the curves and the watch list not at all: what is to be written into them is answered.
 pub fn perform(
     fixed: Fixed,
     registers: &[u8],
@@ -25,7 +23,7 @@ pub fn perform(
     words: &mut [u16],
     room: &mut [u8],
 ) -> Performed
-    ensures { λ r. ⌜ ((curves : List ℕ) → performs r (lending (now (words .exit)) curves (now (room .exit))) ≡ performance fixed (holding (now (registers .entry))) command (now (content .entry)) (lending (now (words .entry)) curves (now (room .entry)))) ⌝ }
+    ensures { λ r. ⌜ ((rest : Lent) → performs r (withWordsRoom rest (now (words .exit)) (now (room .exit))) ≡ performance fixed (holding (now (registers .entry))) command (now (content .entry)) (withWordsRoom rest (now (words .entry)) (now (room .entry)))) ⌝ }
     ensures { λ r. ⌜ performedSaid r ≡ performSaid fixed (length (now (words .entry))) (length (now (room .entry))) command (now (content .entry)) ⌝ }
 {
     if command == 0x80 {

@@ -15,7 +15,6 @@ write-spec =
     (λ c. search (needs, words-long))
     (λ c. search needs)
     (λ c κs. search needs)
-    (λ c κs. search needs)
     (λ c. search needs)
     (λ c. search words-done)
     (λ c κs. search needs)
