@@ -4,7 +4,6 @@ use mathlib.Core.List.{List, []}
 use Prim.Native.Nat.{ℕ}
 use denote.Ref.{now}
 use Rattle.wire.specs.OneAnswer.{OneAnswer, OneAnswerLeft}
-use Rattle.commands.specs.Lent.{lending}
 use Rattle.panel.specs.Reporting.{Reporting}
 use Rattle.panel.specs.Contacts.{Contacting}
 use Rattle.panel.proofs.Panel.report.Reads as report
@@ -34,19 +33,22 @@ use Rattle.panel.proofs.Panel.lift.Kinds as lift-kinds
 use Rattle.panel.proofs.Panel.is_waiting.Reads as is-waiting
 use Rattle.panel.proofs.Panel.is_waiting.Kinds as is-waiting-kinds
 
+-- the words, the curve area, the room and the values last sent are what asking changes
 pub report-determined :
-    OneAnswerLeft 3 report-kinds.ps report-kinds.r report.Post {B = List ℕ × (List ℕ × List ℕ)}
-    (λ κs s. (now (s .1 .0), (now (s .1 .1 .0), now (s .1 .1 .1 .0))))
+    OneAnswerLeft 6 report-kinds.ps report-kinds.r report.Post {B = List ℕ × (List ℕ × (List ℕ × List ℕ))}
+    (λ κs s. (now (s .1 .0), (now (s .1 .1 .0), (now (s .1 .1 .1 .0), now (s .1 .1 .1 .1 .1 .1 .0)))))
 report-determined κs a x y s t p q = (
   ap (λ (d : Reporting). d .reported) (p .0 ∙ sym (q .0)),
-  ap (λ (d : Reporting). (d .lent .words, (d .lent .curves, d .lent .room))) (p .0 ∙ sym (q .0)),
+  ap (λ (d : Reporting). (d .lent .words, (d .lent .curves, (d .lent .room, d .lent .watched .values)))) (p .0 ∙ sym (q .0)),
 )
 
--- of a contact whatever else is lent may be taken to be nothing
-pub contact-determined : OneAnswerLeft 2 contact-kinds.ps contact-kinds.r contact.Post (λ κs s. now (s .1 .1 .0))
+-- of a contact the curve area, which it is not lent, may be taken to be empty
+pub contact-determined :
+    OneAnswerLeft 6 contact-kinds.ps contact-kinds.r contact.Post {B = List ℕ × (List ℕ × List ℕ)}
+    (λ κs s. (now (s .1 .1 .0), (now (s .1 .1 .1 .0), now (s .1 .1 .1 .1 .1 .1 .0))))
 contact-determined κs a x y s t p q =
-    let both = p .0 (lending [] [] []) ∙ sym (q .0 (lending [] [] [])) in
-    (ap (λ (d : Contacting). d .contacted) both, ap (λ (d : Contacting). d .lent .words) both)
+    let both = p .0 [] ∙ sym (q .0 []) in
+    (ap (λ (d : Contacting). d .contacted) both, ap (λ (d : Contacting). (d .lent .words, (d .lent .room, d .lent .watched .values))) both)
 
 pub curve-count-determined : OneAnswer 0 curve-count-kinds.ps curve-count-kinds.r curve-count.Post
 curve-count-determined κs a x y s t p q = p ∙ sym q

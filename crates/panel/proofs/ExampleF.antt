@@ -1,6 +1,6 @@
 -- 01, "Proved examples": "f. Checking off, 5A A5 05 82 00 10 01 F4: word 0010 becomes 500."
 use mathlib.Core.Path.{_≡_, refl}
-use mathlib.Core.Bool.{true}
+use mathlib.Core.Bool.{true, false}
 use mathlib.Core.List.{List, [], _∷_}
 use Prim.Native.Nat.{ℕ, _≤_, _<_}
 use native.Mathlib.Omega.{arith}
@@ -17,6 +17,7 @@ use Rattle.line.specs.Methods.{givenByte, givenBytes, asked}
 use Rattle.wire.specs.Addresses.{wordCount}
 use Rattle.words.specs.Words.{wordAtAddress}
 use Rattle.curves.specs.Area.{curveWords}
+use Rattle.watch.specs.Judge.{wrongList}
 use Rattle.commands.specs.Lent.{Lent, withRoom}
 use Rattle.commands.proofs.ExampleF.{exampleData, example-f}
 use Rattle.touch.specs.declared.Setup.{Setup}
@@ -57,12 +58,12 @@ module _ (pages width height : ℕ) where
   unfolding fedBytes newPanel givenBytes givenByte asked padded headerBytes checkLength leastLength contentOf rightCheck look behind afterHeader decidedByCheck cutShort isPass passes stillClosed settled withByte
   data-read = refl
 
-  -- the frame has come whole: asking with words and room as they must be sets word 0010 to 500
+  -- the frame has come whole: asking with all that is lent as it must be sets word 0010 to 500
   pub example-f-of-the-panel : (lent : Lent) → length (lent .words) ≡ wordCount → length (lent .curves) ≡ curveWords
-      → leastRoom ≤ length (lent .room)
+      → leastRoom ≤ length (lent .room) → wrongList (lent .watched) ≡ false
       → wordAtAddress (reporting (exampleFed pages width height) lent .lent .words) 0x10 ≡ 500
   unfolding reporting enough
-  example-f-of-the-panel lent whole area large =
+  example-f-of-the-panel lent whole area large list =
       let a = asked (exampleFed pages width height .reader) in
-      rw (eq-eqb (length (lent .words)) wordCount whole, eq-eqb (length (lent .curves)) curveWords area, le-leb leastRoom (length (lent .room)) large, frame-read)
+      rw (eq-eqb (length (lent .words)) wordCount whole, eq-eqb (length (lent .curves)) curveWords area, le-leb leastRoom (length (lent .room)) large, list, frame-read)
       (stored-500 pages width height lent (omega arith) (record { report = line.Accepted 0x82 4; payload = a .payload; reader = a .reader }) data-read)

@@ -1,4 +1,4 @@
--- No call changes how many words are lent or how large the reply room is.
+-- No call changes how many words are lent, how large the reply room is, or whether the watch list is refused.
 use mathlib.Core.Path.{_≡_, refl, sym, ap, _∙_}
 use mathlib.Core.Bool.{Bool, true, false, cond, _&&_}
 use mathlib.Core.List.{List, _++_}
@@ -28,6 +28,13 @@ use Rattle.contact.specs.declared.Pad.{Pad}
 use Rattle.contact.specs.Contact.{acting, pressed, dragging, heldDown, touched}
 use Rattle.curves.specs.declared.Counts.{Counts}
 use Rattle.curves.proofs.Lengths.{length-added}
+use Rattle.watch.specs.Watched.{Watched}
+use Rattle.watch.specs.Judge.{wrongList}
+use Rattle.watch.specs.Noting.{noted}
+use Rattle.watch.specs.Sending.{sending}
+use Rattle.watch.proofs.Judged.{judged-alike}
+use Rattle.watch.proofs.Noted.{length-noted}
+use Rattle.watch.proofs.Sent.{length-sending}
 use Rattle.commands.specs.declared.Outcome.{Outcome}
 use Rattle.commands.specs.declared.Fixed.{Fixed}
 use Rattle.commands.specs.Lent.{Lent, withRoom}
@@ -36,9 +43,12 @@ use Rattle.commands.specs.Effect.{wordsWriting, replying, registersReplying, wo
 use Rattle.commands.specs.Perform.{Performance, performance}
 use Rattle.panel.specs.declared.Panel.{Panel}
 use Rattle.panel.specs.State.{headerOf, fixedFor, answering, padOf}
-use Rattle.panel.specs.Reporting.{acknowledged, accepting, handingOver, drawing, handing, reporting}
+use Rattle.panel.specs.Reporting.{acknowledged, accepting, handingOver, drawing, noting, handing, reporting}
+use Rattle.panel.specs.Watching.{unasked, telling}
 use Rattle.panel.specs.Contacts.{Contact, contacting}
-use Rattle.panel.proofs.Ways.{contact-ways, report-ways}
+use Rattle.panel.proofs.Watchings.{unasked-short}
+use Rattle.panel.proofs.Touches.{room-large}
+use Rattle.panel.proofs.Ways.{touchedBy, contact-ways, report-ways}
 use Rattle.wire.proofs.Truths.{and-right}
 use Rattle.line.specs.Methods.{asked}
 
@@ -127,7 +137,7 @@ module _ (panel : Panel) (lent : Lent) where
   unfolding handing handingOver accepting
   reported-words-long =
       report-ways panel lent (λ r. length (r .lent .words) ≡ length (lent .words)) (λ h payload. refl) (λ command is. refl)
-      (λ command count is.
+      (λ good command count is.
       let answer = acknowledged (panel .setup) command true (lent .room) in
       performed-words-long (fixedFor (panel .setup)) (panel .registers) command (take count (asked (panel .reader) .payload))
       (withRoom lent (drop (answer .count) (answer .room))))
@@ -137,7 +147,7 @@ module _ (panel : Panel) (lent : Lent) where
   reported-room-long =
       report-ways panel lent (λ r. length (r .lent .room) ≡ length (lent .room)) (λ h payload. refl)
       (λ command is. answer-long (panel .setup) command false (lent .room))
-      (λ command count is.
+      (λ good command count is.
       let answer = acknowledged (panel .setup) command true (lent .room) in
       let part = withRoom lent (drop (answer .count) (answer .room)) in
       let content = take count (asked (panel .reader) .payload) in
@@ -155,10 +165,25 @@ pub reported-area-long : (panel : Panel) (lent : Lent) → length (reporting pan
 unfolding handing handingOver
 reported-area-long panel lent =
     report-ways panel lent (λ r. length (r .lent .curves) ≡ length (lent .curves)) (λ h payload. refl) (λ command is. refl)
-    (λ command count is.
+    (λ good command count is.
     let content = take count (asked (panel .reader) .payload) in
     let done = accepting (panel .setup) (panel .registers) command content lent .effected .performed in
     drawn-long (done .writes) (done .adds) (panel .counts) content (lent .curves))
+
+-- what a report notes: as many values, of the same entries
+pub noting-judged : (notes : Bool) (content words : List ℕ) (w : Watched) → wrongList (noting notes content words w) ≡ wrongList w
+noting-judged true content words w =
+    judged-alike w (noted words w (wordAt content 0) (length (wordsOf (drop 2 content)))) (length-noted words w (wordAt content 0) (length (wordsOf (drop 2 content))))
+noting-judged false content words w = refl
+
+pub reported-list-judged : (panel : Panel) (lent : Lent) → wrongList (reporting panel lent .lent .watched) ≡ wrongList (lent .watched)
+unfolding handing handingOver
+reported-list-judged panel lent =
+    report-ways panel lent (λ r. wrongList (r .lent .watched) ≡ wrongList (lent .watched)) (λ h payload. refl) (λ command is. refl)
+    (λ good command count is.
+    let content = take count (asked (panel .reader) .payload) in
+    let done = accepting (panel .setup) (panel .registers) command content lent in
+    noting-judged (done .effected .performed .notes) content (done .lent .words) (lent .watched))
 
 -- a contact stores in one word at most
 dragged-long : (setup : Setup) (catch : Catch) (words : List ℕ) (x y : ℕ) → length (dragging setup catch words x y) ≡ length words
@@ -180,13 +205,31 @@ touched-long setup pad table words x y = go (isDown (pad .registers))
     go true = dragged-long setup (pad .catch) words x y
     go false = acted-long setup (found table (pageOf (pad .registers)) x y) (withPlace (withStatus (pad .registers) 0x01) x y) (pad .catch) words x y
 
-pub contacted-words-long : (panel : Panel) (c : Contact) (lent : Lent) → length (contacting panel c lent .lent .words) ≡ length (lent .words)
-contacted-words-long panel c lent =
-    contact-ways panel c lent (λ r. length (r .lent .words) ≡ length (lent .words)) (λ answer. refl)
-    (λ good. touched-long (panel .setup) (padOf panel) (c .table) (lent .words) (c .x) (c .y))
+module _ (panel : Panel) (c : Contact) (lent : Lent) where
+  pub contacted-words-long : length (contacting panel c lent .lent .words) ≡ length (lent .words)
+  unfolding telling
+  contacted-words-long =
+      contact-ways panel c lent (λ r. length (r .lent .words) ≡ length (lent .words)) (λ answer. refl)
+      (λ passed. touched-long (panel .setup) (padOf panel) (c .table) (lent .words) (c .x) (c .y))
 
-pub contacted-area-stands : (panel : Panel) (c : Contact) (lent : Lent) → contacting panel c lent .lent .curves ≡ lent .curves
-contacted-area-stands panel c lent = contact-ways panel c lent (λ r. r .lent .curves ≡ lent .curves) (λ answer. refl) (λ good. refl)
+  pub contacted-area-stands : contacting panel c lent .lent .curves ≡ lent .curves
+  unfolding telling
+  contacted-area-stands = contact-ways panel c lent (λ r. r .lent .curves ≡ lent .curves) (λ answer. refl) (λ passed. refl)
 
-pub contacted-room-stands : (panel : Panel) (c : Contact) (lent : Lent) → contacting panel c lent .lent .room ≡ lent .room
-contacted-room-stands panel c lent = contact-ways panel c lent (λ r. r .lent .room ≡ lent .room) (λ answer. refl) (λ good. refl)
+  pub contacted-room-long : length (contacting panel c lent .lent .room) ≡ length (lent .room)
+  unfolding telling
+  contacted-room-long =
+      contact-ways panel c lent (λ r. length (r .lent .room) ≡ length (lent .room)) (λ answer. refl)
+      (λ passed.
+      let words = touchedBy panel c lent .words in
+      let large = room-large (length (lent .words)) (length (lent .room)) false (sym (passed .well-lent)) refl in
+      let due = sending words (lent .watched) .due in
+      length-over (unasked (panel .setup) words due) (lent .room) (omega (arith, unasked-short (panel .setup) words due)))
+
+  pub contacted-list-judged : wrongList (contacting panel c lent .lent .watched) ≡ wrongList (lent .watched)
+  unfolding telling
+  contacted-list-judged =
+      contact-ways panel c lent (λ r. wrongList (r .lent .watched) ≡ wrongList (lent .watched)) (λ answer. refl)
+      (λ passed.
+      let words = touchedBy panel c lent .words in
+      judged-alike (lent .watched) (sending words (lent .watched) .values) (length-sending words (lent .watched)))

@@ -1,6 +1,7 @@
 pub mod Inputs
 pub mod Touches
 pub mod Reports
+pub mod Watchings
 pub mod Determined
 pub mod Ways
 pub mod Refusals

@@ -16,6 +16,7 @@ use Rattle.panel.specs.declared.Panel.{Panel}
 use Rattle.panel.specs.State.{fixedFor, padOf, panelRegister}
 use Rattle.panel.specs.Inputs.{fedByte, fedMark, fedBytes}
 use Rattle.panel.specs.Reporting.{acknowledged, accepting, handingOver, handing, reporting}
+use Rattle.panel.specs.Watching.{telling}
 use Rattle.panel.specs.Contacts.{Contact, contacting, lifting}
 use Rattle.panel.proofs.Ways.{contact-ways, lift-ways, report-ways}
 
@@ -35,7 +36,7 @@ module _ (panel : Panel) (lent : Lent) where
   reported-word k =
       report-ways panel lent (λ r. (wordAtAddress (r .lent .words) k ≡ wordAtAddress (lent .words) k) ⊎ ReportNamesWord panel (lent .words) k) (λ h payload. inl refl)
       (λ command is. inl refl)
-      (λ command count is.
+      (λ good command count is.
       let setup = panel .setup in
       let answer = acknowledged setup command true (lent .room) in
       ⊎-elim inl (λ named. inr (accepted command count is named))
@@ -48,7 +49,7 @@ module _ (panel : Panel) (lent : Lent) where
   reported-register whole address =
       report-ways panel lent (λ r. (panelRegister (r .reported .panel) address ≡ panelRegister panel address) ⊎ ReportNamesRegister panel address)
       (λ h payload. inl refl) (λ command is. inl refl)
-      (λ command count is.
+      (λ good command count is.
       let setup = panel .setup in
       let answer = acknowledged setup command true (lent .room) in
       ⊎-elim inl (λ named. inr (accepted command count is named))
@@ -59,17 +60,18 @@ module _ (panel : Panel) (c : Contact) (lent : Lent) where
   -- the word of the record that acts, or of the caught one
   pub contacted-word : (k : ℕ) → (wordAtAddress (contacting panel c lent .lent .words) k ≡ wordAtAddress (lent .words) k)
       ⊎ Touch.NamesWord (padOf panel) (c .table) (c .x) (c .y) k
+  unfolding telling
   contacted-word k =
       contact-ways panel c lent
       (λ r. (wordAtAddress (r .lent .words) k ≡ wordAtAddress (lent .words) k) ⊎ Touch.NamesWord (padOf panel) (c .table) (c .x) (c .y) k)
-      (λ answer. inl refl) (λ good. Touch.word-named (panel .setup) (padOf panel) (c .table) (lent .words) (c .x) (c .y) k)
+      (λ answer. inl refl) (λ passed. Touch.word-named (panel .setup) (padOf panel) (c .table) (lent .words) (c .x) (c .y) k)
 
   -- 03-04 for a next page, 05 the flag, 06 the status, 07-0A the place
   pub contacted-register : length (panel .registers .bytes) ≡ registerCount → (address : ℕ) → (address < 0x03) ⊎ (0x0B ≤ address)
       → panelRegister (contacting panel c lent .contacted .panel) address ≡ panelRegister panel address
   contacted-register whole address outside =
       contact-ways panel c lent (λ r. panelRegister (r .contacted .panel) address ≡ panelRegister panel address)
-      (λ answer. refl) (λ good. Touch.other-register-stays (panel .setup) (padOf panel) whole (c .table) (lent .words) (c .x) (c .y) address outside)
+      (λ answer. refl) (λ passed. Touch.other-register-stays (panel .setup) (padOf panel) whole (c .table) (lent .words) (c .x) (c .y) address outside)
 
 -- "Lift: status 02"
 pub lifted-register : (panel : Panel) → length (panel .registers .bytes) ≡ registerCount → (address : ℕ) → address ≢ 0x06

@@ -27,8 +27,8 @@ use Rattle.panel.specs.State.{fixedFor, withReader}
 use Rattle.panel.specs.Numbers.{startNumber, reportNumber, contactNumber, liftNumber}
 use Rattle.panel.specs.Start.{noPanel, refuses, startJudged, started}
 use Rattle.panel.specs.Inputs.{fedByte, fedMark, fedBytes}
-use Rattle.panel.specs.Reporting.{wellLent, acknowledged, accepting, Reporting, reports, handingOver, handing, refused, reporting}
-use Rattle.panel.specs.Contacts.{Contact, contacts, contacting, lifting}
+use Rattle.panel.specs.Reporting.{wellLent, acknowledged, accepting, Reporting, reports, handingOver, handing, refused, refusal, reporting}
+use Rattle.panel.specs.Contacts.{Contact, silent, contacting, lifting}
 use Rattle.panel.proofs.Ways.{contact-ways, lift-ways, report-ways}
 
 -- "A refused start gives no panel."
@@ -75,13 +75,13 @@ pub mark-refused-waits : (panel : Panel) → fedMark panel .answer ≡ line-answ
 unfolding fedMark givenMark
 mark-refused-waits panel is = answered-waits (busy (panel .reader)) (panel .reader) _ is
 
--- a contact with a number above 0 leaves the panel and all that is lent
+-- a contact with a number above 0 leaves the panel and all that is lent, and writes nothing
 pub refused-contact-changes-nothing : (panel : Panel) (c : Contact) (lent : Lent) → 0 < contactNumber (contacting panel c lent .contacted .answer)
-    → contacting panel c lent ≡ contacts (contacting panel c lent .contacted .answer) panel lent
+    → contacting panel c lent ≡ silent (contacting panel c lent .contacted .answer) panel lent
 unfolding contactNumber
 refused-contact-changes-nothing panel c lent =
-    contact-ways panel c lent (λ r. 0 < contactNumber (r .contacted .answer) → r ≡ contacts (r .contacted .answer) panel lent) (λ answer above. refl)
-    (λ good above. absurd (omega arith))
+    contact-ways panel c lent (λ r. 0 < contactNumber (r .contacted .answer) → r ≡ silent (r .contacted .answer) panel lent) (λ answer above. refl)
+    (λ passed above. absurd (omega arith))
 
 -- a lift with a number above 0 leaves the panel
 pub refused-lift-changes-nothing : (panel : Panel) → 0 < liftNumber (lifting panel .answer) → lifting panel .panel ≡ panel
@@ -89,10 +89,10 @@ unfolding liftNumber
 refused-lift-changes-nothing panel =
     lift-ways panel (λ l. 0 < liftNumber (l .answer) → l .panel ≡ panel) (λ above. refl) (λ above. refl) (λ above. absurd (omega arith))
 
--- asking with 14: "With 14 the report still waits."
-pub refused-report-14-changes-nothing : (panel : Panel) (lent : Lent) → wellLent lent ≡ false → reporting panel lent ≡ reports (refused panel) lent
+-- asking with 14 or 16: "With 14 the report still waits."; 02, §4: "the report still waiting"
+pub badly-lent-changes-nothing : (panel : Panel) (lent : Lent) → wellLent lent ≡ false → reporting panel lent ≡ reports (refused (refusal lent) panel) lent
 unfolding reporting
-refused-report-14-changes-nothing panel lent is = rw is
+badly-lent-changes-nothing panel lent is = rw is
 
 -- what asking leaves, where a command was handed over and refused
 pub record OnlyHanded (panel : Panel) (lent : Lent) (command : ℕ) (after : Reporting) : Type 0 where
@@ -125,7 +125,7 @@ module _ (panel : Panel) (lent : Lent) where
         take-append-drop (answer .count) (answer .room),
       )
 
--- an ask with a number above 0: 14, with the panel and all that is lent as they stood, or a refused command, handed over and acknowledged
+-- an ask with a number above 0: 14 or 16, with the panel and all that is lent as they stood, or a refused command, handed over and acknowledged
 pub data RefusedReport (panel : Panel) (lent : Lent) (after : Reporting) : Type 0 where
   not-lent : after .reported .panel ≡ panel → after .lent ≡ lent → RefusedReport panel lent after
   handed-over : (command count : ℕ) → asked (panel .reader) .report ≡ line.Accepted command count → OnlyHanded panel lent command after
@@ -148,7 +148,7 @@ pub refused-report-only-handed : (panel : Panel) (lent : Lent) → 0 < reportNum
 refused-report-only-handed panel lent =
     report-ways panel lent (λ r. 0 < reportNumber (r .reported .handed) → RefusedReport panel lent r) (λ h payload above. not-lent refl refl)
     (λ command is above. bad-has-none command above)
-    (λ command count is above. handed-over command count is (only-handed panel lent command count above))
+    (λ good command count is above. handed-over command count is (only-handed panel lent command count above))
   where
     bad-has-none : (command : ℕ) → 0 < reportNumber (handing (asked (panel .reader)) (line.BadCheck command) panel lent .reported .handed)
         → RefusedReport panel lent (handing (asked (panel .reader)) (line.BadCheck command) panel lent)
@@ -163,15 +163,15 @@ pub nothing-changes-nothing : (panel : Panel) (lent : Lent) → asked (panel .re
     → AsItStood panel lent (reporting panel lent)
 nothing-changes-nothing panel lent none =
     report-ways panel lent (λ r. AsItStood panel lent r) (λ h payload. (refl, refl))
-    (λ command is. absurd (let z : _≡_ {A = ℕ} 0 1 = cc in omega arith)) (λ command count is. absurd (let z : _≡_ {A = ℕ} 0 1 = cc in omega arith))
+    (λ command is. absurd (let z : _≡_ {A = ℕ} 0 1 = cc in omega arith)) (λ good command count is. absurd (let z : _≡_ {A = ℕ} 0 1 = cc in omega arith))
 
--- 14, by its number
-pub fourteen-changes-nothing : (panel : Panel) (lent : Lent) → reportNumber (reporting panel lent .reported .handed) ≡ 14
+-- 14 and 16, by their numbers: "With 14 the report still waits.", 02, §4: "the report still waiting"
+pub above-7-changes-nothing : (panel : Panel) (lent : Lent) → 7 < reportNumber (reporting panel lent .reported .handed)
     → AsItStood panel lent (reporting panel lent)
 unfolding reportNumber handing handingOver
-fourteen-changes-nothing panel lent =
-    report-ways panel lent (λ r. reportNumber (r .reported .handed) ≡ 14 → AsItStood panel lent r) (λ h payload is. (refl, refl))
-    (λ command is none. absurd (omega arith))
-    (λ command count is none.
+above-7-changes-nothing panel lent =
+    report-ways panel lent (λ r. 7 < reportNumber (r .reported .handed) → AsItStood panel lent r) (λ h payload above. (refl, refl))
+    (λ command is above. absurd (omega arith))
+    (λ good command count is above.
     let o = accepting (panel .setup) (panel .registers) command (take count (asked (panel .reader) .payload)) lent .effected .performed .outcome in
     absurd (omega (arith, number-at-most-7 o)))

@@ -21,6 +21,7 @@ use Rattle.line.specs.Front.{handsNothing, isBad, badCommand, frontCommand, fro
 use Rattle.line.proofs.Padding.{take-padded}
 use Rattle.line.proofs.Said.{front-report, front-payload}
 use Rattle.curves.specs.Area.{curveWords}
+use Rattle.watch.specs.Judge.{wrongList}
 use Rattle.commands.specs.Lent.{Lent, withRoom}
 use Rattle.commands.specs.Listed.{performedSaid, performSaid}
 use Rattle.commands.proofs.Said.{perform-as-listed}
@@ -93,20 +94,22 @@ module _ (panel : Panel) (lent : Lent) (whole : length (lent .words) ≡ wordCou
 report-as-listed : (panel : Panel) (lent : Lent) → handedSaid (reporting panel lent .reported .handed) ≡ askSaid panel lent
 unfolding reporting handing enough handedSaid reportNumber askListed firstSaid
 report-as-listed panel lent =
-    go (eqb (length (lent .words)) wordCount) refl (eqb (length (lent .curves)) curveWords) refl (leb leastRoom (length (lent .room))) refl
+    go (eqb (length (lent .words)) wordCount) refl (eqb (length (lent .curves)) curveWords) refl (leb leastRoom (length (lent .room))) refl (wrongList (lent .watched)) refl
   where
     -- the room that is lent
     room : ℕ
     room = length (lent .room)
 
     go : (w : Bool) → eqb (length (lent .words)) wordCount ≡ w → (c : Bool) → eqb (length (lent .curves)) curveWords ≡ c
-        → (r : Bool) → leb leastRoom (length (lent .room)) ≡ r → handedSaid (reporting panel lent .reported .handed) ≡ askSaid panel lent
-    go true w true c true r =
-        rw (w, c, r, le-ltb room leastRoom (leb-true leastRoom room r))
+        → (r : Bool) → leb leastRoom (length (lent .room)) ≡ r → (l : Bool) → wrongList (lent .watched) ≡ l
+        → handedSaid (reporting panel lent .reported .handed) ≡ askSaid panel lent
+    go true w true c true r false l =
+        rw (w, c, r, l, le-ltb room leastRoom (leb-true leastRoom room r))
         (waiting-said panel lent (eqb-true (length (lent .words)) wordCount w) (leb-true leastRoom room r))
-    go true w true c false r = rw (w, c, r, lt-ltb room leastRoom (leb-false leastRoom room r))
-    go true w false c r t = rw (w, c)
-    go false w c d r t = rw w
+    go true w true c true r true l = rw (w, c, r, l, le-ltb room leastRoom (leb-true leastRoom room r))
+    go true w true c false r l t = rw (w, c, r, lt-ltb room leastRoom (leb-false leastRoom room r))
+    go true w false c r t l u = rw (w, c)
+    go false w c d r t l u = rw w
 
 pub report-said : (panel : Panel) (lent left : Lent) (r : Reported) → reports r left ≡ reporting panel lent
     → (reports r left ≡ reporting panel lent) × (handedSaid (r .handed) ≡ askSaid panel lent)

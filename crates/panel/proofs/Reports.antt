@@ -27,19 +27,22 @@ use Rattle.commands.specs.declared.Fixed.{Fixed}
 use Rattle.curves.specs.declared.Counts.{Counts}
 use Rattle.curves.specs.Area.{curveWords, Drawn, draws}
 use Rattle.curves.specs.Adding.{added}
-use Rattle.commands.specs.Lent.{lending, withCurves, withRoom}
+use Rattle.watch.specs.Watched.{Watched}
+use Rattle.watch.specs.Judge.{wrongList}
+use Rattle.commands.specs.Lent.{Lent, lending, withRoom, withWordsRoom}
 use Rattle.commands.specs.Effect.{registersLeft, countsLeft}
 use Rattle.commands.specs.Perform.{Performance, performs, performance}
 use Rattle.touch.specs.declared.Setup.{Setup}
 use Rattle.touch.specs.Setup.{checkingOf, acknowledgingOf}
 use Rattle.contact.specs.declared.Catch.{Catch}
 use Rattle.panel.specs.declared.Panel.{Panel}
+use Rattle.panel.specs.declared.Handed.{Handed}
 use Rattle.panel.specs.declared.Handed.the-variants as handed
 use Rattle.panel.specs.declared.Effected.{Effected}
 use Rattle.panel.specs.declared.HandedOver.{HandedOver}
 use Rattle.panel.specs.declared.Reported.{Reported}
 use Rattle.panel.specs.State.{headerFor, headerOf, fixedFor, answering}
-use Rattle.panel.specs.Reporting.{enough, acknowledged, Effects, effects, accepting, HandingOver, overs, onlyHanded, acceptedOver, handingOver, lengthOf, catchAfter, drawing, Reporting, reports, handing, refused, reporting}
+use Rattle.panel.specs.Reporting.{enough, acknowledged, Effects, effects, accepting, HandingOver, overs, onlyHanded, acceptedOver, handingOver, lengthOf, catchAfter, drawing, noting, Reporting, reports, handing, refused, reporting}
 
 pub lent-judged : (words curves room : ℕ) → (eqb words wordCount && eqb curves curveWords && leb leastRoom room) ≡ enough words curves room
 unfolding enough
@@ -88,27 +91,27 @@ pub fixed-made : (setup : Setup) (header : Header) (c : Bool) → header ≡ hea
 fixed-made setup header c is-h is-c = rw (is-h, is-c)
 
 -- the command with the room's part behind the acknowledgement
-abbrev behindAnswer : Setup → Registers → (command : ℕ) → (content words curves : List ℕ) → Laid → Performance
-behindAnswer setup registers command content words curves l =
-    performance (fixedFor setup) registers command content (lending words curves (drop (l .count) (l .room)))
+abbrev behindAnswer : Setup → Registers → (command : ℕ) → (content words : List ℕ) → Lent → Laid → Performance
+behindAnswer setup registers command content words rest l =
+    performance (fixedFor setup) registers command content (withWordsRoom rest words (drop (l .count) (l .room)))
 
 abbrev joinedBehind : Laid → Performance → Effects
 joinedBehind l d = effects (record { performed = d .performed; acknowledged = l .count }) (withRoom (d .lent) (take (l .count) (l .room) ++ d .lent .room))
 
 pub accepts : (setup : Setup) (registers : Registers) (command : ℕ) (content words room : List ℕ) (count : ℕ) (left : List ℕ) (fixed : Fixed)
     (p : Performed) (words′ part : List ℕ) → lays count left ≡ acknowledged setup command true room → fixed ≡ fixedFor setup
-    → ((curves : List ℕ) → performs p (lending words′ curves part)
-    ≡ performance fixed registers command content (lending words curves (take (length left - count) (drop count left))))
-    → (curves : List ℕ)
-    → effects (record { performed = p; acknowledged = count }) (lending words′ curves (take count left ++ (part ++ drop (length left - count) (drop count left))))
-    ≡ accepting setup registers command content (lending words curves room)
+    → ((rest : Lent) → performs p (withWordsRoom rest words′ part)
+    ≡ performance fixed registers command content (withWordsRoom rest words (take (length left - count) (drop count left))))
+    → (rest : Lent)
+    → effects (record { performed = p; acknowledged = count }) (withWordsRoom rest words′ (take count left ++ (part ++ drop (length left - count) (drop count left))))
+    ≡ accepting setup registers command content (withWordsRoom rest words room)
 unfolding accepting
-accepts setup registers command content words room count left fixed p words′ part is-answer is-fixed is-p curves =
-    let done : performs p (lending words′ curves part) ≡ behindAnswer setup registers command content words curves (lays count left) =
-    is-p curves ∙ rw (part-whole left count, is-fixed) in
+accepts setup registers command content words room count left fixed p words′ part is-answer is-fixed is-p rest =
+    let done : performs p (withWordsRoom rest words′ part) ≡ behindAnswer setup registers command content words rest (lays count left) =
+    is-p rest ∙ rw (part-whole left count, is-fixed) in
     rw (part-end left count, append-nil)
     (ap (joinedBehind (lays count left)) done
-    ∙ ap (λ (l : Laid). joinedBehind l (behindAnswer setup registers command content words curves l)) is-answer)
+    ∙ ap (λ (l : Laid). joinedBehind l (behindAnswer setup registers command content words rest l)) is-answer)
 
 -- the data that was handed over, out of its array
 pub within-inside : (count n : ℕ) (payload : List ℕ) → n ≡ min count mostPayload → length payload ≡ mostPayload → n ≤ length payload
@@ -132,28 +135,28 @@ taken-same count n payload is long = go (leb count mostPayload) refl
 
 -- a report that is handed over
 module _ (setup : Setup) (registers : Registers) (report : Report) (payload words room : List ℕ) where
-  pub over-nothing : (o : HandedOver) → report ≡ line.Nothing → o ≡ onlyHanded handed.Nothing → (curves : List ℕ)
-      → overs o (lending words curves room) ≡ handingOver setup registers report payload (lending words curves room)
+  pub over-nothing : (o : HandedOver) → report ≡ line.Nothing → o ≡ onlyHanded handed.Nothing → (rest : Lent)
+      → overs o (withWordsRoom rest words room) ≡ handingOver setup registers report payload (withWordsRoom rest words room)
   unfolding handingOver
-  over-nothing o is is-o curves = rw (is, is-o)
+  over-nothing o is is-o rest = rw (is, is-o)
 
   pub over-bad : (command count : ℕ) (left : List ℕ) (o : HandedOver) → report ≡ line.BadCheck command → lays count left ≡ acknowledged setup command false room
-      → o ≡ onlyHanded (handed.BadCheck command count) → (curves : List ℕ)
-      → overs o (lending words curves left) ≡ handingOver setup registers report payload (lending words curves room)
+      → o ≡ onlyHanded (handed.BadCheck command count) → (rest : Lent)
+      → overs o (withWordsRoom rest words left) ≡ handingOver setup registers report payload (withWordsRoom rest words room)
   unfolding handingOver
-  over-bad command count left o is e is-o curves =
-      rw (is, is-o) (ap (λ (l : Laid). overs (onlyHanded (handed.BadCheck command (l .count))) (lending words curves (l .room))) e)
+  over-bad command count left o is e is-o rest =
+      rw (is, is-o) (ap (λ (l : Laid). overs (onlyHanded (handed.BadCheck command (l .count))) (withWordsRoom rest words (l .room))) e)
 
   pub over-accepted : (command len n : ℕ) (e : Effected) (words′ left : List ℕ) (o : HandedOver) → report ≡ line.Accepted command len → n ≡ min len mostPayload
       → length payload ≡ mostPayload
-      → ((curves : List ℕ) → effects e (lending words′ curves left) ≡ accepting setup registers command (take n payload) (lending words curves room))
-      → o ≡ acceptedOver command len e → (curves : List ℕ)
-      → overs o (lending words′ curves left) ≡ handingOver setup registers report payload (lending words curves room)
+      → ((rest : Lent) → effects e (withWordsRoom rest words′ left) ≡ accepting setup registers command (take n payload) (withWordsRoom rest words room))
+      → o ≡ acceptedOver command len e → (rest : Lent)
+      → overs o (withWordsRoom rest words′ left) ≡ handingOver setup registers report payload (withWordsRoom rest words room)
   unfolding handingOver
-  over-accepted command len n e words′ left o is is-n long done is-o curves =
+  over-accepted command len n e words′ left o is is-n long done is-o rest =
       rw (is, is-o)
       (ap (λ (d : Effects). overs (acceptedOver command len (d .effected)) (d .lent))
-      (done curves ∙ ap (λ (content : List ℕ). accepting setup registers command content (lending words curves room)) (taken-same len n payload is-n long)))
+      (done rest ∙ ap (λ (content : List ℕ). accepting setup registers command content (withWordsRoom rest words room)) (taken-same len n payload is-n long)))
 
 -- what a report does to the curves
 module _ (writes adds : Bool) (counts : Counts) (content area : List ℕ) where
@@ -181,14 +184,14 @@ module _ (registers : Registers) (writes : Bool) (content : List ℕ) (after : R
   pub behind-unwritten : writes ≡ false → after ≡ registers → after ≡ cond writes (registersLeft registers content) registers
   behind-unwritten is is-after = rw (is, is-after)
 
--- words, curve area or room are not what they must be
-pub refused-is : (panel : Panel) (payload : List ℕ) → payload ≡ padded mostPayload []
-    → _≡_ {A = Reported} (record { handed = handed.NotLent; payload = payload; panel = panel }) (refused panel)
-refused-is panel payload empty = rw empty
+-- what is lent is not what it must be
+pub refused-is : (given : Handed) (panel : Panel) (payload : List ℕ) → payload ≡ padded mostPayload []
+    → _≡_ {A = Reported} (record { handed = given; payload = payload; panel = panel }) (refused given panel)
+refused-is given panel payload empty = rw empty
 
 -- the panel behind a report
-abbrev leftBehind : Panel → Asked → (curves : List ℕ) → HandingOver → Reporting
-leftBehind panel a curves done =
+abbrev leftBehind : Panel → Asked → (curves : List ℕ) → Watched → HandingOver → Reporting
+leftBehind panel a curves watched done =
     let content = take (lengthOf (a .report)) (a .payload) in
     let drawn = drawing (done .over .writes) (done .over .adds) (panel .counts) content curves in
     reports
@@ -203,48 +206,61 @@ leftBehind panel a curves done =
         reader = a .reader;
       };
     })
-    (withCurves (done .lent) (drawn .area))
+    (lending (done .lent .words) (drawn .area) (done .lent .room) (noting (done .over .notes) content (done .lent .words) watched))
 
-module _ (panel : Panel) (words curves room : List ℕ) (l : Bool) (is-l : l ≡ enough (length words) (length curves) (length room)) where
-  pub reported-refused : (r : Reported) → l ≡ false → r ≡ refused panel → reports r (lending words curves room) ≡ reporting panel (lending words curves room)
+module _ (panel : Panel) (words curves room : List ℕ) (watched : Watched) (l : Bool) (is-l : l ≡ enough (length words) (length curves) (length room)) where
+  -- all that an ask is lent
+  abbrev lent : Lent
+  lent = lending words curves room watched
+
+  pub reported-14 : (r : Reported) → l ≡ false → r ≡ refused handed.NotLent panel → reports r lent ≡ reporting panel lent
   unfolding reporting
-  reported-refused r is is-r = rw (is-r, sym is-l ∙ is)
+  reported-14 r is is-r = rw (is-r, sym is-l ∙ is)
 
-  module _ (is : l ≡ true) (a : Asked) (is-a : a ≡ asked (panel .reader)) (o : HandedOver) (words′ left : List ℕ)
-      (is-o : overs o (lending words′ curves left) ≡ handingOver (panel .setup) (panel .registers) (a .report) (a .payload) (lending words curves room))
-      (catch : Catch) (is-catch : catch ≡ catchAfter (o .drops) (panel .catch)) where
-    behind : leftBehind panel a curves (overs o (lending words′ curves left)) ≡ reporting panel (lending words curves room)
-    unfolding reporting handing
-    behind = rw (sym is-l ∙ is) (ap (leftBehind panel a curves) is-o ∙ ap (λ (x : Asked). handing x (x .report) panel (lending words curves room)) is-a)
+  module _ (is : l ≡ true) (wrong : Bool) (is-wrong : wrong ≡ wrongList watched) where
+    pub reported-16 : (r : Reported) → wrong ≡ true → r ≡ refused handed.WrongList panel → reports r lent ≡ reporting panel lent
+    unfolding reporting
+    reported-16 r wrongly is-r = rw (is-r, sym is-l ∙ is, sym is-wrong ∙ wrongly)
 
-    -- n is how much of the array is handed on as the data
-    pub reported-behind : (n : ℕ) → take n (a .payload) ≡ take (lengthOf (a .report)) (a .payload) → (after : Registers)
-        → after ≡ cond (o .writes) (registersLeft (panel .registers) (take n (a .payload))) (panel .registers) → (counts : Counts) (area : List ℕ)
-        → draws counts area ≡ drawing (o .writes) (o .adds) (panel .counts) (take n (a .payload)) curves
-        → reports
-        (record {
-          handed = o .handed;
-          payload = a .payload;
-          panel = record { setup = panel .setup; registers = after; catch = catch; counts = counts; reader = a .reader };
-        }) (lending words′ area left) ≡ reporting panel (lending words curves room)
-    reported-behind n whole after is-after counts area is-drawn =
-        let content = take (lengthOf (a .report)) (a .payload) in
-        let drawn : draws counts area ≡ drawing (o .writes) (o .adds) (panel .counts) content curves =
-        is-drawn ∙ ap (λ (c : List ℕ). drawing (o .writes) (o .adds) (panel .counts) c curves) whole in
-        let written : after ≡ cond (o .writes) (registersLeft (panel .registers) content) (panel .registers) =
-        is-after ∙ ap (λ (c : List ℕ). cond (o .writes) (registersLeft (panel .registers) c) (panel .registers)) whole in
-        rw (written, is-catch)
-        (ap (λ (d : Drawn).
-        reports
-        (record {
-          handed = o .handed;
-          payload = a .payload;
-          panel = record {
-            setup = panel .setup;
-            registers = cond (o .writes) (registersLeft (panel .registers) content) (panel .registers);
-            catch = catchAfter (o .drops) (panel .catch);
-            counts = d .counts;
-            reader = a .reader;
-          };
-        }) (lending words′ (d .area) left)) drawn
-        ∙ behind)
+    module _ (good : wrong ≡ false) (a : Asked) (is-a : a ≡ asked (panel .reader)) (o : HandedOver) (words′ left : List ℕ)
+        (is-o : overs o (withWordsRoom lent words′ left) ≡ handingOver (panel .setup) (panel .registers) (a .report) (a .payload) lent)
+        (catch : Catch) (is-catch : catch ≡ catchAfter (o .drops) (panel .catch)) where
+      behind : leftBehind panel a curves watched (overs o (withWordsRoom lent words′ left)) ≡ reporting panel lent
+      unfolding reporting handing
+      behind =
+          rw (sym is-l ∙ is, sym is-wrong ∙ good)
+          (ap (leftBehind panel a curves watched) is-o ∙ ap (λ (x : Asked). handing x (x .report) panel lent) is-a)
+
+      -- n is how much of the array is handed on as the data
+      pub reported-behind : (n : ℕ) → take n (a .payload) ≡ take (lengthOf (a .report)) (a .payload) → (after : Registers)
+          → after ≡ cond (o .writes) (registersLeft (panel .registers) (take n (a .payload))) (panel .registers) → (counts : Counts) (area : List ℕ)
+          → draws counts area ≡ drawing (o .writes) (o .adds) (panel .counts) (take n (a .payload)) curves → (watched′ : Watched)
+          → watched′ ≡ noting (o .notes) (take n (a .payload)) words′ watched
+          → reports
+          (record {
+            handed = o .handed;
+            payload = a .payload;
+            panel = record { setup = panel .setup; registers = after; catch = catch; counts = counts; reader = a .reader };
+          }) (lending words′ area left watched′) ≡ reporting panel lent
+      reported-behind n whole after is-after counts area is-drawn watched′ is-noted =
+          let content = take (lengthOf (a .report)) (a .payload) in
+          let drawn : draws counts area ≡ drawing (o .writes) (o .adds) (panel .counts) content curves =
+          is-drawn ∙ ap (λ (c : List ℕ). drawing (o .writes) (o .adds) (panel .counts) c curves) whole in
+          let written : after ≡ cond (o .writes) (registersLeft (panel .registers) content) (panel .registers) =
+          is-after ∙ ap (λ (c : List ℕ). cond (o .writes) (registersLeft (panel .registers) c) (panel .registers)) whole in
+          let marked : watched′ ≡ noting (o .notes) content words′ watched = is-noted ∙ ap (λ (c : List ℕ). noting (o .notes) c words′ watched) whole in
+          rw (written, is-catch, marked)
+          (ap (λ (d : Drawn).
+          reports
+          (record {
+            handed = o .handed;
+            payload = a .payload;
+            panel = record {
+              setup = panel .setup;
+              registers = cond (o .writes) (registersLeft (panel .registers) content) (panel .registers);
+              catch = catchAfter (o .drops) (panel .catch);
+              counts = d .counts;
+              reader = a .reader;
+            };
+          }) (lending words′ (d .area) left (noting (o .notes) content words′ watched))) drawn
+          ∙ behind)

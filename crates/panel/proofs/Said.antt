@@ -3,14 +3,13 @@ use mathlib.Core.Path.{_≡_, refl, sym, ap, _∙_}
 use mathlib.Core.Bool.{Bool, true, false, cond, not}
 use mathlib.Core.List.{List, []}
 use Prim.Native.Nat.{ℕ}
-use lib.Dec.{eqb}
 use lib.ListN.{length}
-use Rattle.wire.specs.Addresses.{wordCount}
 use Rattle.wire.specs.Numbers.{Said, says, firstSaid}
 use Rattle.line.specs.declared.Given.{Given}
 use Rattle.line.specs.Methods.{busy, answerSaid, inputSaid, givenByte, givenMark}
 use Rattle.line.proofs.Said.{byte-said, mark-said}
 use Rattle.registers.specs.Touched.{isDown, isTouchOff}
+use Rattle.watch.specs.Judge.{wrongList}
 use Rattle.commands.specs.Lent.{Lent, withWords}
 use Rattle.touch.specs.declared.Setup.{Setup}
 use Rattle.touch.specs.declared.Found.{Found}
@@ -31,10 +30,11 @@ use Rattle.panel.specs.Numbers.{startNumber, startSaid, contactNumber, c
 use Rattle.panel.specs.Start.{refuses, startJudged, started}
 use Rattle.panel.specs.Inputs.{fedByte, fedMark}
 use Rattle.panel.specs.State.{padOf, withPad}
-use Rattle.panel.specs.Contacts.{onScreen, Contact, Contacting, contacts, contactOn, contactJudged, contacting, lifting}
-use Rattle.panel.specs.Listed.{startListed, contactListed, liftListed, saidBy}
+use Rattle.panel.specs.Contacts.{onScreen, Contact, Contacting, contacts, silent, contactOn, contactJudged, told, touchNotLent, contacting, lifting}
+use Rattle.panel.specs.Watching.{telling}
+use Rattle.panel.specs.Listed.{startListed, contactListed, contactSaidDone, contactAnswered, liftListed, saidBy}
 use Rattle.panel.proofs.Ways.{lifts}
-use Rattle.contact.specs.Contact.{lifted}
+use Rattle.contact.specs.Contact.{Touching, touched, lifted}
 
 start-as-listed : (setup : Setup) (table : List ℕ) → startSaid (started setup table .answer) ≡ saidBy (startListed setup table)
 unfolding started startJudged judged startSaid startNumber startListed setupListed tableListed firstSaid
@@ -63,42 +63,51 @@ unfolding fedMark
 mark-fed-said panel r is = (is, ap (λ (f : Fed). answerSaid (f .answer)) is ∙ mark-said (givenMark (panel .reader)) (panel .reader) refl .1)
 
 -- a contact
+said : Contacting → Said
+said r = contactSaid (r .contacted .answer) (r .contacted .written)
+
 module _ (panel : Panel) (c : Contact) (lent : Lent) where
-  on-said : contactSaid (contactOn panel c lent .contacted .answer)
-      ≡ cond (isTouchOff (panel .registers)) (says 9 []) (cond (not (onScreen (panel .setup) (c .x) (c .y))) (says 8 []) (says 0 []))
-  unfolding contactOn contactSaid contactNumber
-  on-said = go (isTouchOff (panel .registers)) (not (onScreen (panel .setup) (c .x) (c .y))) _
+  -- what is said behind the table: 9, 8, or that the contact is done and how many bytes it wrote
+  rest : Said
+  rest = cond (isTouchOff (panel .registers)) (says 9 []) (cond (not (onScreen (panel .setup) (c .x) (c .y))) (says 8 []) (contactSaidDone panel c lent))
+
+  on-said : said (told (panel .setup) (contactOn panel c lent)) ≡ rest
+  unfolding said rest contactOn told telling contactSaid contactNumber contactSaidDone
+  on-said = go (isTouchOff (panel .registers)) (not (onScreen (panel .setup) (c .x) (c .y)))
     where
-      go : (a b : Bool) (done : Panel × Lent)
-          → contactSaid (cond a (contacts contact.TouchOff panel lent) (cond b (contacts contact.OffScreen panel lent) (contacts contact.Done (done .0) (done .1))) .contacted .answer)
-          ≡ cond a (says 9 []) (cond b (says 8 []) (says 0 []))
-      go true b done = refl
-      go false true done = refl
-      go false false done = refl
+      touch : Touching
+      touch = touched (panel .setup) (padOf panel) (c .table) (lent .words) (c .x) (c .y)
 
-  contact-as-listed : contactSaid (contacting panel c lent .contacted .answer) ≡ saidBy (contactListed panel c lent)
-  unfolding contacting contactJudged judged contactSaid contactNumber contactListed tableListed firstSaid
-  contact-as-listed = go (not (eqb (length (lent .words)) wordCount)) (busy (panel .reader)) (notRecords (c .table)) (firstOf (wrong (panel .setup)) 0 (recordsOf (c .table)))
+      go : (a b : Bool)
+          → said (told (panel .setup) (cond a (silent contact.TouchOff panel lent) (cond b (silent contact.OffScreen panel lent) (silent contact.Done (withPad panel (touch .pad)) (withWords lent (touch .words))))))
+          ≡ cond a (says 9 []) (cond b (says 8 []) (contactSaidDone panel c lent))
+      go true b = refl
+      go false true = refl
+      go false false = refl
+
+  contact-as-listed : said (contacting panel c lent) ≡ contactAnswered panel c lent
+  unfolding said rest contacting contactJudged told judged contactSaid contactNumber contactListed tableListed firstSaid
+  contact-as-listed =
+      go (touchNotLent (length (lent .words)) (length (lent .room))) (wrongList (lent .watched)) (busy (panel .reader)) (notRecords (c .table))
+      (firstOf (wrong (panel .setup)) 0 (recordsOf (c .table)))
     where
-      rest : Said
-      rest = cond (isTouchOff (panel .registers)) (says 9 []) (cond (not (onScreen (panel .setup) (c .x) (c .y))) (says 8 []) (says 0 []))
+      go : (a w b d : Bool) (f : Found)
+          → said (cond a (silent contact.NotLent panel lent) (cond w (silent contact.WrongList panel lent) (cond b (silent contact.Waits panel lent)
+          (told (panel .setup) (contactJudged (cond d NotRecords (namedWrong f)) panel c lent)))))
+          ≡ cond a (says 14 []) (cond w (says 16 []) (cond b (says 1 []) (cond d (says 12 []) (cond (isFound f) (says 13 (numberFound f)) rest))))
+      go true w b d f = refl
+      go false true b d f = refl
+      go false false true d f = refl
+      go false false false true f = refl
+      go false false false false Nothing = on-said
+      go false false false false (At i r) = refl
 
-      go : (a b d : Bool) (f : Found)
-          → contactSaid (cond a (contacts contact.NotLent panel lent) (cond b (contacts contact.Waits panel lent)
-          (contactJudged (cond d NotRecords (namedWrong f)) panel c lent)) .contacted .answer)
-          ≡ cond a (says 14 []) (cond b (says 1 []) (cond d (says 12 []) (cond (isFound f) (says 13 (numberFound f)) rest)))
-      go true b d f = refl
-      go false true d f = refl
-      go false false true f = refl
-      go false false false Nothing = on-said
-      go false false false (At i r) = refl
-
-pub contact-said : (panel : Panel) (c : Contact) (words left : List ℕ) (r : Contacted)
-    → ((rest : Lent) → contacts (r .answer) (r .panel) (withWords rest left) ≡ contacting panel c (withWords rest words))
-    → ((rest : Lent) → contacts (r .answer) (r .panel) (withWords rest left) ≡ contacting panel c (withWords rest words))
-    × ((rest : Lent) → contactSaid (r .answer) ≡ saidBy (contactListed panel c (withWords rest words)))
-contact-said panel c words left r is =
-    (is, λ rest. ap (λ (d : Contacting). contactSaid (d .contacted .answer)) (is rest) ∙ contact-as-listed panel c (withWords rest words))
+pub contact-said : (panel : Panel) (c : Contact) (given left : (curves : List ℕ) → Lent) (r : Contacted)
+    → ((curves : List ℕ) → contacts r (left curves) ≡ contacting panel c (given curves))
+    → ((curves : List ℕ) → contacts r (left curves) ≡ contacting panel c (given curves))
+    × ((curves : List ℕ) → contactSaid (r .answer) (r .written) ≡ contactAnswered panel c (given curves))
+unfolding said
+contact-said panel c given left r is = (is, λ curves. ap said (is curves) ∙ contact-as-listed panel c (given curves))
 
 -- a lift
 lift-as-listed : (panel : Panel) → liftSaid (lifting panel .answer) ≡ saidBy (liftListed panel)

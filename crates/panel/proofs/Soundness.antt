@@ -167,8 +167,8 @@ module _ (panel : Panel) (sound : Sound panel) where
   pub contact-sound : (c : Contact) (lent : Lent) → Sound (contacting panel c lent .contacted .panel)
   contact-sound c lent =
       contact-ways panel c lent (λ r. Sound (r .contacted .panel)) (λ answer. sound)
-      (λ good. record {
-        pad = touched-sound (panel .setup) (State.padOf panel) (sound .pad) (c .x) (c .y) (c .table) (lent .words) good;
+      (λ passed. record {
+        pad = touched-sound (panel .setup) (State.padOf panel) (sound .pad) (c .x) (c .y) (c .table) (lent .words) (passed .table-good);
         fixed = λ address never outside.
             other-register-stays (panel .setup) (State.padOf panel) (sound .pad .whole) (c .table) (lent .words) (c .x) (c .y) address outside ∙ sound .fixed address never outside;
         clear-reads =
@@ -280,7 +280,7 @@ report-sound panel sound lent =
     let asks = reads-asked (lineOf (panel .setup)) (panel .reader) (sound .reads) in
     report-ways panel lent (λ r. Sound (r .reported .panel)) (λ h payload. sound)
     (λ command is. reader-sound panel sound (asked (panel .reader) .reader) asks)
-    (λ command count is.
+    (λ good command count is.
     let setup = panel .setup in
     let answer = acknowledged setup command true (lent .room) in
     let content = take count (asked (panel .reader) .payload) in

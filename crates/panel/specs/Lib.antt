@@ -3,7 +3,9 @@ pub mod Numbers
 pub mod Start
 pub mod Inputs
 pub mod Reporting
+pub mod Watching
 pub mod Contacts
+pub mod Inner
 pub mod Sound
 pub mod Reachable
 pub mod Listed

@@ -1,10 +1,11 @@
 -- 01: "asking for a report 14, then 2 to 7 in turn". "An accepted frame takes effect when its report is handed over."
 use Prim.Native.Nat.{ℕ}
-use mathlib.Core.Bool.{Bool, true, false, cond, _&&_}
+use mathlib.Core.Bool.{Bool, true, false, cond, not, _&&_}
 use mathlib.Core.List.{List, [], _++_}
 use lib.Dec.{eqb, leb}
 use lib.ListN.{length, take, drop}
 use Rattle.wire.specs.Addresses.{wordCount}
+use Rattle.wire.specs.ByteOrder.{wordAt}
 use Rattle.wire.specs.Room.{Laid, lays}
 use Rattle.frame.specs.Frame.{mostPayload}
 use Rattle.frame.specs.Writer.{leastRoom, acknowledgementLaid}
@@ -14,10 +15,14 @@ use Rattle.line.specs.declared.Asked.{Asked}
 use Rattle.line.specs.State.{padded}
 use Rattle.line.specs.Methods.{asked}
 use Rattle.registers.specs.declared.Registers.{Registers}
+use Rattle.words.specs.Words.{wordsOf}
 use Rattle.curves.specs.declared.Counts.{Counts}
 use Rattle.curves.specs.Area.{curveWords, Drawn, draws}
 use Rattle.curves.specs.Adding.{added}
-use Rattle.commands.specs.Lent.{Lent, withCurves, withRoom}
+use Rattle.watch.specs.Watched.{Watched, withValues}
+use Rattle.watch.specs.Judge.{wrongList}
+use Rattle.watch.specs.Noting.{noted}
+use Rattle.commands.specs.Lent.{Lent, lending, withRoom}
 use Rattle.commands.specs.Effect.{registersLeft, countsLeft}
 use Rattle.commands.specs.Perform.{performance}
 use Rattle.touch.specs.declared.Setup.{Setup}
@@ -36,8 +41,12 @@ unfoldable pub enough : (words curves room : ℕ) → Bool
 enough words curves room = eqb words wordCount && eqb curves curveWords && leb leastRoom room
 
 -- the same of what is lent
+abbrev pub enoughLent : Lent → Bool
+enoughLent lent = enough (length (lent .words)) (length (lent .curves)) (length (lent .room))
+
+-- neither 14 nor 16 is given: 02, §4, "16, two entries in use share a word or one in use has an address not below 0x7000, or the list is longer than 16"
 abbrev pub wellLent : Lent → Bool
-wellLent lent = enough (length (lent .words)) (length (lent .curves)) (length (lent .room))
+wellLent lent = enoughLent lent && not (wrongList (lent .watched))
 
 -- "With checking and acknowledging both on, each accepted frame is first answered by header, length, command, 0xFF, check; each bad check
 -- by the same with 0x00."
@@ -62,7 +71,7 @@ accepting setup registers command content lent =
     (withRoom (done .lent) (take (answer .count) (answer .room) ++ done .lent .room))
 
 -- a report that is handed over: what is answered, whether the frame's data is to be written into the registers, whether the catch is to be dropped, whether
--- the data is to be added to the curves; and what is lent as that leaves it
+-- the data is to be added to the curves, whether its words are to be noted; and what is lent as that leaves it
 pub record HandingOver : Type 0 where
   pub over : HandedOver
   pub lent : Lent
@@ -73,7 +82,7 @@ overs over lent = record { over = over; lent = lent }
 
 -- a report that is handed over and asks nothing of the panel
 abbrev pub onlyHanded : Handed → HandedOver
-onlyHanded handed = record { handed = handed; writes = false; drops = false; adds = false }
+onlyHanded handed = record { handed = handed; writes = false; drops = false; adds = false; notes = false }
 
 -- "Numbers 2 to 7 are answers beside a frame's report, which counts as handed over": the report of an accepted frame, with what it asks of the panel
 abbrev pub acceptedOver : (command count : ℕ) → Effected → HandedOver
@@ -83,6 +92,7 @@ acceptedOver command count e =
       writes = e .performed .writes;
       drops = e .performed .drops;
       adds = e .performed .adds;
+      notes = e .performed .notes;
     }
 
 -- "'Nothing' changes nothing, the reply room included."; "each bad check by the same with 0x00"; "An accepted frame takes effect when its report is handed over."
@@ -109,6 +119,11 @@ catchAfter drops catch = cond drops Free catch
 abbrev pub drawing : (writes adds : Bool) → Counts → (content area : List ℕ) → Drawn
 drawing writes adds counts content area =
     cond adds (added counts content area) (cond writes (draws (countsLeft counts content) area) (draws counts area))
+
+-- what a report does to the watch list. 02, §4: "Line writes note the new value": the words of the run, as the write left them; nothing else notes
+abbrev pub noting : (notes : Bool) → (content words : List ℕ) → Watched → Watched
+noting notes content words watched =
+    cond notes (withValues watched (noted words watched (wordAt content 0) (length (wordsOf (drop 2 content))))) watched
 
 -- what asking for a report answers, and what is lent as it leaves it
 pub record Reporting : Type 0 where
@@ -137,14 +152,18 @@ handing a report panel lent =
         reader = a .reader;
       };
     })
-    (withCurves (done .lent) (drawn .area))
+    (lending (done .lent .words) (drawn .area) (done .lent .room) (noting (done .over .notes) content (done .lent .words) (lent .watched)))
 
--- "With 14 the report still waits."
-abbrev pub refused : Panel → Reported
-refused panel = record { handed = handed.NotLent; payload = padded mostPayload []; panel = panel }
+-- of the two, "16, .., right after 14 at contacts and reports": 14 is given first
+abbrev pub refusal : Lent → Handed
+refusal lent = cond (enoughLent lent) handed.WrongList handed.NotLent
 
--- "asking for a report 14, then 2 to 7 in turn"
+-- "With 14 the report still waits."; 02, §4, with 16: "the report still waiting"
+abbrev pub refused : Handed → Panel → Reported
+refused given panel = record { handed = given; payload = padded mostPayload []; panel = panel }
+
+-- "asking for a report 14, then 2 to 7 in turn", with 16 "right after 14"
 unfoldable pub reporting : Panel → Lent → Reporting
 reporting panel lent =
     let a = asked (panel .reader) in
-    cond (wellLent lent) (handing a (a .report) panel lent) (reports (refused panel) lent)
+    cond (wellLent lent) (handing a (a .report) panel lent) (reports (refused (refusal lent) panel) lent)

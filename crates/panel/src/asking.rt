@@ -1,14 +1,15 @@
 // Asking for a report: it is handed over and acknowledged, and an accepted frame takes effect.
 ghost use mathlib.Core.Path.{_≡_};
-ghost use mathlib.Core.List.{List, []};
-ghost use Prim.Native.Nat.{ℕ, min};
+ghost use mathlib.Core.List.{[]};
+ghost use Prim.Native.Nat.{min};
 ghost use lib.ListN.{length};
 ghost use Rattle.wire.specs.Room.{lays};
 ghost use Rattle.frame.specs.Frame.{mostPayload};
 ghost use Rattle.line.specs.State.{padded};
 ghost use Rattle.registers.specs.Table.{holding};
 ghost use Rattle.curves.specs.Area.{draws};
-ghost use Rattle.commands.specs.Lent.{lending};
+ghost use Rattle.watch.specs.Watched.{watching};
+ghost use Rattle.commands.specs.Lent.{Lent, lending, withWordsRoom};
 ghost use Rattle.commands.specs.Effect.{countsLeft};
 ghost use Rattle.panel.specs.Listed.{askSaid};
 ghost use Rattle.panel.specs.Numbers.{handedSaid};
@@ -20,6 +21,7 @@ use crate::HandedOver;
 use crate::Panel;
 use crate::Reported;
 use crate::starting;
+use crate::watching;
 use commands::Fixed;
 use contact::Catch;
 use curves::CURVE_WORDS;
@@ -32,12 +34,23 @@ use wire::WORD_COUNT;
 
 impl Panel {
     // Asks for a report: hands it over, acknowledges it, and does what an accepted frame says.
-    pub fn report(self, words: &mut [u16], curves: &mut [u16], room: &mut [u8]) -> Reported
-        ensures { λ r. ⌜ reports r (lending (now (words .exit)) (now (curves .exit)) (now (room .exit))) ≡ reporting self (lending (now (words .entry)) (now (curves .entry)) (now (room .entry))) ⌝ }
-        ensures { λ r. ⌜ handedSaid (r .handed) ≡ askSaid self (lending (now (words .entry)) (now (curves .entry)) (now (room .entry))) ⌝ }
+    pub fn report(
+        self,
+        words: &mut [u16],
+        curves: &mut [u16],
+        room: &mut [u8],
+        addresses: &[u16],
+        uses: &[u8],
+        values: &mut [u16],
+    ) -> Reported
+        ensures { λ r. ⌜ reports r (lending (now (words .exit)) (now (curves .exit)) (now (room .exit)) (watching (now (addresses .entry)) (now (uses .entry)) (now (values .exit)))) ≡ reporting self (lending (now (words .entry)) (now (curves .entry)) (now (room .entry)) (watching (now (addresses .entry)) (now (uses .entry)) (now (values .entry)))) ⌝ }
+        ensures { λ r. ⌜ handedSaid (r .handed) ≡ askSaid self (lending (now (words .entry)) (now (curves .entry)) (now (room .entry)) (watching (now (addresses .entry)) (now (uses .entry)) (now (values .entry)))) ⌝ }
     {
         if !is_lent(words.len(), curves.len(), room.len()) {
-            return not_lent(self);
+            return refuse(Handed::NotLent, self);
+        }
+        if watch::is_wrong(addresses, uses, values) {
+            return refuse(Handed::WrongList, self);
         }
         let reader = self.reader;
         let a = reader.ask();
@@ -55,6 +68,7 @@ impl Panel {
         let content = &payload[..n];
         let old = self.counts;
         let counts = draw(done.writes, done.adds, old, content, curves);
+        watching::note(done.notes, content, words, addresses, uses, values);
         if done.writes {
             registers = commands::registers_left(registers, content);
         }
@@ -85,12 +99,12 @@ fn no_payload() -> [u8; MOST_PAYLOAD]
     [0u8; MOST_PAYLOAD]
 }
 
-// Words, curve area or room are not what they must be: the report still waits.
-fn not_lent(panel: Panel) -> Reported
-    ensures { λ r. ⌜ r ≡ refused panel ⌝ }
+// What is lent is not what it must be: the report still waits.
+fn refuse(handed: Handed, panel: Panel) -> Reported
+    ensures { λ r. ⌜ r ≡ refused handed panel ⌝ }
 {
     Reported {
-        handed: Handed::NotLent,
+        handed: handed,
         payload: no_payload(),
         panel: panel,
     }
@@ -127,7 +141,7 @@ fn accept(
     words: &mut [u16],
     room: &mut [u8],
 ) -> Effected
-    ensures { λ r. ⌜ ((curves : List ℕ) → effects r (lending (now (words .exit)) curves (now (room .exit))) ≡ accepting setup (holding (now (registers .entry))) command (now (content .entry)) (lending (now (words .entry)) curves (now (room .entry)))) ⌝ }
+    ensures { λ r. ⌜ ((rest : Lent) → effects r (withWordsRoom rest (now (words .exit)) (now (room .exit))) ≡ accepting setup (holding (now (registers .entry))) command (now (content .entry)) (withWordsRoom rest (now (words .entry)) (now (room .entry)))) ⌝ }
 {
     let k = acknowledge(setup, command, true, room);
     let done = commands::perform(
@@ -181,6 +195,7 @@ fn only(handed: Handed) -> HandedOver
         writes: false,
         drops: false,
         adds: false,
+        notes: false,
     }
 }
 
@@ -201,6 +216,7 @@ fn accepted(command: u8, len: usize, e: Effected) -> HandedOver
         writes: p.writes,
         drops: p.drops,
         adds: p.adds,
+        notes: p.notes,
     }
 }
 
@@ -235,7 +251,7 @@ fn hand_over(
     room: &mut [u8],
 ) -> HandedOver
     requires { ⌜ length (now payload) ≡ mostPayload ⌝ }
-    ensures { λ r. ⌜ ((curves : List ℕ) → overs r (lending (now (words .exit)) curves (now (room .exit))) ≡ handingOver setup (holding (now (registers .entry))) report (now (payload .entry)) (lending (now (words .entry)) curves (now (room .entry)))) ⌝ }
+    ensures { λ r. ⌜ ((rest : Lent) → overs r (withWordsRoom rest (now (words .exit)) (now (room .exit))) ≡ handingOver setup (holding (now (registers .entry))) report (now (payload .entry)) (withWordsRoom rest (now (words .entry)) (now (room .entry)))) ⌝ }
 {
     match report {
         Report::Nothing => only(Handed::Nothing),

@@ -14,6 +14,7 @@ mod giving; // line bytes and quiet marks
 mod showing; // what the display board reads
 mod starting; // starting a panel
 mod touching; // contact and lift
+mod watching; // the watched words
 
 pub struct Panel {
     setup: Setup,
@@ -52,6 +53,8 @@ pub struct FedBytes {
 pub enum Handed {
     // Words, curve area or room are not what they must be; the report still waits.
     NotLent,
+    // The watch list is wrong; the report still waits.
+    WrongList,
     Nothing,
     // The command, and how long an acknowledgement was written.
     BadCheck(u8, usize),
@@ -76,6 +79,8 @@ pub struct Reported {
 pub enum ContactAnswer {
     Done,
     NotLent,
+    // The watch list is wrong.
+    WrongList,
     Waits,
     NotRecords,
     // The number of the first wrong record, from 0.
@@ -86,6 +91,8 @@ pub enum ContactAnswer {
 
 pub struct Contacted {
     pub answer: ContactAnswer,
+    // How long an unasked reply was written.
+    pub written: usize,
     pub panel: Panel,
 }
 
@@ -107,10 +114,11 @@ struct Effected {
 }
 
 // What is handed over; whether the frame's data is to be written into the registers; whether the catch is to be dropped; whether the data is to be
-// added to the curves.
+// added to the curves; whether its words are to be noted in the watch list.
 struct HandedOver {
     handed: Handed,
     writes: bool,
     drops: bool,
     adds: bool,
+    notes: bool,
 }
