@@ -8,13 +8,14 @@ use lib.ListN.{length, drop}
 use Rattle.wire.specs.Room.{over, Laid}
 use Rattle.wire.specs.ByteOrder.{byteAt, wordAt}
 use Rattle.wire.proofs.Over.{over-nil}
-use Rattle.frame.specs.Frame.{mostData}
+use Rattle.frame.specs.Frame.{mostData, mostPayload}
 use Rattle.frame.proofs.Writers.{frame-laid}
 use Rattle.reading.specs.Place.{badCheck, acceptedFrame}
 use Rattle.line.specs.declared.Reader.{Reader}
 use Rattle.line.specs.declared.Report.{Report}
 use Rattle.line.specs.declared.Report.the-variants as line
 use Rattle.line.specs.declared.Asked.{Asked}
+use Rattle.line.specs.State.{padded}
 use Rattle.line.specs.Methods.{asked}
 use Rattle.wire.proofs.Truths.{never}
 use Rattle.wire.specs.Addresses.{wordCount}
@@ -39,7 +40,7 @@ use Rattle.panel.proofs.Invariant.{reachable-sound}
 use Rattle.demands.specs.Calls.{Moment, ask, after, numberGiven, reportHanded, handedOver}
 use Rattle.demands.specs.Reports.{readBehind, acknowledgementOf}
 use Rattle.demands.specs.Demand2.{readReply, fetchReply, afterWrite, afterRead, afterStore, afterFetch, afterAdd, afterBadCheck}
-use Rattle.demands.proofs.Answers.{reportedBy, momentAsked}
+use Rattle.demands.proofs.Answers.{reportedBy, momentAsked, refusal-hands-none}
 use Rattle.demands.proofs.Waits.{asked-reader}
 use Rattle.demands.proofs.Rooms.{acknowledged-laid}
 use Rattle.commands.specs.Lent.{Lent, withWords, withRoom}
@@ -95,12 +96,12 @@ module _ (now : Moment) (reached : Reachable (now .panel)) (content : List ℕ) 
 
   -- what each command does that is done: what it answers, and what it leaves of what is lent, its reply over the room behind the acknowledgement
   pub does-write : Asks now 0x80 content
-      → Does now 0x80 content (record { outcome = writeRegistersOutcome (now .panel .setup .pages) content; writes = true; drops = catchDropped content; adds = false; replied = 0 }) (now .lent) []
+      → Does now 0x80 content (record { outcome = writeRegistersOutcome (now .panel .setup .pages) content; writes = true; drops = catchDropped content; adds = false; notes = false; replied = 0 }) (now .lent) []
   unfolding outcome performance registersWriting
   does-write asks = rw (is-done 0x80 asks, over-nil (partBehind now 0x80))
 
   pub does-store : Asks now 0x82 content
-      → Does now 0x82 content (answered (writeWordsOutcome (length (now .lent .words)) content) 0)
+      → Does now 0x82 content (record { outcome = writeWordsOutcome (length (now .lent .words)) content; writes = false; drops = false; adds = false; notes = true; replied = 0 })
       (withWords (now .lent) (wordsWritten (now .lent .words) (wordAt content 0) (drop 2 content))) []
   unfolding outcome performance wordsWriting
   does-store asks =
@@ -108,7 +109,7 @@ module _ (now : Moment) (reached : Reachable (now .panel)) (content : List ℕ) 
       rw (stored, over-nil (partBehind now 0x82))
 
   pub does-add : Asks now 0x84 content
-      → Does now 0x84 content (record { outcome = addCurvesOutcome content; writes = false; drops = false; adds = true; replied = 0 }) (now .lent) []
+      → Does now 0x84 content (record { outcome = addCurvesOutcome content; writes = false; drops = false; adds = true; notes = false; replied = 0 }) (now .lent) []
   unfolding outcome performance curvesAdding
   does-add asks = rw (is-done 0x84 asks, over-nil (partBehind now 0x84))
 
@@ -182,7 +183,7 @@ module _ (now : Moment) where
       go : (l : Bool) → wellLent (now .lent) ≡ l → (told : Report)
           → reportHanded (reported l told .reported .handed) (reported l told .reported .payload) ≡ badCheck command ∷ []
           → momentAsked (reported l told) ≡ afterBadCheck now command
-      go false is told hands = never (cc)
+      go false is told hands = let none = refusal-hands-none (now .lent) (padded mostPayload []) in never (cc)
       go true is line.Nothing hands = never (cc)
       go true is (line.Accepted c n) hands = never (cc)
       go true is (line.BadCheck c) hands =

@@ -10,6 +10,8 @@ use Rattle.line.specs.declared.Reader.{Reader}
 use Rattle.line.specs.declared.Asked.{Asked}
 use Rattle.line.specs.declared.Report.{Report}
 use Rattle.line.specs.declared.Report.the-variants as line
+use Rattle.frame.specs.Frame.{mostPayload}
+use Rattle.line.specs.State.{padded}
 use Rattle.line.specs.Methods.{givenByte, givenMark, givenBytes, asked}
 use Rattle.panel.specs.declared.Panel.{Panel}
 use Rattle.panel.specs.Inputs.{fedByte, fedMark, fedBytes}
@@ -18,8 +20,9 @@ use Rattle.panel.specs.Reporting.{reporting}
 use Rattle.demands.specs.Calls.{Moment, Call, lend, byte, bytes, mark, ask, contact, lift, after, reportHanded, handedOver, handedOverAll}
 use Rattle.demands.specs.Given.{unlessRefused, given, givenAll}
 use Rattle.demands.specs.Demand3.{ReadAlike}
-use Rattle.demands.proofs.Answers.{reportedBy}
-use Rattle.panel.proofs.Lengths.{reported-words-long, reported-area-long, reported-room-long, contacted-words-long, contacted-area-stands, contacted-room-stands}
+use Rattle.demands.proofs.Answers.{reportedBy, refusal-hands-none}
+use Rattle.panel.proofs.Lengths.{reported-words-long, reported-area-long, reported-room-long, contacted-words-long, contacted-area-stands, contacted-room-long, reported-list-judged, contacted-list-judged}
+use Rattle.watch.specs.Judge.{wrongList}
 use Rattle.commands.specs.Lent.{Lent}
 use Rattle.demands.proofs.Reading.{contact-keeps-reader, lift-keeps-reader}
 
@@ -53,7 +56,7 @@ module _ (panel : Panel) (lent : Lent) where
       go : (b : Bool) → (reportHanded (result b a .reported .handed) (result b a .reported .payload) ≡ cond b (handedFrom (a .report) (a .payload)) [])
           × (result b a .reported .panel .reader ≡ cond b (a .reader) (panel .reader))
       go true = handing-told a (a .report)
-      go false = (refl, refl)
+      go false = (refusal-hands-none lent (padded mostPayload []), refl)
 
 -- what two moments share
 record Shared (one other : Moment) : Type 0 where
@@ -61,6 +64,7 @@ record Shared (one other : Moment) : Type 0 where
   words : length (one .lent .words) ≡ length (other .lent .words)
   curves : length (one .lent .curves) ≡ length (other .lent .curves)
   room : length (one .lent .room) ≡ length (other .lent .room)
+  list : wrongList (one .lent .watched) ≡ wrongList (other .lent .watched)
 
 module _ (one other : Moment) (same : Shared one other) where
   given-same : (call : Call) → given one call ≡ given other call
@@ -80,25 +84,26 @@ module _ (one other : Moment) (same : Shared one other) where
   handed-same (bytes bs) = refl
   handed-same mark = refl
   handed-same ask =
-      rw (ask-told (one .panel) (one .lent) .0, ask-told (other .panel) (other .lent) .0, same .reader, same .words, same .curves, same .room)
+      rw (ask-told (one .panel) (one .lent) .0, ask-told (other .panel) (other .lent) .0, same .reader, same .words, same .curves, same .room, same .list)
   handed-same (contact c) = refl
   handed-same lift = refl
 
   shared-after : (call : Call) → Shared (after one call) (after other call)
   unfolding after fedByte fedMark fedBytes
-  shared-after (lend lent) = record { reader = same .reader; words = refl; curves = refl; room = refl }
-  shared-after (byte b) = record { reader = ap (λ (r : Reader). givenByte r b .reader) (same .reader); words = same .words; curves = same .curves; room = same .room }
-  shared-after (bytes bs) = record { reader = ap (λ (r : Reader). givenBytes r bs .reader) (same .reader); words = same .words; curves = same .curves; room = same .room }
-  shared-after mark = record { reader = ap (λ (r : Reader). givenMark r .reader) (same .reader); words = same .words; curves = same .curves; room = same .room }
+  shared-after (lend lent) = record { reader = same .reader; words = refl; curves = refl; room = refl; list = refl }
+  shared-after (byte b) = record { reader = ap (λ (r : Reader). givenByte r b .reader) (same .reader); words = same .words; curves = same .curves; room = same .room; list = same .list }
+  shared-after (bytes bs) = record { reader = ap (λ (r : Reader). givenBytes r bs .reader) (same .reader); words = same .words; curves = same .curves; room = same .room; list = same .list }
+  shared-after mark = record { reader = ap (λ (r : Reader). givenMark r .reader) (same .reader); words = same .words; curves = same .curves; room = same .room; list = same .list }
   shared-after ask =
       record {
         reader =
-            rw (ask-told (one .panel) (one .lent) .1, ask-told (other .panel) (other .lent) .1, same .reader, same .words, same .curves, same .room);
+            rw (ask-told (one .panel) (one .lent) .1, ask-told (other .panel) (other .lent) .1, same .reader, same .words, same .curves, same .room, same .list);
         words =
             reported-words-long (one .panel) (one .lent) ∙ same .words ∙ sym (reported-words-long (other .panel) (other .lent));
         curves =
             reported-area-long (one .panel) (one .lent) ∙ same .curves ∙ sym (reported-area-long (other .panel) (other .lent));
         room = reported-room-long (one .panel) (one .lent) ∙ same .room ∙ sym (reported-room-long (other .panel) (other .lent));
+        list = reported-list-judged (one .panel) (one .lent) ∙ same .list ∙ sym (reported-list-judged (other .panel) (other .lent));
       }
   shared-after (contact c) =
       record {
@@ -109,7 +114,8 @@ module _ (one other : Moment) (same : Shared one other) where
         words =
             contacted-words-long (one .panel) c (one .lent) ∙ same .words ∙ sym (contacted-words-long (other .panel) c (other .lent));
         curves = rw (contacted-area-stands (one .panel) c (one .lent), contacted-area-stands (other .panel) c (other .lent)) (same .curves);
-        room = rw (contacted-room-stands (one .panel) c (one .lent), contacted-room-stands (other .panel) c (other .lent)) (same .room);
+        room = contacted-room-long (one .panel) c (one .lent) ∙ same .room ∙ sym (contacted-room-long (other .panel) c (other .lent));
+        list = contacted-list-judged (one .panel) c (one .lent) ∙ same .list ∙ sym (contacted-list-judged (other .panel) c (other .lent));
       }
   shared-after lift =
       record {
@@ -117,6 +123,7 @@ module _ (one other : Moment) (same : Shared one other) where
         words = same .words;
         curves = same .curves;
         room = same .room;
+        list = same .list;
       }
 
 all-given-same : (one other : Moment) → Shared one other → (calls : List Call) → givenAll one calls ≡ givenAll other calls
@@ -132,7 +139,8 @@ all-handed-same one other same (call ∷ calls) =
     rw (handed-same one other same call, all-handed-same (after one call) (after other call) (shared-after one other same call) calls)
 
 pub read-alike : (one other : Moment) → one .panel .reader ≡ other .panel .reader → length (one .lent .words) ≡ length (other .lent .words)
-    → length (one .lent .curves) ≡ length (other .lent .curves) → length (one .lent .room) ≡ length (other .lent .room) → ReadAlike one other
-read-alike one other reader words curves room =
-    let same : Shared one other = record { reader = reader; words = words; curves = curves; room = room } in
+    → length (one .lent .curves) ≡ length (other .lent .curves) → length (one .lent .room) ≡ length (other .lent .room)
+    → wrongList (one .lent .watched) ≡ wrongList (other .lent .watched) → ReadAlike one other
+read-alike one other reader words curves room list =
+    let same : Shared one other = record { reader = reader; words = words; curves = curves; room = room; list = list } in
     record { give-same = all-given-same one other same; hand-same = all-handed-same one other same }

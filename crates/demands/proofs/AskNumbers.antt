@@ -29,6 +29,7 @@ use Rattle.demands.specs.Calls.{Moment, ask, numberGiven}
 use Rattle.demands.specs.Reports.{waitingReport}
 use Rattle.demands.specs.Demand1.{Condition, firstNumber, ofFrame, wordsNotLent, areaNotLent, roomTooSmall, printed}
 use Rattle.curves.specs.Area.{curveWords}
+use Rattle.watch.specs.Judge.{wrongList}
 use Rattle.commands.specs.Lent.{Lent, withRoom}
 use Rattle.panel.specs.State.{fixedFor}
 use Rattle.demands.proofs.Waits.{asked-report, asked-payload}
@@ -102,6 +103,7 @@ pub ask-number : (now : Moment) → Sound (now .panel) → numberGiven now ask �
 unfolding numberGiven printed reporting reportNumber enough wordsNotLent areaNotLent roomTooSmall firstSaid
 ask-number now sound =
     go (eqb (length (now .lent .words)) wordCount) refl (eqb (length (now .lent .curves)) curveWords) refl (leb leastRoom (length (now .lent .room))) refl
+    (wrongList (now .lent .watched)) refl
   where
     panel : Panel
     panel = now .panel
@@ -110,12 +112,14 @@ ask-number now sound =
     a = asked (panel .reader)
 
     go : (w : Bool) → eqb (length (now .lent .words)) wordCount ≡ w → (c : Bool) → eqb (length (now .lent .curves)) curveWords ≡ c
-        → (r : Bool) → leb leastRoom (length (now .lent .room)) ≡ r → reportNumber (reporting panel (now .lent) .reported .handed)
-        ≡ cond (not w || not c || ltb (length (now .lent .room)) leastRoom) 14 (firstNumber (waitingNumbers (panel .setup) (waitingReport panel)))
-    go true w true c true r =
-        rw (w, c, r, le-ltb (length (now .lent .room)) leastRoom (leb-true leastRoom (length (now .lent .room)) r))
+        → (r : Bool) → leb leastRoom (length (now .lent .room)) ≡ r → (l : Bool) → wrongList (now .lent .watched) ≡ l
+        → reportNumber (reporting panel (now .lent) .reported .handed)
+        ≡ cond (not w || not c || ltb (length (now .lent .room)) leastRoom) 14 (cond l 16 (firstNumber (waitingNumbers (panel .setup) (waitingReport panel))))
+    go true w true c true r false l =
+        rw (w, c, r, l, le-ltb (length (now .lent .room)) leastRoom (leb-true leastRoom (length (now .lent .room)) r))
         (handing-numbers panel (now .lent) (eqb-true (length (now .lent .words)) wordCount w) a (a .report) (waitingReport panel) (asked-report panel sound)
         (asked-payload panel sound))
-    go true w true c false r = rw (w, c, r, lt-ltb (length (now .lent .room)) leastRoom (leb-false leastRoom (length (now .lent .room)) r))
-    go true w false c r s = rw (w, c)
-    go false w c d r s = rw w
+    go true w true c true r true l = rw (w, c, r, l, le-ltb (length (now .lent .room)) leastRoom (leb-true leastRoom (length (now .lent .room)) r))
+    go true w true c false r l t = rw (w, c, r, lt-ltb (length (now .lent .room)) leastRoom (leb-false leastRoom (length (now .lent .room)) r))
+    go true w false c r s l t = rw (w, c)
+    go false w c d r s l t = rw w

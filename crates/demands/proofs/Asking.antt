@@ -30,13 +30,15 @@ use Rattle.demands.proofs.Refusals.{command-refused}
 one-report : (h : Handed) (payload : List ℕ) (r : Place.Report) (rest : List Place.Report) → reportHanded h payload ≡ r ∷ rest → rest ≡ []
 unfolding reportHanded
 one-report handed.NotLent payload r rest is = never (cc)
+one-report handed.WrongList payload r rest is = never (cc)
 one-report handed.Nothing payload r rest is = never (cc)
 one-report (handed.BadCheck command acknowledged) payload r rest is = cc
 one-report (handed.Accepted command count o acknowledged replied) payload r rest is = cc
 
-none-number : (h : Handed) (payload : List ℕ) → reportHanded h payload ≡ [] → (reportNumber h ≡ 0) ⊎ (reportNumber h ≡ 14)
+none-number : (h : Handed) (payload : List ℕ) → reportHanded h payload ≡ [] → (reportNumber h ≡ 0) ⊎ ((reportNumber h ≡ 14) ⊎ (reportNumber h ≡ 16))
 unfolding reportHanded reportNumber
-none-number handed.NotLent payload is = inr refl
+none-number handed.NotLent payload is = inr (inl refl)
+none-number handed.WrongList payload is = inr (inr refl)
 none-number handed.Nothing payload is = inl refl
 none-number (handed.BadCheck command acknowledged) payload is = never (cc)
 none-number (handed.Accepted command count o acknowledged replied) payload is = never (cc)
@@ -44,6 +46,7 @@ none-number (handed.Accepted command count o acknowledged replied) payload is = 
 bad-number : (h : Handed) (payload : List ℕ) (command : ℕ) → reportHanded h payload ≡ badCheck command ∷ [] → reportNumber h ≡ 0
 unfolding reportHanded reportNumber
 bad-number handed.NotLent payload command is = never (cc)
+bad-number handed.WrongList payload command is = never (cc)
 bad-number handed.Nothing payload command is = never (cc)
 bad-number (handed.BadCheck c acknowledged) payload command is = refl
 bad-number (handed.Accepted c count o acknowledged replied) payload command is = never (cc)

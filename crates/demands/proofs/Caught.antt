@@ -44,6 +44,7 @@ use Rattle.demands.proofs.Calls.{arises-reachable}
 use Rattle.demands.proofs.Sizes.{started-new}
 use Rattle.touch.specs.declared.Setup.{Setup}
 use Rattle.touch.specs.Rounding.{roundingOf}
+use Rattle.panel.specs.Watching.{telling}
 use Rattle.panel.specs.Contacts.{Contact}
 use Rattle.demands.proofs.Stored.{slider-keeps-other}
 use Rattle.demands.proofs.TouchEffects.{slider-fields-fit, contact-done, contact-leaves, dragged-words, word-set}
@@ -94,13 +95,13 @@ call-fits now (bytes bs) typed fits = fits
 call-fits now mark typed fits = fits
 call-fits now ask typed fits =
     report-ways (now .panel) (now .lent) (λ r. Fits (r .reported .panel .catch)) (λ h payload. fits) (λ command is. fits)
-    (λ command count is.
+    (λ good command count is.
     let content = take count (asked (now .panel .reader) .payload) in
     let done = accepting (now .panel .setup) (now .panel .registers) command content (now .lent) in
     either-fits (done .effected .performed .drops) Free (now .panel .catch) free-fits fits)
 call-fits now (contact c) typed fits =
     contact-ways (now .panel) c (now .lent) (λ r. Fits (r .contacted .panel .catch)) (λ answer. fits)
-    (λ good. touched-fits (now .panel .setup) (padOf (now .panel)) (c .table) (now .lent .words) (c .x) (c .y) fits (typed .0))
+    (λ passed. touched-fits (now .panel .setup) (padOf (now .panel)) (c .table) (now .lent .words) (c .x) (c .y) fits (typed .0))
 call-fits now lift typed fits = lift-ways (now .panel) (λ l. Fits (l .panel .catch)) fits fits free-fits
 
 always-fits : (now : Moment) → Arises now → Fits (now .panel .catch)
@@ -115,7 +116,7 @@ pub dragged-slider-stores : (now : Moment) → Arises now → (c : Contact) → 
     → isDown (now .panel .registers) ≡ true → (r : Record) → now .panel .catch ≡ Caught r → (f : SliderFields) → r .kind ≡ Slider f
     → Stores (digitMode (r .mode)) (wordAtAddress (now .lent .words) (r .word)) (wordAtAddress (after now (contact c) .lent .words) (r .word))
     (slidTo (roundingOf (now .panel .setup)) (signed (f .begin)) (signed (f .end)) (firstEdge (r .mode) (r .area)) (lastEdge (r .mode) (r .area)) (along (r .mode) (c .x) (c .y)))
-unfolding afterContact numberGiven draggedOf
+unfolding afterContact numberGiven draggedOf telling
 dragged-slider-stores now arises c done down r caught f kind =
     let setup = now .panel .setup in
     let sound = reachable-sound (now .panel) (arises-reachable now arises) in

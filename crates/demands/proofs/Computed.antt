@@ -12,20 +12,30 @@ use Rattle.reading.specs.Line.{lineFrom, lineReports}
 use Rattle.reading.specs.Moves.{isPass, isReport, passes, stillClosed, settled, waiting, withByte, withMark}
 use Rattle.reading.specs.Demand3.{joined, reportOfFrame}
 use Rattle.line.specs.State.{padded}
-use Rattle.line.specs.Methods.{givenByte, givenMark, givenBytes, asked}
+use Rattle.line.specs.Methods.{givenByte, givenMark, givenBytes, asked, numberOfAnswer}
 use Rattle.stores.specs.Store.{inMode, signed, wordOf}
 use Rattle.stores.specs.Step.{stepped, fenced, stepStores}
 use Rattle.stores.specs.Slider.{nearest, roundedDown, slid, slidTo, sliderStores}
 use Rattle.touch.specs.Rounding.{roundingOf}
 use Rattle.touch.specs.Judge as Judge
+use Rattle.touch.specs.Judge.{goodStep, goodSlider, goodRecord, wrong}
+use Rattle.touch.specs.Record.{areaAt, stepFields, sliderFields, kindOf, recordOf}
+use Rattle.touch.specs.Find.{found}
+use Rattle.touch.specs.Act.{actedOf, draggedOf}
+use Rattle.contact.specs.Contact as Touch
 use Rattle.touch.specs.Table.{recordsFrom, firstOf}
 use Rattle.registers.specs.Table.{startRows, withRows, startRegisters, registerAt, registerRun, writable}
 use Rattle.registers.specs.Run.{covers, allWritable, halfPage, unwritableRun, byteFor, clearing, wrongValue, readAs, readsAs, registersAfter, dropsCatch, clearValue}
-use Rattle.words.specs.Words.{wordAtAddress, wordsOf, bytesOf, wordRun, wordsWritten}
+use Rattle.registers.specs.Touched.{isDown, pageOf, isTouchOff, withPage, withStatus, withPlace}
+use Rattle.words.specs.Words.{wordAtAddress, wordSet, wordsOf, bytesOf, wordRun, wordsWritten}
 use Rattle.curves.specs.Area.{noCounts, countOf, partOf, heldBy, latest, onChannel}
 use Rattle.curves.specs.Rounds.{named, placeOf, ofRounds, numbersFor, wrongRounds}
 use Rattle.curves.specs.Adding.{addedTo, addedFrom, added}
 use Rattle.curves.specs.Clearing.{cleared, clears}
+use Rattle.watch.specs.Watched.{usedAt}
+use Rattle.watch.specs.Judge as Watch
+use Rattle.watch.specs.Noting.{inRun, isNoted, notedBelow, noted}
+use Rattle.watch.specs.Sending.{isDue, sendingFrom, sending, dueFrom, dueEntries}
 use Rattle.commands.specs.Outcome.{numberOfOutcome, replyTooLong, writeRegistersOutcome, readRegistersOutcome, writeWordsOutcome, readWordsOutcome, addCurvesOutcome}
 use Rattle.commands.specs.Reply.{registersReply, wordsReply}
 use Rattle.commands.specs.Effect.{replying, registersReplying, wordsReplying, registersLeft, countsLeft, catchDropped, registersWriting, curvesAdding, wordsWriting}
@@ -33,7 +43,9 @@ use Rattle.commands.specs.Perform.{performance}
 use Rattle.panel.specs.Start.{newPanel, startJudged, started}
 use Rattle.panel.specs.Inputs.{fedBytes, fedMark}
 use Rattle.panel.specs.Reporting.{enough, acknowledged, accepting, handingOver, handing, reporting}
-use Rattle.panel.specs.Numbers.{reportNumber}
+use Rattle.panel.specs.Watching.{unasked, telling}
+use Rattle.panel.specs.Contacts.{touchNotLent, contactOn, contactJudged, told, contacting}
+use Rattle.panel.specs.Numbers.{reportNumber, contactNumber}
 use Rattle.demands.specs.Calls.{after, afterAll, numberGiven, reportHanded, handedOver}
 use Rattle.demands.specs.Reports.{reportWaits, acknowledgementOf}
 use Rattle.demands.specs.Given as Given
@@ -58,7 +70,7 @@ unfolding computingFrames cutShort Place.decidedByCheck afterHeader behind look 
 computingReading = tt
 
 unfoldable pub computingReader : Unit {0}
-unfolding computingReading isPass isReport passes stillClosed settled waiting withByte withMark padded givenByte givenMark givenBytes asked
+unfolding computingReading isPass isReport passes stillClosed settled waiting withByte withMark padded givenByte givenMark givenBytes asked numberOfAnswer
 computingReader = tt
 
 unfoldable pub computingStores : Unit {0}
@@ -77,6 +89,10 @@ unfoldable pub computingCurves : Unit {0}
 unfolding computingWords noCounts countOf partOf heldBy latest onChannel named placeOf ofRounds numbersFor wrongRounds addedTo addedFrom added cleared clears
 computingCurves = tt
 
+unfoldable pub computingWatched : Unit {0}
+unfolding computingWords usedAt Watch.someBelow Watch.isPastEnd Watch.share Watch.isWrongAt Watch.wrongLengths Watch.wrongList inRun isNoted notedBelow noted isDue sendingFrom sending dueFrom dueEntries
+computingWatched = tt
+
 unfoldable pub computingOutcomes : Unit {0}
 unfolding computingRegisters computingWords computingCurves numberOfOutcome replyTooLong writeRegistersOutcome readRegistersOutcome writeWordsOutcome readWordsOutcome addCurvesOutcome
 computingOutcomes = tt
@@ -90,7 +106,7 @@ unfolding Judge.judged recordsFrom firstOf headerBytes newPanel startJudged star
 computingStart = tt
 
 unfoldable pub computingPanel : Unit {0}
-unfolding computingReader computingCommands computingStart fedBytes fedMark enough acknowledged accepting handingOver handing reporting reportNumber
+unfolding computingReader computingCommands computingWatched computingStart fedBytes fedMark enough acknowledged accepting handingOver handing reporting reportNumber
 computingPanel = tt
 
 unfoldable pub computingEffects : Unit {0}
@@ -100,3 +116,7 @@ computingEffects = tt
 unfoldable pub computingCalls : Unit {0}
 unfolding computingPanel computingEffects times after afterAll numberGiven reportHanded handedOver reportWaits unlessRefused Given.given givenAll
 computingCalls = tt
+
+unfoldable pub computingContacts : Unit {0}
+unfolding computingCalls computingStores areaAt stepFields sliderFields kindOf recordOf goodStep goodSlider goodRecord wrong found actedOf draggedOf isDown pageOf isTouchOff withPage withStatus withPlace wordSet Touch.showing Touch.catching Touch.acting Touch.pressed Touch.dragging Touch.heldDown Touch.touched touchNotLent contactOn contactJudged unasked telling told contacting contactNumber
+computingContacts = tt

@@ -10,6 +10,7 @@ use Rattle.frame.specs.Writer.{leastRoom}
 use Rattle.reading.proofs.ByteLists.{allBytes, tested-bytes}
 use Rattle.commands.specs.declared.Outcome.the-variants.{Done, UnknownCommand, PastEnd}
 use Rattle.curves.specs.Area.{curveWords}
+use Rattle.watch.specs.Watched.{noneWatched}
 use Rattle.commands.specs.Lent.{lending}
 use Rattle.touch.specs.declared.Setup.{Setup}
 use Rattle.panel.specs.declared.StartAnswer.the-variants as start
@@ -27,7 +28,7 @@ acknowledging = record { h1 = 0x5A; h2 = 0xA5; flags = 3; pages = 2; width = 800
 
 -- given a frame, every byte of the room EE
 abbrev pub fed : List ℕ → Moment
-fed frame = after (begun acknowledging [] (lending (replicate wordCount 0) (replicate curveWords 0) (replicate leastRoom 0xEE))) (bytes frame)
+fed frame = after (begun acknowledging [] (lending (replicate wordCount 0) (replicate curveWords 0) (replicate leastRoom 0xEE) noneWatched)) (bytes frame)
 
 -- 81 of 2 registers from FF on
 abbrev pastEnd : List ℕ
@@ -48,8 +49,8 @@ starts = refl
 pub fed-arises : (frame : List ℕ) → allBytes frame ≡ true → Arises (fed frame)
 unfolding Typed
 fed-arises frame are =
-    by-call (begun acknowledging [] (lending (replicate wordCount 0) (replicate curveWords 0) (replicate leastRoom 0xEE))) (bytes frame) (tested-bytes frame are)
-    (from-start acknowledging [] (lending (replicate wordCount 0) (replicate curveWords 0) (replicate leastRoom 0xEE)) (omega arith) (omega arith)
+    by-call (begun acknowledging [] (lending (replicate wordCount 0) (replicate curveWords 0) (replicate leastRoom 0xEE) noneWatched)) (bytes frame) (tested-bytes frame are)
+    (from-start acknowledging [] (lending (replicate wordCount 0) (replicate curveWords 0) (replicate leastRoom 0xEE) noneWatched) (omega arith) (omega arith)
     (λ k. copies-below wordCount 0 k (omega arith)) (λ k. copies-below curveWords 0 k (omega arith)) starts)
 
 -- two bytes of data each; seven bytes of acknowledgement; nine of reply where the read is done

@@ -39,7 +39,7 @@ use Rattle.demands.specs.Calls.{Moment, ask, after, numberGiven, reportH
 use Rattle.demands.specs.Reports.{waitingReport, acknowledgementOf}
 use Rattle.demands.specs.Demand2.{leaving, afterBadCheck}
 use Rattle.demands.specs.Counts.{handedBy, replyTo, Counted, BadCheckCounted, FrameCounted}
-use Rattle.demands.proofs.Answers.{reportedBy}
+use Rattle.demands.proofs.Answers.{reportedBy, refusal-no-bad-check}
 use Rattle.demands.proofs.Waits.{asked-report, sound-ask-hands, frame-reporting}
 use Rattle.demands.proofs.Rooms.{acknowledged-laid}
 use Rattle.demands.proofs.WellLent.{tested-well}
@@ -184,7 +184,7 @@ bad-acknowledged now command a = go (wellLent (now .lent)) refl (by .report)
 
     go : (l : Bool) → wellLent (now .lent) ≡ l → (told : Report) → reportedBy (now .panel) (now .lent) l by told .reported .handed ≡ handed.BadCheck command a
         → a ≡ length (acknowledgementOf (now .panel .setup) command false)
-    go false is told hands = never (cc)
+    go false is told hands = absurd (refusal-no-bad-check (now .lent) command a hands)
     go true is line.Nothing hands = never (cc)
     go true is (line.Accepted c n) hands = never (cc)
     go true is (line.BadCheck c) hands =

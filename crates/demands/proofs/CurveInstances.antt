@@ -9,6 +9,7 @@ use Rattle.reading.proofs.ByteLists.{allBytes, tested-bytes}
 use Rattle.wire.specs.Addresses.{wordCount}
 use Rattle.frame.specs.Writer.{leastRoom}
 use Rattle.curves.specs.Area.{curveWords, partOf}
+use Rattle.watch.specs.Watched.{noneWatched}
 use Rattle.commands.specs.Lent.{lending}
 use Rattle.panel.specs.State.{panelCount}
 use Rattle.demands.specs.Calls.{Moment, Call, bytes, ask, after, afterAll, numberGiven, Typed, AllTyped, Arises, by-call}
@@ -85,13 +86,13 @@ histories = (refl, refl, refl)
 pub channel-0-keeps : Keeps 0 then thenLeft (historyOf 0 new calls)
 unfolding computingStart
 channel-0-keeps =
-    channels-keep-their-history storySetup [] (lending (replicate wordCount 0) (replicate curveWords 0) (replicate leastRoom 0)) refl calls calls-typed
+    channels-keep-their-history storySetup [] (lending (replicate wordCount 0) (replicate curveWords 0) (replicate leastRoom 0) noneWatched) refl calls calls-typed
     (replicate curveWords 0) as-left 0 (omega arith)
 
 pub channel-2-keeps : Keeps 2 then thenLeft (historyOf 2 new calls)
 unfolding computingStart
 channel-2-keeps =
-    channels-keep-their-history storySetup [] (lending (replicate wordCount 0) (replicate curveWords 0) (replicate leastRoom 0)) refl calls calls-typed
+    channels-keep-their-history storySetup [] (lending (replicate wordCount 0) (replicate curveWords 0) (replicate leastRoom 0) noneWatched) refl calls calls-typed
     (replicate curveWords 0) as-left 2 (omega arith)
 
 -- how many each has; there is no channel 8

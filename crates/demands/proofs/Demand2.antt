@@ -22,6 +22,8 @@ use Rattle.registers.specs.Run.{readsAs}
 use Rattle.registers.specs.Touched.{isDown, pageOf}
 use Rattle.words.specs.Words.{wordAtAddress, wordsOf}
 use Rattle.curves.specs.Area.{channelCount, channelWords}
+use Rattle.watch.specs.Watched.{Watched, entryCount, addressAt, usedAt}
+use Rattle.watch.specs.Sending.{isDue, dueEntries}
 use Rattle.stores.specs.Store.{signed, valueIn, keyStores}
 use Rattle.stores.specs.Step.{stepped, fenced}
 use Rattle.stores.specs.Slider.{slidTo}
@@ -43,20 +45,26 @@ use Rattle.panel.specs.State.{headerOf, panelRegister, panelCount}
 use Rattle.panel.specs.Start.{started}
 use Rattle.panel.proofs.Lengths.{reported-area-long}
 use Rattle.panel.proofs.Invariant.{reachable-sound}
-use Rattle.demands.specs.Calls.{Moment, Call, ask, contact, lift, begun, after, afterAll, numberGiven, handedOver, AllTyped, Arises, WellLent}
+use Rattle.demands.specs.Calls.{Moment, Call, ask, contact, lift, begun, after, afterAll, numberGiven, handedOver, Typed, AllTyped, Arises, WellLent}
 use Rattle.demands.specs.Reports.{rulesOf}
 use Rattle.demands.specs.Demand2.{NamesWord, NamesRegister, curveWordAt, NamesCurveWord, NamesCount, Some, ReadsBack, DoesCommands, afterBadCheck, AskLeaves, afterContact, afterLift}
+use Rattle.demands.specs.Done.{Exactly}
+use Rattle.demands.specs.Entries.{entryAt, FirstDue, NamesEntry, OnlyValues, bytesWritten, Tells, UnaskedReadsBack, WordsStand, dueAt, SentInOrder, AllSent, Among, Rising, AllLeaveEntry, StaysQuiet}
 use Rattle.demands.specs.History.{historyOf, areaLeft, LentAsLeft, noneLendsAnew, Keeps}
 use Rattle.demands.specs.Counts.{handedBy, replyTo, BadCheckCounted, FrameCounted}
 use Rattle.demands.specs.Acknowledged.{Acknowledges}
 use Rattle.demands.specs.Replied.{Replied}
 use Rattle.demands.specs.Stored.{Stores}
-use Rattle.demands.proofs.Calls.{arises-reachable}
+use Rattle.demands.proofs.Calls.{arises-reachable, call-reached}
 use Rattle.demands.proofs.Named as Named
 use Rattle.demands.proofs.ReadBack as ReadBack
 use Rattle.demands.proofs.Access as Access
 use Rattle.demands.proofs.Asking as Asking
 use Rattle.demands.proofs.Curved as Curved
+use Rattle.demands.proofs.Entries as Entries
+use Rattle.demands.proofs.UnaskedBack as UnaskedBack
+use Rattle.demands.proofs.SentOrder as SentOrder
+use Rattle.demands.proofs.LineQuiet as LineQuiet
 use Rattle.demands.proofs.Histories.{history-kept, lent-as-left}
 use Rattle.demands.proofs.Counts as Counts
 use Rattle.demands.proofs.Acknowledged as Acknowledged
@@ -215,6 +223,62 @@ pub no-other-count-changes : (now : Moment) → Arises now → (calls : List Cal
 no-other-count-changes now arises calls typed n inside differs =
     ⊎-elim (λ same. absurd (differs same)) (λ named. named)
     (Curved.count-stays-or-is-named now (arises-reachable now arises) calls typed n inside)
+
+-- 02, §4: "Demand 2 then reads: words, registers and the matching entry.": no entry of the watch list changes but those whose word the run of a done 0x82 names and
+-- the one that a contact sends, over any sequence of calls; and at an ask and a contact only values last sent do
+pub no-other-entry-changes : (now : Moment) → Arises now → (calls : List Call) → AllTyped calls → (i : ℕ)
+    → entryAt (afterAll now calls .lent .watched) i ≢ entryAt (now .lent .watched) i → Some (λ then call. NamesEntry then i call) now calls
+no-other-entry-changes now arises calls typed i differs =
+    ⊎-elim (λ same. absurd (differs same)) (λ named. named)
+    (Entries.entry-stays-or-is-named now (arises-reachable now arises) calls typed i)
+
+pub asking-changes-values-only : (now : Moment) → Arises now → OnlyValues (now .lent .watched) (after now ask .lent .watched)
+asking-changes-values-only now arises = Entries.asked-only-values now (arises-reachable now arises)
+
+pub contact-changes-values-only : (now : Moment) (c : Contact) → OnlyValues (now .lent .watched) (after now (contact c) .lent .watched)
+contact-changes-values-only = Entries.contacted-only-values
+
+-- 02, §4: "After a contact that answers 0, the first entry in use whose word differs from its value last sent gets one unasked 0x83 reply of count 1 in the reply
+-- room, and the value is noted."
+pub contact-tells : (now : Moment) (c : Contact) → numberGiven now (contact c) ≡ 0 → Tells now c (after now (contact c) .lent .words)
+contact-tells = Entries.contact-tells
+
+-- and a panel with the same header and checking choice, while nothing is held or waiting, reads that frame back as one accepted 0x83 with that address, count 1
+-- and word
+pub unasked-reads-back : (now : Moment) (c : Contact) → numberGiven now (contact c) ≡ 0 → (i : ℕ)
+    → FirstDue (after now (contact c) .lent .words) (now .lent .watched) i
+    → (reader : Moment) → Arises reader → NothingHeldOrWaiting (rulesOf (reader .panel)) (keptOf (reader .panel .reader)) → WellLent (reader .lent)
+    → checkingOf (reader .panel .setup) ≡ checkingOf (now .panel .setup) → headerOf (reader .panel .setup) ≡ headerOf (now .panel .setup)
+    → UnaskedReadsBack reader (take (bytesWritten now c) (after now (contact c) .lent .room)) (addressAt (now .lent .watched .addresses) i)
+    (wordAtAddress (after now (contact c) .lent .words) (addressAt (now .lent .watched .addresses) i))
+unasked-reads-back now c done i first reader arises =
+    UnaskedBack.unasked-reads-back now c done i first reader (reachable-sound (reader .panel) (arises-reachable reader arises))
+
+-- beyond the paper, nothing is lost: contacts in a row, answered 0 and changing no word, send the entries that are due one after the other, and as many contacts
+-- as there are such entries send them all
+pub due-entries-are-sent-in-order : (now : Moment) (cs : List Contact) → WordsStand now cs → SentInOrder now cs
+due-entries-are-sent-in-order = SentOrder.sent-in-order
+
+pub nothing-is-lost : (now : Moment) (cs : List Contact) → WordsStand now cs → length cs ≡ length (dueAt now) → AllSent now cs
+nothing-is-lost = SentOrder.all-sent
+
+-- those entries are exactly the ones that are due, each once, in the list's order
+pub due-entries-are-those-due : (words : List ℕ) (w : Watched) (i : ℕ) → Exactly (Among i (dueEntries words w)) ((i < entryCount w) × (isDue words w i ≡ true))
+due-entries-are-those-due = SentOrder.due-exactly
+
+pub due-entries-are-in-order : (words : List ℕ) (w : Watched) → Rising 0 (dueEntries words w)
+due-entries-are-in-order = SentOrder.due-in-order
+
+-- 02, §4: "Line writes note the new value and send nothing.": beyond the paper, an entry in use whose word a done 0x82 wrote is not due and is not sent, until a
+-- contact or the caller changes word, entry or value
+pub line-writes-send-nothing : (now : Moment) → Arises now → (content : List ℕ) → handedOver now ask ≡ acceptedFrame 0x82 content ∷ [] → numberGiven now ask ≡ 0
+    → (i : ℕ) → usedAt (now .lent .watched .uses) i ≡ true → wordAt content 0 ≤ addressAt (now .lent .watched .addresses) i
+    → addressAt (now .lent .watched .addresses) i < wordAt content 0 + length (wordsOf (drop 2 content))
+    → (calls : List Call) → AllTyped calls → AllLeaveEntry i (after now ask) calls → StaysQuiet i (after now ask) calls
+unfolding Typed
+line-writes-send-nothing now arises content hands done i used from below =
+    let reached = arises-reachable now arises in
+    LineQuiet.written-stays-quiet now reached content hands done i used from below (call-reached now ask tt reached)
 
 -- at one ask, whatever area it is lent: only the words of the channels that an 0x84 names change, and "words past its count stay"
 pub only-named-channels-change : (now : Moment) → Arises now → (n : ℕ) → n < channelCount → (i : ℕ) → i < channelWords

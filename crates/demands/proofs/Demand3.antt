@@ -88,7 +88,7 @@ demand3-after-mark setup table lent is calls typed before came none-waits =
     c .reads ∙ ap (readerOf line) (after-mark (rulesFor line) (c .events) before (c .gives ∙ came) (sym (waits-same line now reachable new calls typed) ∙ none-waits)) in
     record {
       new-reader = as-new;
-      reads-as-new = read-alike last (begun setup table (last .lent)) (as-new ∙ sym new) refl refl refl;
+      reads-as-new = read-alike last (begun setup table (last .lent)) (as-new ∙ sym new) refl refl refl refl;
     }
 
 pub demand3-ready-again : ReadyAgain

@@ -12,6 +12,7 @@ use Rattle.reading.specs.Demand3.{joined, acceptedOf, reportOfFrame}
 use Rattle.reading.proofs.Stable.{never}
 use Rattle.reading.proofs.Figure.{rules, frames, no-fewer}
 use Rattle.curves.specs.Area.{curveWords}
+use Rattle.watch.specs.Watched.{noneWatched}
 use Rattle.commands.specs.Lent.{lending}
 use Rattle.touch.specs.declared.Setup.{Setup}
 use Rattle.demands.specs.Calls.{Moment, Call, bytes, begun, handedOverAll, Typed, AllTyped, Arises, from-start}
@@ -35,14 +36,14 @@ abbrev setup : Setup
 setup = record { h1 = 0xFF; h2 = 0xFF; flags = 1; pages = 2; width = 800; height = 480 }
 
 abbrev new : Moment
-new = begun setup [] (lending (replicate wordCount 0) (replicate curveWords 0) (replicate leastRoom 0))
+new = begun setup [] (lending (replicate wordCount 0) (replicate curveWords 0) (replicate leastRoom 0) noneWatched)
 
 abbrev come : List Call
 come = bytes (0xFF ∷ (joined frames ++ [])) ∷ []
 
 new-arises : Arises new
 unfolding computingStart
-new-arises = from-start setup [] (lending (replicate wordCount 0) (replicate curveWords 0) (replicate leastRoom 0)) (omega arith) (omega arith) zeros-16-bit no-curves-16-bit refl
+new-arises = from-start setup [] (lending (replicate wordCount 0) (replicate curveWords 0) (replicate leastRoom 0) noneWatched) (omega arith) (omega arith) zeros-16-bit no-curves-16-bit refl
 
 new-ready : Ready new
 unfolding computingCalls

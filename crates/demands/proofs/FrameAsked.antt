@@ -8,13 +8,14 @@ use lib.ListN.{length, take, drop, length-append, length-drop}
 use lib.Seq.{drop-drop}
 use Rattle.wire.specs.Room.{over, Laid, lays}
 use Rattle.wire.proofs.Over.{take-over, drop-over, length-over}
-use Rattle.frame.specs.Frame.{headerBytes, mostData, frameOf}
+use Rattle.frame.specs.Frame.{headerBytes, mostData, mostPayload, frameOf}
 use Rattle.frame.proofs.Writers.{length-frameOf, length-most}
 use Rattle.reading.specs.Place.{acceptedFrame}
 use Rattle.line.specs.declared.Reader.{Reader}
 use Rattle.line.specs.declared.Report.{Report}
 use Rattle.line.specs.declared.Report.the-variants as line
 use Rattle.line.specs.declared.Asked.{Asked}
+use Rattle.line.specs.State.{padded}
 use Rattle.line.specs.Methods.{asked}
 use Rattle.wire.proofs.Truths.{never}
 use Rattle.wire.specs.Addresses.{wordCount}
@@ -27,15 +28,16 @@ use Rattle.touch.specs.Setup.{checkingOf}
 use Rattle.panel.specs.declared.Panel.{Panel}
 use Rattle.panel.specs.Numbers.{reportNumber}
 use Rattle.panel.specs.State.{headerOf, fixedFor}
-use Rattle.panel.specs.Reporting.{acknowledged, accepting, catchAfter, drawing, Reporting, handing, reporting, wellLent, handingOver}
+use Rattle.panel.specs.Reporting.{acknowledged, accepting, catchAfter, drawing, noting, Reporting, handing, reporting, wellLent, handingOver}
 use Rattle.panel.specs.Sound.{Sound}
 use Rattle.demands.specs.Calls.{Moment, ask, after, numberGiven, reportHanded, handedOver, WellLent}
 use Rattle.demands.specs.Reports.{readBehind, acknowledgementOf}
 use Rattle.demands.specs.Demand2.{leaving}
-use Rattle.demands.proofs.Answers.{reportedBy, momentAsked}
+use Rattle.demands.proofs.Answers.{reportedBy, momentAsked, refusal-hands-none}
 use Rattle.demands.proofs.Waits.{asked-reader, frame-reporting}
 use Rattle.curves.specs.Area.{Drawn}
-use Rattle.commands.specs.Lent.{Lent, lending, withCurves, withRoom}
+use Rattle.watch.specs.Watched.{Watched}
+use Rattle.commands.specs.Lent.{Lent, lending, withCurves, withRoom, withWatched}
 use Rattle.commands.specs.declared.Performed.{Performed}
 use Rattle.demands.proofs.WellLent.{tested-well}
 use Rattle.demands.proofs.Rooms.{acknowledged-laid, acknowledgement-short}
@@ -63,7 +65,7 @@ handed-asks now command content = go (wellLent (now .lent)) refl (a .report) ref
     go : (l : Bool) → wellLent (now .lent) ≡ l → (told : Report) → a .report ≡ told
         → reportHanded (done l told .reported .handed) (done l told .reported .payload) ≡ acceptedFrame command content ∷ []
         → Asks now command content
-    go false is told tells hands = never (cc)
+    go false is told tells hands = let none = refusal-hands-none (now .lent) (padded mostPayload []) in never (cc)
     go true is line.Nothing tells hands = never (cc)
     go true is (line.BadCheck c) tells hands = never (cc)
     go true is (line.Accepted c n) tells hands =
@@ -102,7 +104,8 @@ module _ (now : Moment) (sound : Sound (now .panel)) (command : ℕ) (content : 
           counts = drawn .counts;
           reader = reader;
         };
-        lent = lending (done .lent .words) (drawn .area) (take (answered .count) (answered .room) ++ done .lent .room);
+        lent = lending (done .lent .words) (drawn .area) (take (answered .count) (answered .room) ++ done .lent .room)
+            (noting (done .performed .notes) came (done .lent .words) (now .lent .watched));
       }
 
   after-frame : after now ask ≡ leftWith content (lays (length answer) (over answer (now .lent .room))) (readBehind (now .panel) .reader)
@@ -132,13 +135,17 @@ module _ (now : Moment) (sound : Sound (now .panel)) (command : ℕ) (content : 
   abbrev pub drawnBy : Performed → Drawn
   drawnBy p = drawing (p .writes) (p .adds) (now .panel .counts) content (now .lent .curves)
 
+  -- and what it has noted in the watch list, where it leaves these words
+  abbrev pub notedBy : Performed → (words : List ℕ) → Watched
+  notedBy p words = noting (p .notes) content words (now .lent .watched)
+
   -- a command that answers this, and leaves this of what is lent with this reply, leaves this
   pub performance-leaves : (p : Performed) (lent : Lent) (reply : List ℕ)
       → performance (fixedFor setup) (now .panel .registers) command content (withRoom (now .lent) (drop (length answer) (over answer (now .lent .room))))
       ≡ performs p (withRoom lent (over reply (drop (length answer) (over answer (now .lent .room)))))
       → after now ask
       ≡ leaving now command (registersBy p (now .panel .registers) content) (catchAfter (p .drops) (now .panel .catch)) (drawnBy p .counts)
-      (withCurves lent (drawnBy p .area)) reply
+      (withWatched (withCurves lent (drawnBy p .area)) (notedBy p (lent .words))) reply
   unfolding leaving leftWith
   performance-leaves p lent reply does =
       after-frame
@@ -150,7 +157,8 @@ module _ (now : Moment) (sound : Sound (now .panel)) (command : ℕ) (content : 
           counts = drawnBy (d .performed) .counts;
           reader = readBehind (now .panel) .reader;
         };
-        lent = lending (d .lent .words) (drawnBy (d .performed) .area) (take (length answer) (over answer (now .lent .room)) ++ d .lent .room);
+        lent = lending (d .lent .words) (drawnBy (d .performed) .area) (take (length answer) (over answer (now .lent .room)) ++ d .lent .room)
+            (notedBy (d .performed) (d .lent .words));
       }) does
       ∙ ap (λ (r : List ℕ). record {
         panel = record {
@@ -160,7 +168,7 @@ module _ (now : Moment) (sound : Sound (now .panel)) (command : ℕ) (content : 
           counts = drawnBy p .counts;
           reader = readBehind (now .panel) .reader;
         };
-        lent = lending (lent .words) (drawnBy p .area) r;
+        lent = lending (lent .words) (drawnBy p .area) r (notedBy p (lent .words));
       }) room-is
     where
       room-is : take (length answer) (over answer (now .lent .room)) ++ over reply (drop (length answer) (over answer (now .lent .room))) ≡ over (answer ++ reply) (now .lent .room)

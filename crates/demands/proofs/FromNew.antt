@@ -71,7 +71,7 @@ setup-stays now (bytes bs) = refl
 setup-stays now mark = refl
 setup-stays now ask =
     report-ways (now .panel) (now .lent) (λ r. r .reported .panel .setup ≡ now .panel .setup) (λ h payload. refl) (λ command is. refl)
-    (λ command count is. refl)
+    (λ list command count is. refl)
 setup-stays now (contact c) =
     contact-ways (now .panel) c (now .lent) (λ r. r .contacted .panel .setup ≡ now .panel .setup) (λ answer. refl) (λ good. refl)
 setup-stays now lift = lift-ways (now .panel) (λ l. l .panel .setup ≡ now .panel .setup) refl refl refl

@@ -13,6 +13,7 @@ use Rattle.registers.specs.Table.{registerAt}
 use Rattle.words.specs.Words.{wordAtAddress}
 use Rattle.touch.specs.declared.Setup.{Setup}
 use Rattle.curves.specs.Area.{curveWords}
+use Rattle.watch.specs.Watched.{noneWatched}
 use Rattle.commands.specs.Lent.{lending}
 use Rattle.panel.specs.declared.StartAnswer.the-variants as start
 use Rattle.panel.specs.Start.{started}
@@ -45,7 +46,7 @@ plainStart =
     record {
       setup = plain;
       table = [];
-      lent = lending words (replicate curveWords 0) (replicate leastRoom 0);
+      lent = lending words (replicate curveWords 0) (replicate leastRoom 0) noneWatched;
       h1 = omega arith;
       h2 = omega arith;
       words = words-16-bit;

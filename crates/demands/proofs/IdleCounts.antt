@@ -62,6 +62,7 @@ counted-then these more = ap (λ (l : List Report). length l) (accepted-then the
 one-handed : (h : Handed) (payload : List ℕ) → counted (reportHanded h payload) ≡ cond (hasAccepted (reportHanded h payload)) 1 0
 unfolding reportHanded acceptedOf hasAccepted
 one-handed handed.NotLent payload = refl
+one-handed handed.WrongList payload = refl
 one-handed handed.Nothing payload = refl
 one-handed (handed.BadCheck command acknowledged) payload = refl
 one-handed (handed.Accepted command count outcome acknowledged replied) payload = refl

@@ -12,6 +12,7 @@ use Rattle.reading.specs.Demand3.{none, next, joined, BeginsNone, acceptedOf, r
 use Rattle.reading.proofs.ByteLists.{allBytes}
 use Rattle.reading.proofs.Stable.{never}
 use Rattle.curves.specs.Area.{curveWords}
+use Rattle.watch.specs.Watched.{noneWatched}
 use Rattle.commands.specs.Lent.{lending}
 use Rattle.panel.specs.declared.StartAnswer.the-variants as start
 use Rattle.panel.specs.Start.{started}
@@ -36,7 +37,7 @@ storyStart =
     record {
       setup = storySetup;
       table = [];
-      lent = lending (replicate wordCount 0) (replicate curveWords 0) (replicate leastRoom 0);
+      lent = lending (replicate wordCount 0) (replicate curveWords 0) (replicate leastRoom 0) noneWatched;
       h1 = omega arith;
       h2 = omega arith;
       words = zeros-16-bit;

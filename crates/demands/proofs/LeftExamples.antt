@@ -6,6 +6,7 @@ use lib.ListN.{replicate}
 use Rattle.wire.specs.Addresses.{wordCount}
 use Rattle.frame.specs.Writer.{leastRoom}
 use Rattle.curves.specs.Area.{curveWords}
+use Rattle.watch.specs.Watched.{noneWatched}
 use Rattle.commands.specs.Lent.{Lent, lending}
 use Rattle.panel.specs.Contacts.{Contact}
 use Rattle.demands.specs.Calls.{WellLent, Call, bytes, mark, ask, contact, afterAll, numberGiven, handedOverAll, Typed, AllTyped}
@@ -20,7 +21,7 @@ use Rattle.demands.proofs.OneWhileLeft.{one-exactly-while-left}
 use Rattle.demands.proofs.NothingLeft.{nothing-where-none-left}
 
 abbrev lent : Lent
-lent = lending (replicate wordCount 0) (replicate curveWords 0) (replicate leastRoom 0)
+lent = lending (replicate wordCount 0) (replicate curveWords 0) (replicate leastRoom 0) noneWatched
 
 -- a frame has come
 abbrev come : List Call
@@ -57,7 +58,7 @@ mark-refused = when-come .of-mark .wherever one-left
 
 pub contact-refused : (c : Contact) → numberGiven (afterAll new come) (contact c) ≡ 1
 unfolding computingCalls
-contact-refused c = when-come .of-contact c refl .wherever one-left
+contact-refused c = when-come .of-contact c (record { words = refl; room = lit≤ tt; watched = refl }) .wherever one-left
 
 pub bytes-refused : numberGiven (afterAll new come) (bytes version) ≡ 1
 bytes-refused =
@@ -78,7 +79,7 @@ none-left = handed-is ∙ sym read-is
 
 still-lent : WellLent (afterAll new asked .lent)
 unfolding computingCalls
-still-lent = record { words = refl; curves = refl; room = lit≤ tt }
+still-lent = record { words = refl; curves = refl; room = lit≤ tt; watched = refl }
 
 when-asked : AnsweredNothing storySetup new asked
 unfolding computingStart

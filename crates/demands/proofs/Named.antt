@@ -27,6 +27,7 @@ use Rattle.panel.specs.Numbers.{reportNumber, contactNumber, liftNumber}
 use Rattle.panel.specs.State.{padOf, panelRegister, fixedFor}
 use Rattle.panel.specs.Inputs.{fedByte, fedMark, fedBytes}
 use Rattle.panel.specs.Reporting.{acknowledged, accepting, Reporting, handing, reporting, handingOver}
+use Rattle.panel.specs.Watching.{telling}
 use Rattle.panel.specs.Contacts.{contacting, lifting, Contact}
 use Rattle.panel.specs.Reachable.{Reachable}
 use Rattle.panel.proofs.Ways.{contact-ways, lift-ways, report-ways}
@@ -88,7 +89,7 @@ asked-word : (panel : Panel) (lent : Lent) (k : ℕ)
 unfolding handing handingOver accepting outcome
 asked-word panel lent k =
     report-ways panel lent (λ r. (wordAtAddress (r .lent .words) k ≡ wordAtAddress (lent .words) k) ⊎ StoredWord k r) (λ h payload. inl refl) (λ command is. inl refl)
-    (λ command count is.
+    (λ good command count is.
     let setup = panel .setup in
     let answer = acknowledged setup command true (lent .room) in
     let content = take count (asked (panel .reader) .payload) in
@@ -104,14 +105,14 @@ asked-word panel lent k =
 -- a word over a contact
 contacted-word : (now : Moment) (c : Contact) (k : ℕ)
     → (wordAtAddress (contacting (now .panel) c (now .lent) .lent .words) k ≡ wordAtAddress (now .lent .words) k) ⊎ NamesWord now k (contact c)
-unfolding numberGiven contactNumber
+unfolding numberGiven contactNumber telling
 contacted-word now c k =
     ⊎-elim inl (λ named. inr (by-touch (named .0) (named .1)))
     (contact-ways (now .panel) c (now .lent)
     (λ r. (wordAtAddress (r .lent .words) k ≡ wordAtAddress (now .lent .words) k)
     ⊎ ((contactNumber (r .contacted .answer) ≡ 0) × Touch.NamesWord (padOf (now .panel)) (c .table) (c .x) (c .y) k))
     (λ answer. inl refl)
-    (λ good. ⊎-elim inl (λ named. inr (refl, named)) (Touch.word-named (now .panel .setup) (padOf (now .panel)) (c .table) (now .lent .words) (c .x) (c .y) k)))
+    (λ passed. ⊎-elim inl (λ named. inr (refl, named)) (Touch.word-named (now .panel .setup) (padOf (now .panel)) (c .table) (now .lent .words) (c .x) (c .y) k)))
   where
     by-touch : contactNumber (contacting (now .panel) c (now .lent) .contacted .answer) ≡ 0 → Touch.NamesWord (padOf (now .panel)) (c .table) (c .x) (c .y) k
         → NamesWord now k (contact c)
@@ -167,7 +168,7 @@ unfolding handing handingOver accepting outcome
 asked-register panel whole lent address =
     report-ways panel lent (λ r. (panelRegister (r .reported .panel) address ≡ panelRegister panel address) ⊎ WrittenRegister address r)
     (λ h payload. inl refl) (λ command is. inl refl)
-    (λ command count is.
+    (λ good command count is.
     let setup = panel .setup in
     let answer = acknowledged setup command true (lent .room) in
     let content = take count (asked (panel .reader) .payload) in
@@ -191,7 +192,7 @@ contacted-register now whole c address =
     (λ r. (panelRegister (r .contacted .panel) address ≡ panelRegister (now .panel) address)
     ⊎ ((contactNumber (r .contacted .answer) ≡ 0) × Touches (padOf (now .panel)) (c .table) (c .x) (c .y) address))
     (λ answer. inl refl)
-    (λ good. ⊎-elim inl (λ named. inr (refl, named)) (touched-register (padOf (now .panel)) whole (c .table) (c .x) (c .y) address (now .panel .setup) (now .lent .words))))
+    (λ passed. ⊎-elim inl (λ named. inr (refl, named)) (touched-register (padOf (now .panel)) whole (c .table) (c .x) (c .y) address (now .panel .setup) (now .lent .words))))
   where
     by-touch : contactNumber (contacting (now .panel) c (now .lent) .contacted .answer) ≡ 0 → Touches (padOf (now .panel)) (c .table) (c .x) (c .y) address
         → NamesRegister now address (contact c)

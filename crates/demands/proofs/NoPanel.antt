@@ -1,17 +1,19 @@
 -- What stands where a start was refused is inert, over any calls.
 use mathlib.Core.Path.{_≡_, refl, ap, _∙_}
-use mathlib.Core.Bool.{Bool, true, false, cond, not}
+use mathlib.Core.Bool.{Bool, true, false, cond, not, _&&_}
 use mathlib.Core.List.{List, [], _∷_}
 use Prim.Native.Nat.{ℕ}
-use lib.Dec.{eqb}
 use lib.ListN.{length}
-use Rattle.wire.specs.Addresses.{wordCount}
+use Rattle.frame.specs.Frame.{mostPayload}
 use Rattle.line.specs.declared.Report.the-variants as line
-use Rattle.line.specs.State.{noReader}
+use Rattle.line.specs.State.{padded, noReader}
 use Rattle.line.specs.Methods.{busy, numberOfAnswer, asked}
 use Rattle.wire.proofs.Truths.{never}
 use Rattle.touch.specs.Judge.{judged}
+use Rattle.watch.specs.Judge.{wrongList}
 use Rattle.commands.specs.Lent.{Lent}
+use Rattle.panel.specs.declared.Handed.the-variants as handed
+use Rattle.panel.specs.declared.ContactAnswer.{ContactAnswer}
 use Rattle.panel.specs.declared.ContactAnswer.the-variants as contact-answer
 use Rattle.panel.specs.declared.Fed.{Fed}
 use Rattle.panel.specs.declared.FedBytes.{FedBytes}
@@ -19,11 +21,12 @@ use Rattle.panel.specs.declared.Lifted.{Lifted}
 use Rattle.panel.specs.declared.LiftAnswer.the-variants as lift-answer
 use Rattle.panel.specs.Numbers.{startNumber, reportNumber, contactNumber, liftNumber}
 use Rattle.panel.specs.Start.{started, noPanel}
-use Rattle.panel.specs.Reporting.{wellLent, Reporting, reports, refused, handingOver, handing, reporting}
-use Rattle.panel.specs.Contacts.{Contact, Contacting, contacts, contactJudged, contacting, lifting}
+use Rattle.panel.specs.Reporting.{enoughLent, wellLent, reports, refused, refusal, handingOver, handing, reporting}
+use Rattle.panel.specs.Contacts.{Contact, Contacting, silent, contactJudged, told, touchNotLent, contacting, lifting}
 use Rattle.panel.proofs.Refusals.{refused-byte-changes-nothing, refused-mark-changes-nothing, refused-bytes-change-nothing, nothing-changes-nothing}
 use Rattle.demands.specs.Calls.{Moment, Call, lend, byte, bytes, mark, ask, contact, lift, withPanel, after, afterAll, numberGiven, reportHanded, handedOver, handedOverAll}
 use Rattle.demands.specs.Given.{unlessRefused, given, givenAll}
+use Rattle.demands.proofs.Answers.{refusal-hands-none}
 use Rattle.demands.specs.NoPanel.{lentBy, lentLast, refusedWith, Inert}
 
 -- "no panel", with what the caller has lent
@@ -47,18 +50,25 @@ none-reports = refl
 
 -- ---- One call
 
-contact-none : (c : Contact) (lent : Lent)
-    → contacting noPanel c lent ≡ contacts (cond (eqb (length (lent .words)) wordCount) contact-answer.Waits contact-answer.NotLent) noPanel lent
+-- what a contact is answered: 14, 16, or that a report waits
+abbrev contactRefusal : Lent → ContactAnswer
+contactRefusal lent =
+    cond (touchNotLent (length (lent .words)) (length (lent .room))) contact-answer.NotLent
+    (cond (wrongList (lent .watched)) contact-answer.WrongList contact-answer.Waits)
+
+contact-none : (c : Contact) (lent : Lent) → contacting noPanel c lent ≡ silent (contactRefusal lent) noPanel lent
 unfolding contacting
 contact-none c lent =
-    go (eqb (length (lent .words)) wordCount) (busy (noPanel .reader)) none-busy (contactJudged (judged (noPanel .setup) (c .table)) noPanel c lent)
+    go (touchNotLent (length (lent .words)) (length (lent .room))) (wrongList (lent .watched)) (busy (noPanel .reader)) none-busy
+    (told (noPanel .setup) (contactJudged (judged (noPanel .setup) (c .table)) noPanel c lent))
   where
-    go : (b w : Bool) → w ≡ true → (other : Contacting)
-        → cond (not b) (contacts contact-answer.NotLent noPanel lent) (cond w (contacts contact-answer.Waits noPanel lent) other)
-        ≡ contacts (cond b contact-answer.Waits contact-answer.NotLent) noPanel lent
-    go true true is other = refl
-    go true false is other = never (cc)
-    go false w is other = refl
+    go : (a l w : Bool) → w ≡ true → (other : Contacting)
+        → cond a (silent contact-answer.NotLent noPanel lent) (cond l (silent contact-answer.WrongList noPanel lent) (cond w (silent contact-answer.Waits noPanel lent) other))
+        ≡ silent (cond a contact-answer.NotLent (cond l contact-answer.WrongList contact-answer.Waits)) noPanel lent
+    go true l w is other = refl
+    go false true w is other = refl
+    go false false true is other = refl
+    go false false false is other = never (cc)
 
 lift-none : lifting noPanel ≡ record { answer = lift-answer.Waits; panel = noPanel }
 unfolding lifting
@@ -95,23 +105,26 @@ call-hands-nothing lent mark = refl
 call-hands-nothing lent ask = go (wellLent lent)
   where
     go : (w : Bool)
-        → reportHanded (cond w (handing (asked noReader) line.Nothing noPanel lent) (reports (refused noPanel) lent) .reported .handed)
-        (cond w (handing (asked noReader) line.Nothing noPanel lent) (reports (refused noPanel) lent) .reported .payload) ≡ []
+        → reportHanded (cond w (handing (asked noReader) line.Nothing noPanel lent) (reports (refused (refusal lent) noPanel) lent) .reported .handed)
+        (cond w (handing (asked noReader) line.Nothing noPanel lent) (reports (refused (refusal lent) noPanel) lent) .reported .payload) ≡ []
     go true = refl
-    go false = refl
+    go false = refusal-hands-none lent (padded mostPayload [])
 call-hands-nothing lent (contact c) = refl
 call-hands-nothing lent lift = refl
 
-contact-number : (b : Bool) → contactNumber (cond b contact-answer.Waits contact-answer.NotLent) ≡ cond b 1 14
+contact-number : (a l : Bool) → contactNumber (cond a contact-answer.NotLent (cond l contact-answer.WrongList contact-answer.Waits)) ≡ cond a 14 (cond l 16 1)
 unfolding contactNumber
-contact-number true = refl
-contact-number false = refl
+contact-number true l = refl
+contact-number false true = refl
+contact-number false false = refl
 
-ask-number : (lent : Lent) (w : Bool)
-    → reportNumber (cond w (handing (asked (noPanel .reader)) (asked (noPanel .reader) .report) noPanel lent) (reports (refused noPanel) lent) .reported .handed) ≡ cond w 0 14
+ask-number : (lent : Lent) (e l : Bool)
+    → reportNumber (cond (e && not l) (handing (asked (noPanel .reader)) (asked (noPanel .reader) .report) noPanel lent)
+    (reports (refused (cond e handed.WrongList handed.NotLent) noPanel) lent) .reported .handed) ≡ cond e (cond l 16 0) 14
 unfolding handing handingOver noPanel noReader asked reportNumber
-ask-number lent true = refl
-ask-number lent false = refl
+ask-number lent true true = refl
+ask-number lent true false = refl
+ask-number lent false l = refl
 
 call-refused : (lent : Lent) (call : Call) → numberGiven (noneWith lent) call ≡ refusedWith lent call
 unfolding numberGiven refusedWith numberOfAnswer liftNumber reporting
@@ -119,9 +132,10 @@ call-refused lent (lend other) = refl
 call-refused lent (byte b) = rw (refused-byte-changes-nothing noPanel none-busy b)
 call-refused lent (bytes bs) = rw (refused-bytes-change-nothing noPanel none-busy bs)
 call-refused lent mark = rw (refused-mark-changes-nothing noPanel none-busy)
-call-refused lent ask = ask-number lent (wellLent lent)
+call-refused lent ask = ask-number lent (enoughLent lent) (wrongList (lent .watched))
 call-refused lent (contact c) =
-    ap (λ (d : Contacting). contactNumber (d .contacted .answer)) (contact-none c lent) ∙ contact-number (eqb (length (lent .words)) wordCount)
+    ap (λ (d : Contacting). contactNumber (d .contacted .answer)) (contact-none c lent)
+    ∙ contact-number (touchNotLent (length (lent .words)) (length (lent .room))) (wrongList (lent .watched))
 call-refused lent lift = rw lift-none
 
 -- ---- Any calls

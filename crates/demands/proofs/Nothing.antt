@@ -24,7 +24,7 @@ use Rattle.demands.specs.Reports.{rulesOf, reportWaits, waitingReport}
 use Rattle.demands.specs.AsRead.{AlwaysUntilNothing}
 use Rattle.demands.proofs.Calls.{calls-reached, arises-reachable}
 use Rattle.demands.proofs.Waits.{busy-waits, sound-ask-hands}
-use Rattle.panel.proofs.Lengths.{reported-words-long, reported-area-long, reported-room-long}
+use Rattle.panel.proofs.Lengths.{reported-words-long, reported-area-long, reported-room-long, reported-list-judged}
 use Rattle.demands.proofs.WellLent.{well-tested}
 use Rattle.demands.proofs.Reading.{ask-moves}
 
@@ -37,6 +37,7 @@ ask-well now well =
       words = reported-words-long (now .panel) (now .lent) ∙ well .words;
       curves = reported-area-long (now .panel) (now .lent) ∙ well .curves;
       room = rw same (well .room);
+      watched = reported-list-judged (now .panel) (now .lent) ∙ well .watched;
     }
 
 -- n asks of a panel are n asks of the reading

@@ -3,7 +3,8 @@ use mathlib.Core.Path.{_≡_, refl, sym, ap, _∙_}
 use mathlib.Core.Bool.{Bool, true, false, not, _||_}
 use mathlib.Core.List.{List, [], _∷_, _++_, map, append-nil, append-assoc}
 use Prim.Native.Nat.{ℕ, suc, _<_}
-use borrow.Author.Tests.{eq-eqb}
+use borrow.Author.Tests.{eq-eqb, le-ltb}
+use Rattle.frame.specs.Writer.{leastRoom}
 use lib.ListN.{length}
 use Rattle.wire.specs.Numbers.{_when_, firstSaid}
 use Rattle.wire.specs.Addresses.{wordCount}
@@ -19,7 +20,7 @@ use Rattle.panel.proofs.Invariant.{reachable-sound}
 use Rattle.demands.specs.Calls.{Moment, Call, byte, mark, contact, lift, begun, after, afterAll, numberGiven, Typed, AllTyped}
 use Rattle.demands.specs.Reports.{reportWaits}
 use Rattle.demands.specs.AsRead.{AsRead}
-use Rattle.demands.specs.Demand1.{Condition, firstNumber, wordsNotLent, oneComesWhileWaiting, notWholeRecords, oneWrong, offScreen, printed}
+use Rattle.demands.specs.Demand1.{Condition, firstNumber, wordsNotLent, roomTooSmall, oneComesWhileWaiting, notWholeRecords, oneWrong, offScreen, printed}
 use Rattle.demands.specs.Done.{Exactly}
 use Rattle.demands.specs.Left.{OneIsLeft, OneComesWhileLeft, AnsweredOne, OneWhileLeft}
 use Rattle.demands.proofs.Calls.{after-then, calls-reached}
@@ -104,7 +105,7 @@ module _ (setup : Setup) (now : Moment) (reachable : Reachable (now .panel)) (al
       }
 
   answered-one : (calls : List Call) → AllTyped calls → AnsweredOne setup now calls
-  unfolding printed firstSaid noneIsOne wordsNotLent
+  unfolding printed firstSaid noneIsOne wordsNotLent roomTooSmall
   answered-one calls typed =
       let last = afterAll now calls in
       let sound = reached calls typed in
@@ -112,13 +113,14 @@ module _ (setup : Setup) (now : Moment) (reachable : Reachable (now .panel)) (al
         of-byte = λ b. one-while-left calls typed (byte b) [] refl (byte-number last sound b);
         of-mark = one-while-left calls typed mark [] refl (mark-number last sound);
         of-lift = one-while-left calls typed lift ((10 when not (isDown (last .panel .registers))) ∷ []) refl (lift-number last sound);
-        of-contact = λ c words.
+        of-contact = λ c lent.
             one-while-left calls typed (contact c)
             ((12 when notWholeRecords (c .table))
             ∷ (13 when oneWrong (last .panel .setup) (recordsOf (c .table)))
             ∷ (9 when isTouchOff (last .panel .registers))
             ∷ (8 when offScreen (last .panel .setup) (c .x) (c .y))
-            ∷ []) refl (contact-number last sound c ∙ rw (eq-eqb (length (last .lent .words)) wordCount words));
+            ∷ []) refl (contact-number last sound c
+            ∙ rw (eq-eqb (length (last .lent .words)) wordCount (lent .words), le-ltb (length (last .lent .room)) leastRoom (lent .room), lent .watched));
         of-bytes = λ bs are.
             rw (bytes-number last (calls-reached now calls typed reachable) bs are)
             (chained (one-first (oneComesWhileWaiting (last .panel) bs) [] refl) (bytes-while-left bs are calls typed));

@@ -188,7 +188,7 @@ module _ (now : Moment) (sound : Sound (now .panel)) (nothing : NothingHeldOrWai
   reader-then =
       ask-reads-on (after now (bytes frame)) well _ _ (ap (λ (a : Asked). a .report) asked-then) ∙ ap (λ (a : Asked). a .reader) asked-then
 
-  good-reads-back : (command : ℕ) (payload : List ℕ) → reportOfFrame (rulesOf (now .panel)) frame ≡ acceptedFrame command payload → ReadsBack now frame command payload
+  pub good-reads-back : (command : ℕ) (payload : List ℕ) → reportOfFrame (rulesOf (now .panel)) frame ≡ acceptedFrame command payload → ReadsBack now frame command payload
   good-reads-back command payload is =
       record {
         taken = all-taken;

@@ -20,7 +20,7 @@ use Rattle.line.specs.declared.Given.{Given}
 use Rattle.line.specs.declared.Answer.{Answer}
 use Rattle.line.specs.declared.Answer.the-variants.{Done, Waits}
 use Rattle.line.specs.declared.Asked.{Asked}
-use Rattle.line.specs.State.{rulesFor, readerOf}
+use Rattle.line.specs.State.{padded, rulesFor, readerOf}
 use Rattle.line.specs.Methods.{busy, gave, plus, givenByte, givenMark, givenBytes, asked}
 use Rattle.line.specs.Reached.{Reached, reportAs, payloadAs}
 use Rattle.line.proofs.Padding.{take-padded}
@@ -34,7 +34,7 @@ use Rattle.panel.proofs.Ways.{contact-ways, lift-ways}
 use Rattle.demands.specs.Calls.{Moment, Call, lend, byte, bytes, mark, ask, contact, lift, after, afterAll, reportHanded, handedOver, handedOverAll, Typed, AllTyped}
 use Rattle.demands.specs.Given.{unlessRefused, given, givenAll}
 use Rattle.commands.specs.Lent.{Lent}
-use Rattle.demands.proofs.Answers.{reportedBy}
+use Rattle.demands.proofs.Answers.{reportedBy, refusal-hands-none}
 
 -- from what a reader keeps, events of the reading that give these inputs, hand over these reports and leave this reader
 pub record Carries (line : Declared.Line) (kept : Kept) (inputs : List Input) (reports : List Report) (reader : Reader) : Type 0 where
@@ -189,7 +189,7 @@ module _ (line : Declared.Line) (panel : Panel) (kept : Kept) (reached : Reached
             reads = same .1;
             reached = reached-report line kept reached;
           })
-      go false = still line kept reached (panel .reader) reads
+      go false = rw (refusal-hands-none lent (padded mostPayload [])) (still line kept reached (panel .reader) reads)
 
 -- touches leave the reader
 pub contact-keeps-reader : (panel : Panel) (c : Contact) (lent : Lent) → contacting panel c lent .contacted .panel .reader ≡ panel .reader

@@ -32,17 +32,17 @@ use Rattle.panel.specs.declared.LiftAnswer.the-variants as lift-answer
 use Rattle.panel.specs.Numbers.{reportNumber, contactNumber, liftNumber}
 use Rattle.panel.specs.State.{withReader, fixedFor}
 use Rattle.panel.specs.Inputs.{fedByte, fedMark, fedBytes}
-use Rattle.panel.specs.Reporting.{handing, reporting, wellLent, handingOver}
+use Rattle.panel.specs.Reporting.{Reporting, handing, reporting, enoughLent, wellLent, handingOver}
 use Rattle.panel.specs.Contacts.{contacting, lifting, Contact}
 use Rattle.panel.specs.Sound.{Sound}
 use Rattle.panel.specs.Reachable.{Reachable, by-byte}
-use Rattle.panel.proofs.Refusals.{refused-report-14-changes-nothing, refused-contact-changes-nothing, refused-lift-changes-nothing}
+use Rattle.panel.proofs.Refusals.{badly-lent-changes-nothing, refused-contact-changes-nothing, refused-lift-changes-nothing}
 use Rattle.panel.proofs.Invariant.{reachable-sound}
 use Rattle.demands.specs.Calls.{Moment, Call, lend, byte, bytes, mark, ask, contact, lift, withPanel, after, afterAll, numberGiven, reportHanded, handedOver, Typed}
 use Rattle.demands.specs.Reports.{reportWaits, readBehind, acknowledgementOf}
 use Rattle.demands.specs.Demand1.{RefusalLeaves, as-it-stood, only-handed-over, as-those-taken}
 use Rattle.demands.specs.Demand2.{leaving}
-use Rattle.demands.proofs.Answers.{momentAsked, momentTouched}
+use Rattle.demands.proofs.Answers.{momentAsked, momentTouched, refusal-number}
 use Rattle.demands.proofs.Waits.{busy-waits}
 use Rattle.demands.proofs.Numbers.{one-more}
 use Rattle.commands.specs.Lent.{withRoom}
@@ -115,14 +115,18 @@ lent-refused now sound is (line.Accepted c n) tells above =
     let hands = lent-handed now is c n tells in
     frame-refused now sound c content (handed-asks now c content hands) hands above
 
--- 14
+-- 14 and 16
 not-lent-refused : (now : Moment) → wellLent (now .lent) ≡ false → RefusalLeaves now ask
-unfolding numberGiven after reporting reportNumber
+unfolding numberGiven after
 not-lent-refused now is =
-    let number : numberGiven now ask ≡ 14 = rw is in
-    as-it-stood ask (inr (omega arith))
-    (ap momentAsked
-    (refused-report-14-changes-nothing (now .panel) (now .lent) is))
+    let left = badly-lent-changes-nothing (now .panel) (now .lent) is in
+    let number : numberGiven now ask ≡ cond (enoughLent (now .lent)) 16 14 =
+    ap (λ (r : Reporting). reportNumber (r .reported .handed)) left ∙ refusal-number (now .lent) in
+    as-it-stood ask (inr (rw number (above-8 (enoughLent (now .lent))))) (ap momentAsked left)
+  where
+    above-8 : (b : Bool) → 8 ≤ cond b 16 14
+    above-8 true = omega arith
+    above-8 false = omega arith
 
 -- the panel put back as it stood
 same-moment : (now : Moment) (panel : Panel) → panel ≡ now .panel → withPanel now panel ≡ now
@@ -161,6 +165,7 @@ contact-numbers : (a : ContactAnswer) → 0 < contactNumber a → (contactNumber
 unfolding contactNumber
 contact-numbers contact-answer.Done above = absurd (omega arith)
 contact-numbers contact-answer.NotLent above = inr (omega arith)
+contact-numbers contact-answer.WrongList above = inr (omega arith)
 contact-numbers contact-answer.Waits above = inl refl
 contact-numbers contact-answer.NotRecords above = inr (omega arith)
 contact-numbers (contact-answer.WrongRecord i) above = inr (omega arith)

@@ -27,6 +27,7 @@ use Rattle.panel.specs.Reporting.{acknowledged, accepting, drawing, handing, ha
 use Rattle.panel.specs.Sound.{Sound}
 use Rattle.panel.proofs.Ways.{contact-ways, lift-ways, report-ways}
 use Rattle.panel.proofs.Invariant.{reachable-sound}
+use Rattle.panel.specs.Watching.{telling}
 use Rattle.demands.specs.Calls.{Moment, Call, lend, byte, bytes, mark, ask, contact, lift, after, Halfwords, Typed, Arises, from-start, by-call}
 use Rattle.demands.proofs.Calls.{arises-reachable}
 use Rattle.demands.proofs.Contents.{payload-bytes}
@@ -57,7 +58,7 @@ asked-sized now sound sized =
     let all =
     report-ways panel (now .lent) (λ r. Bytes (r .reported .panel .registers .bytes) × Halfwords (r .lent .words) × Halfwords (r .lent .curves))
     (λ h payload. (sized .registers, sized .words, sized .curves)) (λ command is. (sized .registers, sized .words, sized .curves))
-    (λ command count is.
+    (λ list command count is.
     let setup = panel .setup in
     let answer = acknowledged setup command true (now .lent .room) in
     let content = take count (asked (panel .reader) .payload) in
@@ -74,7 +75,7 @@ asked-sized now sound sized =
     panel = now .panel
 
 contacted-sized : (now : Moment) (c : Contact) → Bytes (c .table) → c .x < 65536 → c .y < 65536 → Sized now → Sized (after now (contact c))
-unfolding after
+unfolding after telling
 contacted-sized now c are in-x in-y sized =
     let both =
     contact-ways (now .panel) c (now .lent) (λ r. Bytes (r .contacted .panel .registers .bytes) × Halfwords (r .lent .words))

@@ -18,6 +18,7 @@ use Rattle.demands.specs.Demand3.{Ready, AllAskedFor}
 use Rattle.demands.specs.Story.{version, readVersion, storySetup, new, noise, times, story}
 use Rattle.demands.proofs.Computed.{computingFrames, computingReading, computingStart, computingCalls}
 use Rattle.curves.specs.Area.{curveWords}
+use Rattle.watch.specs.Watched.{noneWatched}
 use Rattle.commands.specs.Lent.{lending}
 use Rattle.demands.proofs.Demand3.{demand3-open}
 
@@ -35,7 +36,7 @@ no-curves-16-bit k = copies-below curveWords 0 k (omega arith)
 
 pub new-arises : Arises new
 unfolding computingStart
-new-arises = from-start storySetup [] (lending (replicate wordCount 0) (replicate curveWords 0) (replicate leastRoom 0)) (omega arith) (omega arith) zeros-16-bit no-curves-16-bit refl
+new-arises = from-start storySetup [] (lending (replicate wordCount 0) (replicate curveWords 0) (replicate leastRoom 0) noneWatched) (omega arith) (omega arith) zeros-16-bit no-curves-16-bit refl
 
 pub new-ready : Ready new
 unfolding computingCalls

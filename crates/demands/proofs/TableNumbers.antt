@@ -1,16 +1,15 @@
 -- The numbers that go by a table, at a contact and at a start: 12, then 13; and 13 names the first wrong record.
-use mathlib.Core.Path.{_≡_, refl, ap, _∙_}
+use mathlib.Core.Path.{_≡_, refl, sym, ap, _∙_}
 use mathlib.Core.Bool.{Bool, true, false, cond, not, _&&_, _||_}
 use mathlib.Core.List.{List, [], _∷_}
 use Prim.Native.Nat.{ℕ, suc, _+_, _<_}
 use native.Mathlib.Omega.{arith}
-use lib.Dec.{eqb, ltb}
+use lib.Dec.{ltb}
 use lib.ListN.{length}
 use Rattle.wire.specs.Numbers.{firstSaid}
 use Rattle.line.specs.Methods.{busy}
 use Rattle.wire.proofs.Truths.{never}
 use Rattle.registers.specs.Touched.{isTouchOff}
-use Rattle.wire.specs.Addresses.{wordCount}
 use Rattle.touch.specs.declared.Setup.{Setup}
 use Rattle.touch.specs.declared.Record.{Record}
 use Rattle.touch.specs.declared.Found.{Found}
@@ -28,12 +27,13 @@ use Rattle.panel.specs.declared.StartAnswer.the-variants as start
 use Rattle.panel.specs.Numbers.{startNumber, contactNumber}
 use Rattle.panel.specs.Start.{refuses, startJudged, started}
 use Rattle.panel.specs.State.{withPad}
-use Rattle.panel.specs.Contacts.{contacts, contactOn, contactJudged, contacting, Contact}
+use Rattle.panel.specs.Contacts.{silent, contactOn, contactJudged, told, touchNotLent, contacting, Contact}
+use Rattle.watch.specs.Judge.{wrongList}
 use Rattle.panel.specs.Sound.{Sound}
 use Rattle.demands.specs.Calls.{Moment, contact, numberGiven}
-use Rattle.demands.specs.Demand1.{firstNumber, NamesFirstWrong, wordsNotLent, notWholeRecords, oneWrong, offScreen, printed, printedStart}
+use Rattle.demands.specs.Demand1.{firstNumber, NamesFirstWrong, wordsNotLent, roomTooSmall, notWholeRecords, oneWrong, offScreen, printed, printedStart}
 use Rattle.commands.specs.Lent.{Lent, withWords}
-use Rattle.panel.proofs.Ways.{touchedBy}
+use Rattle.panel.proofs.Ways.{touchedBy, told-answers}
 use Rattle.demands.proofs.Waits.{busy-waits}
 
 -- a table: 12, then 13
@@ -62,8 +62,8 @@ module _ (panel : Panel) (c : Contact) (lent : Lent) where
   on-number = go (isTouchOff (panel .registers)) (not (ltb (c .x) (panel .setup .width) && ltb (c .y) (panel .setup .height)))
     where
       go : (a b : Bool)
-          → contactNumber (cond a (contacts contact-answer.TouchOff panel lent) (cond b (contacts contact-answer.OffScreen panel lent)
-          (contacts contact-answer.Done (withPad panel (doneBy .pad)) (withWords lent (doneBy .words)))) .contacted .answer)
+          → contactNumber (cond a (silent contact-answer.TouchOff panel lent) (cond b (silent contact-answer.OffScreen panel lent)
+          (silent contact-answer.Done (withPad panel (doneBy .pad)) (withWords lent (doneBy .words)))) .contacted .answer)
           ≡ cond a 9 (cond b 8 0)
       go true b = refl
       go false true = refl
@@ -85,20 +85,24 @@ module _ (panel : Panel) (c : Contact) (lent : Lent) where
 
 pub contact-number : (now : Moment) → Sound (now .panel) → (c : Contact)
     → numberGiven now (contact c) ≡ firstNumber (printed now (contact c))
-unfolding numberGiven printed contacting contactNumber wordsNotLent firstSaid
-contact-number now sound c = rw (← busy-waits (now .panel) sound) (go (not (eqb (length (now .lent .words)) wordCount)) (busy (now .panel .reader)))
+unfolding numberGiven printed contacting touchNotLent contactNumber wordsNotLent roomTooSmall firstSaid
+contact-number now sound c =
+    rw (← busy-waits (now .panel) sound)
+    (go (touchNotLent (length (now .lent .words)) (length (now .lent .room))) (wrongList (now .lent .watched)) (busy (now .panel .reader)))
   where
     panel : Panel
     panel = now .panel
 
-    go : (a b : Bool)
-        → contactNumber (cond a (contacts contact-answer.NotLent panel (now .lent)) (cond b (contacts contact-answer.Waits panel (now .lent))
-        (contactJudged (judged (panel .setup) (c .table)) panel c (now .lent))) .contacted .answer)
-        ≡ cond a 14 (cond b 1 (cond (notWholeRecords (c .table)) 12 (cond (oneWrong (panel .setup) (recordsOf (c .table))) 13
-        (cond (isTouchOff (panel .registers)) 9 (cond (offScreen (panel .setup) (c .x) (c .y)) 8 0)))))
-    go true b = refl
-    go false true = refl
-    go false false = judged-number panel c (now .lent)
+    go : (a w b : Bool)
+        → contactNumber (cond a (silent contact-answer.NotLent panel (now .lent)) (cond w (silent contact-answer.WrongList panel (now .lent))
+        (cond b (silent contact-answer.Waits panel (now .lent)) (told (panel .setup) (contactJudged (judged (panel .setup) (c .table)) panel c (now .lent))))) .contacted .answer)
+        ≡ cond a 14 (cond w 16 (cond b 1 (cond (notWholeRecords (c .table)) 12 (cond (oneWrong (panel .setup) (recordsOf (c .table))) 13
+        (cond (isTouchOff (panel .registers)) 9 (cond (offScreen (panel .setup) (c .x) (c .y)) 8 0))))))
+    go true w b = refl
+    go false true b = refl
+    go false false true = refl
+    go false false false =
+        ap contactNumber (told-answers (panel .setup) (contactJudged (judged (panel .setup) (c .table)) panel c (now .lent))) ∙ judged-number panel c (now .lent)
 
 -- "start 11, 12, 13"
 pub start-as-printed : (setup : Setup) (table : List ℕ) → startNumber (started setup table .answer) ≡ firstNumber (printedStart setup table)
@@ -150,8 +154,8 @@ on-names-none panel c lent i = go (isTouchOff (panel .registers)) (not (ltb (c .
     done = touchedBy panel c lent
 
     go : (a b : Bool)
-        → cond a (contacts contact-answer.TouchOff panel lent) (cond b (contacts contact-answer.OffScreen panel lent)
-        (contacts contact-answer.Done (withPad panel (done .pad)) (withWords lent (done .words)))) .contacted .answer
+        → cond a (silent contact-answer.TouchOff panel lent) (cond b (silent contact-answer.OffScreen panel lent)
+        (silent contact-answer.Done (withPad panel (done .pad)) (withWords lent (done .words)))) .contacted .answer
         ≡ contact-answer.WrongRecord i → ⊥
     go true b is = never (cc)
     go false true is = never (cc)
@@ -161,22 +165,29 @@ pub contact-names-first-wrong : (now : Moment) (c : Contact) (i : ℕ)
     → contacting (now .panel) c (now .lent) .contacted .answer ≡ contact-answer.WrongRecord i
     → NamesFirstWrong (now .panel .setup) (c .table) i
 unfolding contacting contactJudged
-contact-names-first-wrong now c i = go (not (eqb (length (now .lent .words)) wordCount)) (busy (now .panel .reader)) (judged (now .panel .setup) (c .table)) refl
+contact-names-first-wrong now c i =
+    go (touchNotLent (length (now .lent .words)) (length (now .lent .room))) (wrongList (now .lent .watched)) (busy (now .panel .reader))
+    (judged (now .panel .setup) (c .table)) refl
   where
     panel : Panel
     panel = now .panel
 
-    go : (a b : Bool) (v : Verdict) → judged (panel .setup) (c .table) ≡ v
-        → cond a (contacts contact-answer.NotLent panel (now .lent)) (cond b (contacts contact-answer.Waits panel (now .lent))
-        (contactJudged v panel c (now .lent))) .contacted .answer
+    behind : (v : Verdict) → judged (panel .setup) (c .table) ≡ v → contactJudged v panel c (now .lent) .contacted .answer ≡ contact-answer.WrongRecord i
+        → NamesFirstWrong (panel .setup) (c .table) i
+    behind Good judges is = absurd (on-names-none panel c (now .lent) i is)
+    behind NotRecords judges is = never (cc)
+    behind (Wrong j) judges is =
+        let same : j ≡ i = cc in names-first (panel .setup) (c .table) i (judges ∙ ap (λ (k : ℕ). Wrong k) same)
+
+    go : (a w b : Bool) (v : Verdict) → judged (panel .setup) (c .table) ≡ v
+        → cond a (silent contact-answer.NotLent panel (now .lent)) (cond w (silent contact-answer.WrongList panel (now .lent))
+        (cond b (silent contact-answer.Waits panel (now .lent)) (told (panel .setup) (contactJudged v panel c (now .lent))))) .contacted .answer
         ≡ contact-answer.WrongRecord i
         → NamesFirstWrong (panel .setup) (c .table) i
-    go true b v judges is = never (cc)
-    go false true v judges is = never (cc)
-    go false false Good judges is = absurd (on-names-none panel c (now .lent) i is)
-    go false false NotRecords judges is = never (cc)
-    go false false (Wrong j) judges is =
-        let same : j ≡ i = cc in names-first (panel .setup) (c .table) i (judges ∙ ap (λ (k : ℕ). Wrong k) same)
+    go true w b v judges is = never (cc)
+    go false true b v judges is = never (cc)
+    go false false true v judges is = never (cc)
+    go false false false v judges is = behind v judges (sym (told-answers (panel .setup) (contactJudged v panel c (now .lent))) ∙ is)
 
 pub start-names-first-wrong : (setup : Setup) (table : List ℕ) (i : ℕ) → started setup table .answer ≡ start.WrongRecord i → NamesFirstWrong setup table i
 unfolding started startJudged

@@ -1,25 +1,25 @@
 -- What a contact and a lift that are done leave, and what the record that acts or is caught stores.
 use mathlib.Core.Path.{_≡_, refl, sym, ap, _∙_}
-use mathlib.Core.Bool.{Bool, true, false, cond, not, _&&_}
+use mathlib.Core.Bool.{Bool, true, false, cond, not}
 use mathlib.Core.List.{List}
 use Prim.Native.Nat.{ℕ, _*_, _<_}
 use native.Mathlib.Omega.{arith}
-use borrow.Author.Tests.{eqb-true}
+use borrow.Author.Tests.{eqb-true, not-false}
 use lib.Dec.{eqb, ltb}
 use lib.ListN.{length, take, drop}
 use lib.Seq.{getD-set-same}
 use Rattle.wire.specs.Bytes.{Bytes}
 use Rattle.wire.specs.ByteOrder.{wordAt}
+use Rattle.frame.specs.Writer.{leastRoom}
 use Rattle.line.specs.Methods.{busy}
-use Rattle.wire.proofs.Truths.{never}
-use Rattle.registers.specs.Touched.{isDown, isTouchOff, pageOf, withStatus, withPlace}
+use Rattle.wire.proofs.Truths.{never, or-left}
+use Rattle.registers.specs.Touched.{isDown, pageOf, withStatus, withPlace}
 use Rattle.stores.specs.Store.{signed, valueIn, keyStores}
 use Rattle.stores.specs.Step.{stepped, fenced}
 use Rattle.stores.specs.Slider.{slidTo}
 use Rattle.wire.specs.Addresses.{wordCount}
 use Rattle.words.specs.Words.{wordAtAddress, wordSet}
-use Rattle.touch.specs.declared.Verdict.{Verdict}
-use Rattle.touch.specs.declared.Verdict.the-variants.{Good, NotRecords, Wrong}
+use Rattle.touch.specs.declared.Verdict.the-variants.{Good}
 use Rattle.touch.specs.declared.Record.{Record}
 use Rattle.touch.specs.declared.Kind.the-variants.{Key, Step, Slider, Other}
 use Rattle.touch.specs.declared.StepFields.{StepFields}
@@ -33,6 +33,7 @@ use Rattle.touch.specs.Find.{found}
 use Rattle.touch.specs.Act.{actedBy, actedOf, draggedOf}
 use Rattle.touch.proofs.Acts.{step-acts-as-printed, slider-acts-as-printed}
 use Rattle.touch.specs.Judge.{goodRecord, judged}
+use Rattle.watch.specs.Judge.{wrongList}
 use Rattle.touch.proofs.GoodFields.{good-word, good-kind}
 use Rattle.touch.proofs.Tables.{found-stands, found-good}
 use Rattle.contact.specs.declared.Catch.{Catch}
@@ -41,66 +42,59 @@ use Rattle.contact.specs.declared.Pad.{Pad}
 use Rattle.contact.specs.Contact as Contact
 use Rattle.contact.specs.Contact.{touched}
 use Rattle.panel.specs.declared.Panel.{Panel}
+use Rattle.panel.specs.declared.ContactAnswer.{ContactAnswer}
 use Rattle.panel.specs.declared.ContactAnswer.the-variants as contact-answer
 use Rattle.panel.specs.declared.LiftAnswer.the-variants as lift-answer
 use Rattle.panel.specs.Numbers.{contactNumber, liftNumber}
 use Rattle.panel.specs.State.{padOf, withPad}
-use Rattle.panel.specs.Contacts.{Contacting, contacts, contactOn, contactJudged, contacting, lifting, Contact}
-use Rattle.panel.proofs.Ways.{lifts, touchedBy}
+use Rattle.panel.specs.Watching.{telling}
+use Rattle.panel.specs.Contacts.{isTouch, touchNotLent, contacting, lifting, Contact}
+use Rattle.panel.proofs.Ways.{lifts, contactDone, Passed, contact-refused-or-done}
 use Rattle.demands.specs.Calls.{Moment, contact, lift, withPanel, after, numberGiven}
 use Rattle.demands.specs.Demand2.{afterContact, afterLift}
 use Rattle.demands.proofs.Answers.{momentTouched}
-use Rattle.commands.specs.Lent.{Lent, withWords}
+use Rattle.commands.specs.Lent.{Lent}
 use Rattle.touch.specs.declared.Setup.{Setup}
 use Rattle.touch.specs.Rounding.{roundingOf}
 use Rattle.demands.specs.Stored.{otherByte, Stores}
 use Rattle.demands.proofs.Storing.{word-below, record-bytes}
 use Rattle.demands.proofs.Stored.{step-keeps-other, slider-keeps-other}
 
--- a contact that is done had all words, no report waiting, a good table, touch on and a point on the screen
-abbrev touchDone : Panel → Contact → Lent → Contacting
-touchDone panel c lent = contacts contact-answer.Done (withPad panel (touchedBy panel c lent .pad)) (withWords lent (touchedBy panel c lent .words))
-
+-- a contact that is done was lent what it must be, no report waited, the table was good, touch was on and the point on the screen
 pub record Touched (panel : Panel) (c : Contact) (lent : Lent) : Type 0 where
   pub whole : length (lent .words) ≡ wordCount
+  pub good-list : wrongList (lent .watched) ≡ false
   pub good : judged (panel .setup) (c .table) ≡ Good
-  pub touches : contacting panel c lent ≡ touchDone panel c lent
+  pub touches : contacting panel c lent ≡ contactDone panel c lent
 
-module _ (panel : Panel) (c : Contact) (lent : Lent) where
-  on-done : contactNumber (contactOn panel c lent .contacted .answer) ≡ 0 → contactOn panel c lent ≡ touchDone panel c lent
-  unfolding contactOn contactNumber
-  on-done = go (isTouchOff (panel .registers)) (not (ltb (c .x) (panel .setup .width) && ltb (c .y) (panel .setup .height)))
-    where
-      done : Contacting
-      done = touchDone panel c lent
+-- only a contact that is done has number 0
+number-touches : (answer : ContactAnswer) → contactNumber answer ≡ 0 → isTouch answer ≡ true
+unfolding contactNumber
+number-touches contact-answer.Done is = refl
+number-touches contact-answer.NotLent is = absurd (omega arith)
+number-touches contact-answer.WrongList is = absurd (omega arith)
+number-touches contact-answer.Waits is = absurd (omega arith)
+number-touches contact-answer.NotRecords is = absurd (omega arith)
+number-touches (contact-answer.WrongRecord i) is = absurd (omega arith)
+number-touches contact-answer.TouchOff is = absurd (omega arith)
+number-touches contact-answer.OffScreen is = absurd (omega arith)
 
-      go : (a b : Bool)
-          → contactNumber (cond a (contacts contact-answer.TouchOff panel lent) (cond b (contacts contact-answer.OffScreen panel lent) done) .contacted .answer) ≡ 0
-          → cond a (contacts contact-answer.TouchOff panel lent) (cond b (contacts contact-answer.OffScreen panel lent) done) ≡ done
-      go true b is = absurd (omega arith)
-      go false true is = absurd (omega arith)
-      go false false is = refl
+lent-whole : (words room : ℕ) → touchNotLent words room ≡ false → words ≡ wordCount
+unfolding touchNotLent
+lent-whole words room well =
+    eqb-true words wordCount (not-false (eqb words wordCount) (or-left (not (eqb words wordCount)) (ltb room leastRoom) well))
 
-  pub contact-done : contactNumber (contacting panel c lent .contacted .answer) ≡ 0 → Touched panel c lent
-  unfolding contacting contactJudged contactNumber
-  contact-done = go (eqb (length (lent .words)) wordCount) refl (busy (panel .reader)) refl (judged (panel .setup) (c .table)) refl
-    where
-      judging : Verdict → Contacting
-      judging v = contactJudged v panel c lent
-
-      go : (a : Bool) → eqb (length (lent .words)) wordCount ≡ a → (b : Bool) → busy (panel .reader) ≡ b → (v : Verdict) → judged (panel .setup) (c .table) ≡ v
-          → contactNumber (cond (not a) (contacts contact-answer.NotLent panel lent) (cond b (contacts contact-answer.Waits panel lent) (judging v)) .contacted .answer) ≡ 0
-          → Touched panel c lent
-      go false p b q v r is = absurd (omega arith)
-      go true p true q v r is = absurd (omega arith)
-      go true p false q NotRecords r is = absurd (omega arith)
-      go true p false q (Wrong i) r is = absurd (omega arith)
-      go true p false q Good r is =
-          record {
-            whole = eqb-true (length (lent .words)) wordCount p;
-            good = r;
-            touches = rw (p, q, r) (on-done is);
-          }
+pub contact-done : (panel : Panel) (c : Contact) (lent : Lent) → contactNumber (contacting panel c lent .contacted .answer) ≡ 0 → Touched panel c lent
+contact-done panel c lent is =
+    let ways = contact-refused-or-done panel c lent
+    (λ r. contactNumber (r .contacted .answer) ≡ 0 → Passed panel c lent × (r ≡ contactDone panel c lent))
+    (λ answer none zero. never (cc (number-touches answer zero))) (λ passed zero. (passed, refl)) is in
+    record {
+      whole = lent-whole (length (lent .words)) (length (lent .room)) (ways .0 .well-lent);
+      good-list = ways .0 .list-good;
+      good = ways .0 .table-good;
+      touches = ways .1;
+    }
 
 -- "Contact while up: ..", "Contact while down: .."
 pub contact-leaves : (now : Moment) (c : Contact) → numberGiven now (contact c) ≡ 0 → after now (contact c) ≡ afterContact now c
@@ -193,7 +187,7 @@ module _ (now : Moment) (c : Contact) (are : Bytes (c .table)) (done : numberGiv
       found-good (now .panel .setup) (c .table) (pageOf (now .panel .registers)) (c .x) (c .y) i r (contact-done (now .panel) c (now .lent) done .good) acts
 
   pub acted-word : wordAtAddress (after now (contact c) .lent .words) (r .word) ≡ actedOf (now .panel .setup) r (wordAtAddress (now .lent .words) (r .word)) (c .x) (c .y)
-  unfolding afterContact numberGiven
+  unfolding afterContact numberGiven telling
   acted-word =
       let small = good-word (now .panel .setup) r acting-good in
       let whole = contact-done (now .panel) c (now .lent) done .whole in

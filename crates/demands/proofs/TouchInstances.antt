@@ -9,30 +9,20 @@ use Rattle.wire.specs.Bytes.{Bytes}
 use Rattle.wire.specs.Addresses.{wordCount}
 use Rattle.frame.specs.Writer.{leastRoom}
 use Rattle.reading.proofs.ByteLists.{allBytes, tested-bytes}
-use Rattle.registers.specs.Touched.{isDown, pageOf, isTouchOff, withPage, withStatus, withPlace}
-use Rattle.words.specs.Words.{wordAtAddress, wordSet}
+use Rattle.words.specs.Words.{wordAtAddress}
 use Rattle.touch.specs.declared.Setup.{Setup}
-use Rattle.touch.specs.Record.{areaAt, stepFields, sliderFields, kindOf, recordOf}
-use Rattle.touch.specs.Judge.{goodStep, goodSlider, goodRecord, wrong}
-use Rattle.touch.specs.Find.{found}
-use Rattle.touch.specs.Act.{actedOf, draggedOf}
-use Rattle.contact.specs.Contact as Touch
+use Rattle.touch.specs.Record.{stepFields, sliderFields, recordOf}
 use Rattle.panel.specs.declared.StartAnswer.the-variants as start
 use Rattle.panel.specs.Start.{started}
-use Rattle.panel.specs.Numbers.{contactNumber}
-use Rattle.panel.specs.Contacts.{Contact, contactOn, contactJudged, contacting}
+use Rattle.panel.specs.Contacts.{Contact}
 use Rattle.curves.specs.Area.{curveWords}
+use Rattle.watch.specs.Watched.{noneWatched}
 use Rattle.commands.specs.Lent.{lending}
 use Rattle.demands.specs.Calls.{Moment, contact, begun, after, Typed, Arises, from-start, by-call}
 use Rattle.demands.specs.Stored.{Stores}
-use Rattle.demands.proofs.Computed.{computingCalls, computingStores}
+use Rattle.demands.proofs.Computed.{computingContacts}
 use Rattle.demands.proofs.Demand2.{step-stores, slider-stores, dragged-slider-stores}
 use Rattle.demands.proofs.Story.{copies-below}
-
--- all that a contact is computed by
-unfoldable computingContacts : Unit {0}
-unfolding computingCalls computingStores areaAt stepFields sliderFields kindOf recordOf goodStep goodSlider goodRecord wrong found actedOf draggedOf isDown pageOf isTouchOff withPage withStatus withPlace wordSet Touch.showing Touch.catching Touch.acting Touch.pressed Touch.dragging Touch.heldDown Touch.touched contactOn contactJudged contacting contactNumber
-computingContacts = tt
 
 -- low byte of word 0000, up 5 from 0 to 255, stop; and high byte of word 0001, across from 100 to 300, 255 to 0
 abbrev stepBytes : List ℕ
@@ -53,7 +43,7 @@ setup = record { h1 = 0x5A; h2 = 0xA5; flags = 0; pages = 2; width = 800; height
 
 -- every word is 12FD
 abbrev up : Moment
-up = begun setup table (lending (replicate wordCount 0x12FD) (replicate curveWords 0) (replicate leastRoom 0))
+up = begun setup table (lending (replicate wordCount 0x12FD) (replicate curveWords 0) (replicate leastRoom 0) noneWatched)
 
 abbrev onStep : Contact
 onStep = record { table = table; x = 11; y = 11 }
@@ -79,7 +69,7 @@ down-arises : Arises down
 unfolding Typed
 down-arises =
     by-call up (contact onSlider) (are-bytes, (omega arith, omega arith))
-    (from-start setup table (lending (replicate wordCount 0x12FD) (replicate curveWords 0) (replicate leastRoom 0)) (omega arith) (omega arith)
+    (from-start setup table (lending (replicate wordCount 0x12FD) (replicate curveWords 0) (replicate leastRoom 0) noneWatched) (omega arith) (omega arith)
     (λ k. copies-below wordCount 0x12FD k (omega arith)) (λ k. copies-below curveWords 0 k (omega arith)) up-starts)
 
 -- FD and 5 pass 255, where it stops: 12FD becomes 12FF

@@ -2,7 +2,7 @@
 use Prim.{Unit}
 use Prim.Native.Nat.{ℕ, _≤_, _<_}
 use mathlib.Core.Path.{_≡_}
-use mathlib.Core.Bool.{cond}
+use mathlib.Core.Bool.{false, cond}
 use mathlib.Core.List.{List, [], _∷_, _++_}
 use lib.Dec.{eqb}
 use lib.ListN.{length, take, getD}
@@ -12,6 +12,7 @@ use Rattle.frame.specs.Writer.{leastRoom}
 use Rattle.reading.specs.Place.{Report, badCheck, acceptedFrame}
 use Rattle.line.specs.Methods as Line
 use Rattle.curves.specs.Area.{curveWords}
+use Rattle.watch.specs.Judge.{wrongList}
 use Rattle.commands.specs.Lent.{Lent}
 use Rattle.touch.specs.declared.Setup.{Setup}
 use Rattle.panel.specs.declared.Panel.{Panel}
@@ -24,7 +25,7 @@ use Rattle.panel.specs.Inputs.{fedByte, fedMark, fedBytes}
 use Rattle.panel.specs.Reporting.{reporting}
 use Rattle.panel.specs.Contacts.{Contact, contacting, lifting}
 
--- the panel, and what is lent to it (the variable words, the curve area and the reply room), as the last call left them
+-- the panel, and what is lent to it (the variable words, the curve area, the reply room and the watch list), as the last call left them
 pub record Moment : Type 0 where
   pub panel : Panel
   pub lent : Lent
@@ -49,11 +50,18 @@ abbrev pub begun : Setup → (table : List ℕ) → Lent → Moment
 begun setup table lent = record { panel = started setup table .panel; lent = lent }
 
 -- what must be lent, so that asking is not answered 14: "words lent aren't 28,672, or reply .. room below 265", 02, §2: "14 also for a curve area of the wrong
--- length"
+-- length"; nor 16, 02, §4: "two entries in use share a word or one in use has an address not below 0x7000, or the list is longer than 16"
 pub record WellLent (lent : Lent) : Type 0 where
   pub words : length (lent .words) ≡ wordCount
   pub curves : length (lent .curves) ≡ curveWords
   pub room : leastRoom ≤ length (lent .room)
+  pub watched : wrongList (lent .watched) ≡ false
+
+-- what must be lent, so that a contact is answered neither 14, 02, §4: "14 also for reply room at a contact", nor 16
+pub record TouchLent (lent : Lent) : Type 0 where
+  pub words : length (lent .words) ≡ wordCount
+  pub room : leastRoom ≤ length (lent .room)
+  pub watched : wrongList (lent .watched) ≡ false
 
 -- what a call leaves
 unfoldable pub after : Moment → Call → Moment
@@ -87,6 +95,7 @@ numberGiven now lift = liftNumber (lifting (now .panel) .answer)
 -- the report that an answer hands over: of an accepted frame "its command and data", which stands beside the answer
 unfoldable pub reportHanded : Handed → (payload : List ℕ) → List Report
 reportHanded handed.NotLent payload = []
+reportHanded handed.WrongList payload = []
 reportHanded handed.Nothing payload = []
 reportHanded (handed.BadCheck command acknowledged) payload = badCheck command ∷ []
 reportHanded (handed.Accepted command count outcome acknowledged replied) payload = acceptedFrame command (take count payload) ∷ []
@@ -117,6 +126,9 @@ pub record LentTyped (lent : Lent) : Type 0 where
   pub words : Halfwords (lent .words)
   pub curves : Halfwords (lent .curves)
   pub room : Bytes (lent .room)
+  pub addresses : Halfwords (lent .watched .addresses)
+  pub uses : Bytes (lent .watched .uses)
+  pub values : Halfwords (lent .watched .values)
 
 -- what the types of a call's arguments say
 unfoldable pub Typed : Call → Type 0

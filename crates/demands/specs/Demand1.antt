@@ -17,6 +17,7 @@ use Rattle.frame.specs.Writer.{leastRoom}
 use Rattle.reading.specs.Place.{Report, badCheck, acceptedFrame}
 use Rattle.registers.specs.Touched.{isDown, isTouchOff}
 use Rattle.curves.specs.Area.{curveWords}
+use Rattle.watch.specs.Judge.{wrongList}
 use Rattle.commands.specs.Listed.{notCommand, wrongData, passesEnd, touchesUnwritable, valueWrong, replyPasses}
 use Rattle.commands.specs.Lent.{withRoom}
 use Rattle.touch.specs.declared.Setup.{Setup}
@@ -88,7 +89,8 @@ oneWrong setup (r ∷ rs) = not (goodRecord setup r) || oneWrong setup rs
 unfoldable pub offScreen : Setup → (x y : ℕ) → Bool
 offScreen setup x y = not (ltb x (setup .width) && ltb y (setup .height))
 
--- "Order: asking for a report 14, then 2 to 7 in turn; byte or mark 1; contact 14, 1, 12, 13, 9, 8; lift 1, 10"
+-- "Order: asking for a report 14, then 2 to 7 in turn; byte or mark 1; contact 14, 1, 12, 13, 9, 8; lift 1, 10". 02, §4: "16, two entries in use share a word or
+-- one in use has an address not below 0x7000, or the list is longer than 16, right after 14 at contacts and reports", "14 also for reply room at a contact"
 unfoldable pub printed : Moment → Call → List Condition
 printed now (lend lent) = []
 printed now (byte b) = (1 when reportWaits (now .panel)) ∷ []
@@ -98,6 +100,7 @@ printed now ask =
     let setup = now .panel .setup in
     let report = waitingReport (now .panel) in
     (14 when wordsNotLent (now .lent .words) || areaNotLent (now .lent .curves) || roomTooSmall (now .lent .room))
+    ∷ (16 when wrongList (now .lent .watched))
     ∷ (2 when ofFrame report notCommand)
     ∷ (3 when ofFrame report wrongData)
     ∷ (4 when ofFrame report (passesEnd wordCount))
@@ -107,7 +110,8 @@ printed now ask =
     ∷ []
 printed now (contact c) =
     let setup = now .panel .setup in
-    (14 when wordsNotLent (now .lent .words))
+    (14 when wordsNotLent (now .lent .words) || roomTooSmall (now .lent .room))
+    ∷ (16 when wrongList (now .lent .watched))
     ∷ (1 when reportWaits (now .panel))
     ∷ (12 when notWholeRecords (c .table))
     ∷ (13 when oneWrong setup (recordsOf (c .table)))
@@ -141,7 +145,7 @@ pub record OnlyHandedOver (now later : Moment) : Type 0 where
   pub only-read-on : later .panel ≡ readBehind (now .panel)
   pub only-acknowledged : later .lent ≡ withRoom (now .lent) (over (acknowledgementOf (now .panel .setup) command true) (now .lent .room))
 
--- "beyond that a refusal leaves the panel, the variable words and the reply room as they stood", and the curve area: what a refused call leaves, by its number
+-- "beyond that a refusal leaves the panel, the variable words and the reply room as they stood", the curve area and the watch list: what a refused call leaves, by its number
 pub data RefusalLeaves (now : Moment) : Call → Type 0 where
   -- 2 to 7: "answers beside a frame's report, which counts as handed over, and its acknowledgement is written"
   only-handed-over : 2 ≤ numberGiven now ask → numberGiven now ask ≤ 7 → OnlyHandedOver now (after now ask) → RefusalLeaves now ask

@@ -22,7 +22,9 @@ use Rattle.curves.specs.Area.{channelWords}
 use Rattle.curves.specs.Rounds.{named, modeOf}
 use Rattle.curves.specs.Adding.{added}
 use Rattle.curves.specs.Clearing.{clears}
-use Rattle.commands.specs.Lent.{Lent, withWords, withCurves, withRoom}
+use Rattle.watch.specs.Watched.{withValues}
+use Rattle.watch.specs.Noting.{noted}
+use Rattle.commands.specs.Lent.{Lent, withWords, withCurves, withRoom, withWatched}
 use Rattle.commands.specs.Effect.{registersLeft, countsLeft, catchDropped}
 use Rattle.registers.specs.Touched.{pageOf, isDown}
 use Rattle.words.specs.Words.{wordAtAddress, wordsOf, bytesOf, wordRun, wordsWritten}
@@ -35,6 +37,7 @@ use Rattle.contact.specs.declared.Catch.{Catch}
 use Rattle.contact.specs.declared.Catch.the-variants.{Free, Caught}
 use Rattle.contact.specs.Contact as Touch
 use Rattle.panel.specs.Contacts.{Contact}
+use Rattle.panel.specs.Watching.{telling}
 use Rattle.panel.specs.State.{headerOf, padOf, withPad, panelCount}
 use Rattle.demands.specs.Calls.{Moment, Call, lend, bytes, ask, contact, lift, after, numberGiven, handedOver}
 use Rattle.demands.specs.Reports.{readBehind, acknowledgementOf}
@@ -136,11 +139,13 @@ readReply now content =
 unfoldable pub afterRead : Moment → List ℕ → Moment
 afterRead now content = leaving now 0x81 (now .panel .registers) (now .panel .catch) (now .panel .counts) (now .lent) (readReply now content)
 
--- "0x82, address (2), one or more words: write variables."
+-- "0x82, address (2), one or more words: write variables." 02, §4: "Line writes note the new value and send nothing."
 unfoldable pub afterStore : Moment → List ℕ → Moment
 afterStore now content =
+    let words = wordsWritten (now .lent .words) (wordAt content 0) (drop 2 content) in
+    let values = noted words (now .lent .watched) (wordAt content 0) (length (wordsOf (drop 2 content))) in
     leaving now 0x82 (now .panel .registers) (now .panel .catch) (now .panel .counts)
-    (withWords (now .lent) (wordsWritten (now .lent .words) (wordAt content 0) (drop 2 content))) []
+    (withWatched (withWords (now .lent) words) (withValues (now .lent .watched) values)) []
 
 -- "0x83, address (2), count (1): read variables. Reply 0x83, address, count, words."
 abbrev pub fetchReply : Moment → List ℕ → List ℕ
@@ -177,11 +182,12 @@ afterBadCheck now command =
       lent = withRoom (now .lent) (over (acknowledgementOf (now .panel .setup) command false) (now .lent .room));
     }
 
--- "touch effects": what a contact and a lift leave, sentence by sentence in crate contact's specs/Contact
+-- "touch effects": what a contact and a lift leave, sentence by sentence in crate contact's specs/Contact. 02, §4: "After a contact that answers 0, the first entry
+-- in use whose word differs from its value last sent gets one unasked 0x83 reply of count 1 in the reply room, and the value is noted": crate panel's specs/Watching
 unfoldable pub afterContact : Moment → Contact → Moment
 afterContact now c =
     let done = Touch.touched (now .panel .setup) (padOf (now .panel)) (c .table) (now .lent .words) (c .x) (c .y) in
-    record { panel = withPad (now .panel) (done .pad); lent = withWords (now .lent) (done .words) }
+    record { panel = withPad (now .panel) (done .pad); lent = telling (now .panel .setup) (withWords (now .lent) (done .words)) .lent }
 
 -- "touch effects", of a lift
 unfoldable pub afterLift : Moment → Moment
@@ -198,7 +204,7 @@ afterCommand now command content =
 
 -- All that asking can leave, by what it hands over and the number it is answered: nothing, a bad check, a command that is refused, or one that is done.
 pub data AskLeaves (now : Moment) : Type 0 where
-  hands-nothing : handedOver now ask ≡ [] → (numberGiven now ask ≡ 0) ⊎ (numberGiven now ask ≡ 14) → after now ask ≡ now → AskLeaves now
+  hands-nothing : handedOver now ask ≡ [] → (numberGiven now ask ≡ 0) ⊎ ((numberGiven now ask ≡ 14) ⊎ (numberGiven now ask ≡ 16)) → after now ask ≡ now → AskLeaves now
   hands-bad-check : (command : ℕ) → handedOver now ask ≡ badCheck command ∷ [] → numberGiven now ask ≡ 0 → after now ask ≡ afterBadCheck now command
       → AskLeaves now
   refuses-command : (command : ℕ) (content : List ℕ) → handedOver now ask ≡ acceptedFrame command content ∷ [] → 2 ≤ numberGiven now ask → numberGiven now ask ≤ 7

@@ -18,6 +18,7 @@ use Rattle.stores.specs.Step.{stepStores}
 use Rattle.stores.specs.Slider.{sliderStores}
 use Rattle.words.specs.Words.{wordAtAddress}
 use Rattle.curves.specs.Area.{curveWords}
+use Rattle.watch.specs.Watched.{noneWatched}
 use Rattle.commands.specs.Lent.{lending}
 use Rattle.commands.specs.declared.Outcome.the-variants.{Done}
 use Rattle.touch.specs.declared.Setup.{Setup}
@@ -64,7 +65,7 @@ startedWith flags = started (setupWith flags) [] .panel
 
 -- asking it for a report, lent 28,672 words of 0 and a reply room of 265 bytes
 abbrev pub asking : Panel → Reporting
-asking panel = reporting panel (lending (replicate wordCount 0) (replicate curveWords 0) (replicate leastRoom 0))
+asking panel = reporting panel (lending (replicate wordCount 0) (replicate curveWords 0) (replicate leastRoom 0) noneWatched)
 
 -- e: "5A A5 40, 5A A5 05 81 00 01 E0 28"
 abbrev pub noiseAndRead : List ℕ

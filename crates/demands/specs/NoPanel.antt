@@ -5,9 +5,10 @@ use mathlib.Core.Bool.{cond}
 use mathlib.Core.List.{List, [], _∷_}
 use lib.Dec.{eqb}
 use lib.ListN.{length}
-use Rattle.wire.specs.Addresses.{wordCount}
 use Rattle.commands.specs.Lent.{Lent}
-use Rattle.panel.specs.Reporting.{wellLent}
+use Rattle.watch.specs.Judge.{wrongList}
+use Rattle.panel.specs.Reporting.{enoughLent}
+use Rattle.panel.specs.Contacts.{touchNotLent}
 use Rattle.demands.specs.Calls.{Moment, Call, lend, byte, bytes, mark, ask, contact, lift, afterAll, numberGiven, handedOverAll}
 use Rattle.demands.specs.Given.{givenAll}
 
@@ -26,14 +27,14 @@ unfoldable pub lentLast : Lent → List Call → Lent
 lentLast lent [] = lent
 lentLast lent (call ∷ calls) = lentLast (lentBy lent call) calls
 
--- "byte or mark 1; .. contact 14, 1, ..; lift 1, ..; asking for a report 14", and with enough lent "nothing"
+-- "byte or mark 1; .. contact 14, 1, ..; lift 1, ..; asking for a report 14", with 16 "right after 14", and with enough lent "nothing"
 unfoldable pub refusedWith : Lent → Call → ℕ
 refusedWith lent (lend other) = 0
 refusedWith lent (byte b) = 1
 refusedWith lent (bytes bs) = cond (eqb 0 (length bs)) 0 1
 refusedWith lent mark = 1
-refusedWith lent ask = cond (wellLent lent) 0 14
-refusedWith lent (contact c) = cond (eqb (length (lent .words)) wordCount) 1 14
+refusedWith lent ask = cond (enoughLent lent) (cond (wrongList (lent .watched)) 16 0) 14
+refusedWith lent (contact c) = cond (touchNotLent (length (lent .words)) (length (lent .room))) 14 (cond (wrongList (lent .watched)) 16 1)
 refusedWith lent lift = 1
 
 -- what any calls leave, take, hand over and are answered

@@ -7,6 +7,7 @@ use Rattle.wire.specs.Addresses.{wordCount}
 use Rattle.frame.specs.Writer.{leastRoom}
 use Rattle.reading.specs.Place.{Report, acceptedFrame}
 use Rattle.curves.specs.Area.{curveWords}
+use Rattle.watch.specs.Watched.{noneWatched}
 use Rattle.commands.specs.Lent.{lending}
 use Rattle.touch.specs.declared.Setup.{Setup}
 use Rattle.demands.specs.Calls.{Moment, Call, bytes, ask, begun}
@@ -25,7 +26,7 @@ storySetup = record { h1 = 0x5A; h2 = 0xA5; flags = 1; pages = 2; width = 800; h
 
 -- that panel, started with an empty table and lent what it must be
 abbrev pub new : Moment
-new = begun storySetup [] (lending (replicate wordCount 0) (replicate curveWords 0) (replicate leastRoom 0))
+new = begun storySetup [] (lending (replicate wordCount 0) (replicate curveWords 0) (replicate leastRoom 0) noneWatched)
 
 -- "two header bytes in the noise", "the length byte behind them": the head of a frame of 67 bytes, "a frame that never existed"
 abbrev pub noise : List ℕ
