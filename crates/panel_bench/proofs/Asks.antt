@@ -1,6 +1,6 @@
 -- Laws of asking for reports: what is lent wrong stays as it is; otherwise each report leaves fewer bytes, so asking more often changes nothing.
 use mathlib.Core.Path.{_≡_, refl, sym, ap, _∙_}
-use mathlib.Core.Bool.{Bool, true, false, cond, not}
+use mathlib.Core.Bool.{Bool, true, false, cond, not, _&&_}
 use mathlib.Core.List.{List, [], _∷_}
 use Prim.Native.Nat.{ℕ, zero, suc, _-_, _≤_, _<_}
 use native.Mathlib.Omega.{arith}
@@ -14,23 +14,34 @@ use Rattle.line.specs.declared.Asked.{Asked}
 use Rattle.line.specs.State.{rulesFor, readerOf}
 use Rattle.line.specs.Methods.{busy, asked}
 use Rattle.line.proofs.Carried.{waiting-is, ask-carried}
-use Rattle.commands.specs.Lent.{Lent}
+use Rattle.watch.specs.Watched.{watching, noneWatched}
+use Rattle.watch.specs.Judge.{wrongList}
+use Rattle.watch.proofs.Judged.{none-watched-good}
+use Rattle.commands.specs.Lent.{Lent, lending}
 use Rattle.panel.specs.declared.Panel.{Panel}
+use Rattle.panel.specs.declared.Handed.the-variants as handed
+use Rattle.panel.specs.declared.Reported.{Reported}
 use Rattle.panel.specs.Start.{started}
 use Rattle.panel.specs.Inputs.{fedByte}
-use Rattle.panel.specs.Reporting.{wellLent, handing, reporting}
+use Rattle.panel.specs.Reporting.{enough, enoughLent, wellLent, reports, handing, reporting}
 use Rattle.panel.specs.Sound.{lineOf}
 use Rattle.panel.proofs.Soundness.{report-sound}
-use Rattle.panel.proofs.Lengths.{reported-words-long, reported-area-long, reported-room-long}
+use Rattle.panel.proofs.Lengths.{reported-words-long, reported-area-long, reported-room-long, reported-list-judged}
 use Rattle.panel_bench.specs.Inner.{Ready}
 use Rattle.panel_bench.specs.Stream.{weightOf, Running, runs, askedFor, askedAll, streaming, benchSetup, sums, endOf, streamed}
 
 -- ---- What is lent wrong: nothing is handed over, and all stays
 
+-- a refusal, with 14 or with 16, adds nothing
+refused-weighs : (b : Bool) → weightOf (cond b handed.WrongList handed.NotLent) ≡ 0
+unfolding weightOf
+refused-weighs true = refl
+refused-weighs false = refl
+
 module _ (lent : Lent) (badly : wellLent lent ≡ false) where
   stuck-asked : (panel : Panel) → askedFor (runs panel lent 0) ≡ runs panel lent 0
-  unfolding askedFor reporting weightOf
-  stuck-asked panel = rw badly
+  unfolding askedFor reporting
+  stuck-asked panel = rw (badly, refused-weighs (enoughLent lent))
 
   stuck-all : (n : ℕ) (panel : Panel) → askedAll n (runs panel lent 0) ≡ runs panel lent 0
   unfolding askedAll
@@ -47,9 +58,28 @@ module _ (lent : Lent) (badly : wellLent lent ≡ false) where
   stuck-stream panel (b ∷ bytes) =
       ap (λ (now : Running). endOf (streaming now bytes)) (stuck-all longestFrame (fedByte panel b .panel)) ∙ stuck-stream (fedByte panel b .panel) bytes
 
-pub none-streamed : (bytes : List ℕ) (lent : Lent) (b : Bool) → b ≡ wellLent lent → not b ≡ true → sums 0 lent ≡ streamed bytes lent
+-- with no words watched only the lengths are judged
+pub no-list-judged : (words curves room : List ℕ) → wellLent (lending words curves room noneWatched) ≡ enough (length words) (length curves) (length room)
+no-list-judged words curves room = go (enough (length words) (length curves) (length room))
+  where
+    go : (b : Bool) → (b && not (wrongList noneWatched)) ≡ b
+    go true = rw none-watched-good
+    go false = refl
+
+pub none-streamed : (bytes words curves room : List ℕ) (b : Bool) → b ≡ enough (length words) (length curves) (length room) → not b ≡ true
+    → sums 0 (lending words curves room noneWatched) ≡ streamed bytes (lending words curves room noneWatched)
 unfolding streamed
-none-streamed bytes lent b is badly = sym (stuck-stream lent (sym is ∙ not-true b badly) (started benchSetup [] .panel) bytes)
+none-streamed bytes words curves room b is badly =
+    sym (stuck-stream (lending words curves room noneWatched) (no-list-judged words curves room ∙ sym is ∙ not-true b badly) (started benchSetup [] .panel) bytes)
+
+-- ---- A report is asked for with no words watched, and none are left
+
+module _ (panel : Panel) (words curves room words′ curves′ room′ : List ℕ) (r : Reported) where
+  pub none-left : (values : List ℕ) → length values ≡ 0
+      → reports r (lending words′ curves′ room′ (watching [] [] values)) ≡ reporting panel (lending words curves room noneWatched)
+      → reports r (lending words′ curves′ room′ noneWatched) ≡ reporting panel (lending words curves room noneWatched)
+  none-left [] none is = is
+  none-left (v ∷ values) none is = absurd (omega arith)
 
 -- ---- A report that waits is handed over, and leaves fewer bytes
 
@@ -68,7 +98,7 @@ unfolding askedFor
 asked-ready now ready =
     record {
       sound = report-sound (now .panel) (ready .sound) (now .lent);
-      lent = rw (reported-words-long (now .panel) (now .lent), reported-area-long (now .panel) (now .lent), reported-room-long (now .panel) (now .lent)) (ready .lent);
+      lent = rw (reported-words-long (now .panel) (now .lent), reported-area-long (now .panel) (now .lent), reported-room-long (now .panel) (now .lent), reported-list-judged (now .panel) (now .lent)) (ready .lent);
     }
 
 pub asked-fewer : (now : Running) → Ready now → busy (now .panel .reader) ≡ true → keptBy (askedFor now) < keptBy now

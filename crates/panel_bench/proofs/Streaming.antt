@@ -20,7 +20,8 @@ use Rattle.line.proofs.Carried.{waiting-is, reached-new}
 use Rattle.touch.specs.declared.Setup.{Setup}
 use Rattle.touch.specs.Table.{recordsFrom, firstOf}
 use Rattle.touch.specs.Judge.{judged}
-use Rattle.commands.specs.Lent.{Lent}
+use Rattle.watch.specs.Watched.{noneWatched}
+use Rattle.commands.specs.Lent.{Lent, lending}
 use Rattle.panel.specs.declared.Panel.{Panel}
 use Rattle.panel.specs.declared.FedBytes.{FedBytes}
 use Rattle.panel.specs.declared.Reported.{Reported}
@@ -28,12 +29,12 @@ use Rattle.panel.specs.declared.Start.{Start}
 use Rattle.panel.specs.declared.StartAnswer.the-variants.{Started}
 use Rattle.panel.specs.Start.{newPanel, started, startJudged}
 use Rattle.panel.specs.Inputs.{fedByte, fedBytes}
-use Rattle.panel.specs.Reporting.{wellLent, Reporting, reports, reporting}
+use Rattle.panel.specs.Reporting.{enough, Reporting, reports, reporting}
 use Rattle.panel.specs.Sound.{lineOf, Sound}
 use Rattle.panel.proofs.Soundness.{new-sound, bytes-sound}
 use Rattle.panel_bench.specs.Inner.{Ready, flow}
 use Rattle.panel_bench.specs.Stream.{wrapped, weightOf, Running, runs, askedFor, askedAll, streaming, benchSetup, Streamed, sums, endOf, streamed}
-use Rattle.panel_bench.proofs.Asks.{keptBy, kept-at-most, asked-ready, asked-fewer, none-asked, first-asked}
+use Rattle.panel_bench.proofs.Asks.{keptBy, kept-at-most, no-list-judged, asked-ready, asked-fewer, none-asked, first-asked}
 
 -- ---- Bytes
 
@@ -110,16 +111,20 @@ starts-quiet =
     ∙ waiting-is (lineOf benchSetup) fresh (reached-new (lineOf benchSetup))
     ∙ quiet-nil (rulesFor (lineOf benchSetup)) false
 
-module _ (input : List ℕ) (lent : Lent) (setup : Setup) (begun : Start) (is-setup : setup ≡ benchSetup) (is-begun : begun ≡ started setup (take (0 - 0) (drop 0 input))) where
+module _ (input words curves room : List ℕ) (setup : Setup) (begun : Start) (is-setup : setup ≡ benchSetup) (is-begun : begun ≡ started setup (take (0 - 0) (drop 0 input))) where
   panel-is : begun .panel ≡ started benchSetup [] .panel
   panel-is = ap (λ (s : Start). s .panel) is-begun ∙ ap (λ (s : Setup). started s [] .panel) is-setup
 
-  pub ready-new : (b : Bool) → b ≡ wellLent lent → not b ≡ false → Ready (runs (begun .panel) lent 0)
-  ready-new b is well = record { sound = subst Sound (sym panel-is) starts-sound; lent = sym is ∙ not-false b well }
+  pub ready-new : (b : Bool) → b ≡ enough (length words) (length curves) (length room) → not b ≡ false
+      → Ready (runs (begun .panel) (lending words curves room noneWatched) 0)
+  ready-new b is well =
+      record { sound = subst Sound (sym panel-is) starts-sound; lent = no-list-judged words curves room ∙ sym is ∙ not-false b well }
 
-  pub all-streamed : (r : ℕ) (left : Lent) → sums r left ≡ endOf (flow (runs (begun .panel) lent 0) input) → sums r left ≡ streamed input lent
+  pub all-streamed : (r : ℕ) (left : Lent) → sums r left ≡ endOf (flow (runs (begun .panel) (lending words curves room noneWatched) 0) input)
+      → sums r left ≡ streamed input (lending words curves room noneWatched)
   unfolding flow streamed
   all-streamed r left is =
+      let lent = lending words curves room noneWatched in
       is
       ∙ ap (λ (panel : Panel). endOf (flow (runs panel lent 0) input)) panel-is
       ∙ ap (λ (now : Running). endOf (streaming now input)) (none-asked longestFrame (runs (started benchSetup [] .panel) lent 0) starts-quiet)

@@ -4,12 +4,16 @@ use Prim.Native.Nat.{ℕ, _+_, _<_}
 use native.Mathlib.Omega.{arith}
 use Rattle.commands.specs.declared.Outcome.{Outcome}
 use Rattle.panel.specs.declared.Handed.{Handed}
-use Rattle.panel.specs.declared.Handed.the-variants.{NotLent, Nothing, BadCheck, Accepted}
+use Rattle.panel.specs.declared.Handed.the-variants.{NotLent, WrongList, Nothing, BadCheck, Accepted}
 use Rattle.panel_bench.specs.Stream.{wrapped, weightOf}
 
 pub not-lent-weighs : (handed : Handed) → handed ≡ NotLent → 0 ≡ wrapped (weightOf handed)
 unfolding weightOf
 not-lent-weighs handed is = rw is (omega arith)
+
+pub wrong-list-weighs : (handed : Handed) → handed ≡ WrongList → 0 ≡ wrapped (weightOf handed)
+unfolding weightOf
+wrong-list-weighs handed is = rw is (omega arith)
 
 pub nothing-weighs : (handed : Handed) → handed ≡ Nothing → 0 ≡ wrapped (weightOf handed)
 unfolding weightOf

@@ -20,6 +20,7 @@ wrapped n = n % 2 ^ 64
 -- what is handed over adds its command, and of an accepted frame how much data there is and how long a reply was written
 unfoldable pub weightOf : Handed → ℕ
 weightOf handed.NotLent = 0
+weightOf handed.WrongList = 0
 weightOf handed.Nothing = 0
 weightOf (handed.BadCheck command acknowledged) = command
 weightOf (handed.Accepted command count outcome acknowledged replied) = command + (count + replied)

@@ -3,8 +3,9 @@
 ghost use mathlib.Core.Path.{_≡_};
 ghost use Prim.Native.Nat.{min};
 ghost use lib.ListN.{getD};
+ghost use Rattle.watch.specs.Watched.{noneWatched};
 ghost use Rattle.commands.specs.Lent.{lending};
-ghost use Rattle.panel.specs.Reporting.{enough};
+ghost use Rattle.panel.specs.Reporting.{enough, reports, reporting};
 ghost use Rattle.wire.specs.Bytes.{Bytes};
 ghost use Rattle.panel_bench.specs.Stream.{wrapped, weightOf, runs, benchSetup, sums, endOf, streamed};
 ghost use Rattle.panel_bench.specs.Inner.{Ready, flow};
@@ -12,6 +13,7 @@ use curves::CURVE_WORDS;
 use frame::LEAST_ROOM;
 use panel::Handed;
 use panel::Panel;
+use panel::Reported;
 use touch::Setup;
 use wire::WORD_COUNT;
 
@@ -21,6 +23,7 @@ fn weight(handed: Handed) -> u64
 {
     match handed {
         Handed::NotLent => 0,
+        Handed::WrongList => 0,
         Handed::Nothing => 0,
         Handed::BadCheck(command, _) => command as u64,
         Handed::Accepted {
@@ -71,6 +74,16 @@ fn first_of(s: &[u8]) -> u8
     if 0 < s.len() { s[0] } else { 0 }
 }
 
+// Asks for a report. No words are watched.
+fn ask(panel: Panel, words: &mut [u16], curves: &mut [u16], room: &mut [u8]) -> Reported
+    ensures { λ r. ⌜ reports r (lending (now (words .exit)) (now (curves .exit)) (now (room .exit)) noneWatched) ≡ reporting panel (lending (now (words .entry)) (now (curves .entry)) (now (room .entry)) noneWatched) ⌝ }
+{
+    let addresses = [0u16; 0];
+    let uses = [0u8; 0];
+    let mut values = [0u16; 0];
+    panel.report(words, curves, room, &addresses, &uses, &mut values)
+}
+
 // Gives the bytes to the panel and asks for each report as soon as it waits.
 fn stream_on(
     input: &[u8],
@@ -79,15 +92,15 @@ fn stream_on(
     curves: &mut [u16],
     room: &mut [u8],
 ) -> u64
-    requires { ⌜ Ready (runs started (lending (now words) (now curves) (now room)) 0) × Bytes (now input) ⌝ }
-    ensures { λ r. ⌜ sums r (lending (now (words .exit)) (now (curves .exit)) (now (room .exit))) ≡ endOf (flow (runs started (lending (now (words .entry)) (now (curves .entry)) (now (room .entry))) 0) (now (input .entry))) ⌝ }
+    requires { ⌜ Ready (runs started (lending (now words) (now curves) (now room) noneWatched) 0) × Bytes (now input) ⌝ }
+    ensures { λ r. ⌜ sums r (lending (now (words .exit)) (now (curves .exit)) (now (room .exit)) noneWatched) ≡ endOf (flow (runs started (lending (now (words .entry)) (now (curves .entry)) (now (room .entry)) noneWatched) 0) (now (input .entry))) ⌝ }
 {
     let mut panel = started;
     let mut sum = 0u64;
     let mut i = 0usize;
     loop {
         if panel.is_waiting() {
-            let reported = panel.report(words, curves, room);
+            let reported = ask(panel, words, curves, room);
             let handed = reported.handed;
             sum = std::num::wrapping_add_u64(sum, weight(handed));
             let next = reported.panel;
@@ -113,7 +126,7 @@ pub extern "C" fn panel_bench_stream(
     curves: &mut [u16],
     room: &mut [u8],
 ) -> u64
-    ensures { λ r. ⌜ sums r (lending (now (words .exit)) (now (curves .exit)) (now (room .exit))) ≡ streamed (now (input .entry)) (lending (now (words .entry)) (now (curves .entry)) (now (room .entry))) ⌝ }
+    ensures { λ r. ⌜ sums r (lending (now (words .exit)) (now (curves .exit)) (now (room .exit)) noneWatched) ≡ streamed (now (input .entry)) (lending (now (words .entry)) (now (curves .entry)) (now (room .entry)) noneWatched) ⌝ }
 {
     if !is_lent(words.len(), curves.len(), room.len()) {
         return 0;

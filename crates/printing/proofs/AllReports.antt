@@ -18,6 +18,7 @@ use Rattle.line.specs.State.{rulesFor, readerOf}
 use Rattle.line.specs.Methods.{busy, asked}
 use Rattle.line.proofs.Carried.{waiting-is, ask-carried}
 use Rattle.wire.proofs.Truths.{and-right}
+use Rattle.watch.proofs.Judged.{none-watched-good}
 use Rattle.panel.specs.declared.Panel.{Panel}
 use Rattle.panel.specs.Reporting.{enough as lengths-lent, wellLent, handing, reporting}
 use Rattle.panel.specs.Sound.{lineOf, Sound}
@@ -33,10 +34,11 @@ use Rattle.printing.proofs.HeldSound.{waits-started, report-held-sound}
 
 -- ---- A report that waits is handed over, and leaves fewer bytes
 
--- with all of the memory lent, the reader is left as asking it leaves it
+-- with all of the memory and no watched words lent, the reader is left as asking it leaves it
 all-lent : (memory : Memory) → Whole memory → wellLent (lentFrom memory replyRoom) ≡ true
 unfolding lengths-lent replyRoom
-all-lent memory whole = rw (eq-eqb (length (memory .words)) wordCount (whole .words), eq-eqb (length (memory .curves)) curveWords (whole .curves))
+all-lent memory whole =
+    rw (eq-eqb (length (memory .words)) wordCount (whole .words), eq-eqb (length (memory .curves)) curveWords (whole .curves), none-watched-good)
 
 module _ (panel : Panel) (memory : Memory) (sound : Sound panel) (is-busy : busy (panel .reader) ≡ true) where
   abbrev line-is : Line

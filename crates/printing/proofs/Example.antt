@@ -19,6 +19,8 @@ use Rattle.touch.specs.Judge.{goodStep, goodRecord, wrong}
 use Rattle.touch.specs.Find.{found}
 use Rattle.registers.specs.Table.{startRows, withRows, startRegisters, registerAt, registerRun}
 use Rattle.registers.specs.Touched.{pageOf, isDown, withStatus, isTouchOff, withPlace}
+use Rattle.watch.specs.Judge.{someBelow, wrongLengths, wrongList}
+use Rattle.watch.specs.Sending.{sendingFrom, sending}
 use Rattle.commands.specs.Outcome as Outcome
 use Rattle.commands.specs.Outcome.{replyTooLong, readRegistersOutcome}
 use Rattle.commands.specs.Reply.{registersReply}
@@ -29,7 +31,8 @@ use Rattle.panel.specs.Numbers.{contactNumber, liftNumber}
 use Rattle.panel.specs.Start.{newPanel, noPanel, startJudged, started}
 use Rattle.panel.specs.Inputs.{fedByte}
 use Rattle.panel.specs.Reporting.{enough, acknowledged, accepting, handingOver, handing, reporting}
-use Rattle.panel.specs.Contacts.{contactOn, contactJudged, contacting, lifting}
+use Rattle.panel.specs.Watching.{unasked, telling}
+use Rattle.panel.specs.Contacts.{contactOn, contactJudged, told, touchNotLent, contacting, lifting}
 use Rattle.text.specs.Text.{hexDigit, hexByte, decimal, spaced, lined, lineText, writtenText}
 use Rattle.telling.specs.Memory.{newMemory}
 use Rattle.telling.specs.Lines.{framesText, reportText}
@@ -78,5 +81,5 @@ abbrev page-line : List ℕ
 page-line = 0x45 ∷ 0x20 ∷ 0x30 ∷ 0x30 ∷ 0x30 ∷ 0x30 ∷ 0x0A ∷ []
 
 pub printed-trace : traceOutput (setup ++ touchRecord ++ frame ++ touches) ≡ command-line ++ reply-line ++ touch-line ++ touch-line ++ page-line
-unfolding traceOutput inputText newHeld newMemory allReports endText endAt endStarted endAnswered askedOnce replyRoom tookByte grown itemDone eventDone eventAnswered startedBy event contactTold liftTold touchText reportText framesText bodyLength mayCome setupIn recordPut recordCounted noItem tableOf newTrace isStarted isOver lineText writtenText lined spaced hexByte hexDigit decimal started startJudged newPanel noPanel fedByte reporting handing accepting acknowledged enough handingOver contacting contactJudged contactOn lifting contactNumber liftNumber touched pressed acting showing catching lifted performance registersReplying replying registersReply readRegistersOutcome replyTooLong Outcome.numberOfOutcome startRows withRows startRegisters registerAt registerRun pageOf isDown withStatus isTouchOff withPlace found Judge.judged wrong goodRecord goodStep firstOf recordsFrom recordOf kindOf stepFields areaAt signed givenByte asked padded withByte settled stillClosed passes isPass look behind afterHeader Place.decidedByCheck cutShort frameLaid rightCheck contentOf mostData leastLength frameOf framed enclosed lengthByte checkBytes checkLength headerBytes checkValue checkFrom byteStep bitSteps bitStep polynomial laid laidAt over
+unfolding traceOutput inputText newHeld newMemory allReports endText endAt endStarted endAnswered askedOnce replyRoom tookByte grown itemDone eventDone eventAnswered startedBy event contactTold liftTold touchText reportText framesText bodyLength mayCome setupIn recordPut recordCounted noItem tableOf newTrace isStarted isOver lineText writtenText lined spaced hexByte hexDigit decimal started startJudged newPanel noPanel fedByte reporting handing accepting acknowledged enough handingOver contacting touchNotLent wrongList wrongLengths someBelow told telling unasked sending sendingFrom contactJudged contactOn lifting contactNumber liftNumber touched pressed acting showing catching lifted performance registersReplying replying registersReply readRegistersOutcome replyTooLong Outcome.numberOfOutcome startRows withRows startRegisters registerAt registerRun pageOf isDown withStatus isTouchOff withPlace found Judge.judged wrong goodRecord goodStep firstOf recordsFrom recordOf kindOf stepFields areaAt signed givenByte asked padded withByte settled stillClosed passes isPass look behind afterHeader Place.decidedByCheck cutShort frameLaid rightCheck contentOf mostData leastLength frameOf framed enclosed lengthByte checkBytes checkLength headerBytes checkValue checkFrom byteStep bitSteps bitStep polynomial laid laidAt over
 printed-trace = refl

@@ -86,10 +86,10 @@ contact-told-sound : (panel : Panel) (c : Contact) (memory : Memory) → Sound p
 unfolding contactTold
 contact-told-sound panel c memory sound whole =
     record {
-      panel = contact-sound panel sound c (lentFrom memory []);
+      panel = contact-sound panel sound c (lentFrom memory replyRoom);
       memory = record {
-        words = contacted-words-long panel c (lentFrom memory []) ∙ whole .words;
-        curves = ap length (contacted-area-stands panel c (lentFrom memory [])) ∙ whole .curves;
+        words = contacted-words-long panel c (lentFrom memory replyRoom) ∙ whole .words;
+        curves = ap length (contacted-area-stands panel c (lentFrom memory replyRoom)) ∙ whole .curves;
       };
     }
 

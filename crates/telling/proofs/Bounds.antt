@@ -27,9 +27,10 @@ use Rattle.commands.specs.Outcome.{isDone}
 use Rattle.commands.specs.Effect.{replying, registersWriting, registersReplying, wordsWriting, wordsReplying, curvesAdding}
 use Rattle.commands.specs.Perform.{Performance, performance}
 use Rattle.panel.specs.declared.Panel.{Panel}
+use Rattle.panel.specs.declared.Handed.the-variants as handed
 use Rattle.panel.specs.declared.Reported.{Reported}
 use Rattle.panel.specs.State.{headerFor, headerOf, fixedFor, answering}
-use Rattle.panel.specs.Reporting.{wellLent, acknowledged, accepting, reports, Reporting, handingOver, handing, reporting}
+use Rattle.panel.specs.Reporting.{enoughLent, wellLent, acknowledged, accepting, reports, Reporting, handingOver, handing, reporting}
 use Rattle.telling.specs.Inner.{acknowledgementBytes, repliedBy, acknowledgedBy}
 
 laid-at-most : (may : Bool) (bytes room : List ℕ) (n : ℕ) → length bytes ≤ n → laid may bytes room .count ≤ n
@@ -84,6 +85,17 @@ performance-at-most fixed registers command content lent =
     chosen true p q hp hq = hp
     chosen false p q hp hq = hq
 
+-- an ask that is refused, with 14 or with 16, writes nothing
+refused-acknowledgement : (enough : Bool) → acknowledgedBy (cond enough handed.WrongList handed.NotLent) ≤ acknowledgementBytes
+unfolding acknowledgedBy
+refused-acknowledgement true = omega arith
+refused-acknowledgement false = omega arith
+
+refused-reply : (enough : Bool) → repliedBy (cond enough handed.WrongList handed.NotLent) ≤ longestFrame
+unfolding repliedBy
+refused-reply true = omega arith
+refused-reply false = omega arith
+
 module _ (panel : Panel) (lent : Lent) where
   handed-acknowledgement : (a : Asked) (report : Report) → acknowledgedBy (handing a report panel lent .reported .handed) ≤ acknowledgementBytes
   unfolding handing handingOver accepting acknowledgedBy
@@ -99,7 +111,8 @@ module _ (panel : Panel) (lent : Lent) where
 
   reported-acknowledgement : acknowledgedBy (reporting panel lent .reported .handed) ≤ acknowledgementBytes
   unfolding reporting acknowledgedBy
-  reported-acknowledgement = chosen (wellLent lent) _ _ (handed-acknowledgement (asked (panel .reader)) (asked (panel .reader) .report)) (omega arith)
+  reported-acknowledgement = chosen (wellLent lent) _ _ (handed-acknowledgement (asked (panel .reader)) (asked (panel .reader) .report))
+      (refused-acknowledgement (enoughLent lent))
     where
       chosen : (b : Bool) (p q : Reporting) → acknowledgedBy (p .reported .handed) ≤ acknowledgementBytes → acknowledgedBy (q .reported .handed) ≤ acknowledgementBytes
           → acknowledgedBy (cond b p q .reported .handed) ≤ acknowledgementBytes
@@ -108,7 +121,8 @@ module _ (panel : Panel) (lent : Lent) where
 
   reported-reply : repliedBy (reporting panel lent .reported .handed) ≤ longestFrame
   unfolding reporting repliedBy
-  reported-reply = chosen (wellLent lent) _ _ (handed-reply (asked (panel .reader)) (asked (panel .reader) .report)) (omega arith)
+  reported-reply = chosen (wellLent lent) _ _ (handed-reply (asked (panel .reader)) (asked (panel .reader) .report))
+      (refused-reply (enoughLent lent))
     where
       chosen : (b : Bool) (p q : Reporting) → repliedBy (p .reported .handed) ≤ longestFrame → repliedBy (q .reported .handed) ≤ longestFrame
           → repliedBy (cond b p q .reported .handed) ≤ longestFrame

@@ -2,3 +2,4 @@ pub mod Printing
 pub mod Bounds
 pub mod Telling
 pub mod Determined
+pub mod Unasked

@@ -119,6 +119,10 @@ module _ (h : Handed) (reply room : List ℕ) where
   unfolding reportText
   not-lent-printed is = empty-printed room ∙ ap (λ (x : Handed). prints (reportText x reply) room) (sym is)
 
+  pub wrong-list-printed : h ≡ handed.WrongList → lays 0 room ≡ prints (reportText h reply) room
+  unfolding reportText
+  wrong-list-printed is = empty-printed room ∙ ap (λ (x : Handed). prints (reportText x reply) room) (sym is)
+
   pub nothing-printed : h ≡ handed.Nothing → lays 0 room ≡ prints (reportText h reply) room
   unfolding reportText
   nothing-printed is = empty-printed room ∙ ap (λ (x : Handed). prints (reportText x reply) room) (sym is)

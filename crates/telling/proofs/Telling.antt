@@ -23,7 +23,8 @@ use Rattle.telling.specs.Inner.{prints}
 use Rattle.telling.specs.Told.{Told, tells, leavesPanel, panelPrinting, leastText, printedIn}
 use Rattle.telling.specs.Lines.{reportText}
 use Rattle.telling.specs.Events.{touchText, contactTold, liftTold, event, replyRoom, askedOnce}
-use Rattle.commands.specs.Lent.{Lent, lending, withWords}
+use Rattle.watch.specs.Watched.{Watched, noneWatched}
+use Rattle.commands.specs.Lent.{lending}
 use Rattle.telling.specs.Memory.{Memory, remembering, memoryOf}
 
 pub byte-fed : (panel : Panel) (b : ℕ) (fed : Fed) → fed ≡ fedByte panel b → fed .panel ≡ fedByte panel b .panel
@@ -45,25 +46,25 @@ module _ (panel : Panel) (room left : List ℕ) (n k : ℕ) (is-text : lays k le
         is-text ∙ ap (λ (i : ℕ). prints (lineText (line.Touch i)) room) is-n
         ∙ ap (λ (d : Lifted). prints (lineText (line.Touch (liftNumber (d .answer)))) room) is-done
 
-  module _ (table words words′ : List ℕ) (x y : ℕ) (done : Contacted)
-      (is-done : (rest : Lent) → contacts (done .answer) (done .panel) (withWords rest words′) ≡ contacting panel (contactAt table x y) (withWords rest words))
+  module _ (table words words′ curves reply reply′ : List ℕ) (watched : Watched) (x y : ℕ) (done : Contacted) (is-reply : reply ≡ replyRoom)
+      (is-done : contacts done (lending words′ curves reply′ watched) ≡ contacting panel (contactAt table x y) (lending words curves reply noneWatched))
       (is-n : n ≡ contactNumber (done .answer)) where
-    pub contact-printed : (curves : List ℕ) → leavesPanel (record { panel = done .panel; count = k }) (remembering words′ curves) left
+    pub contact-printed : leavesPanel (record { panel = done .panel; count = k }) (remembering words′ curves) left
         ≡ panelPrinting (contactTold panel (contactAt table x y) (remembering words curves)) room
     unfolding contactTold touchText
-    contact-printed curves =
+    contact-printed =
         told-left (done .panel) (remembering words′ curves) (lineText (line.Touch n)) room left k is-text
         ∙ ap (λ (i : ℕ). panelPrinting (tells (done .panel) (remembering words′ curves) (lineText (line.Touch i))) room) is-n
-        ∙ ap (λ (d : Contacting). panelPrinting (tells (d .contacted .panel) (memoryOf (d .lent)) (lineText (line.Touch (contactNumber (d .contacted .answer))))) room) (is-done (lending [] curves []))
+        ∙ ap (λ (d : Contacting). panelPrinting (tells (d .contacted .panel) (memoryOf (d .lent)) (lineText (line.Touch (contactNumber (d .contacted .answer))))) room) (rw is-reply at is-done)
 
 pub lift-left : (panel : Panel) (done : Lifted) → done ≡ lifting panel → done .panel ≡ lifting panel .panel
 lift-left panel done is = ap (λ (d : Lifted). d .panel) is
 
-pub report-printed : (panel : Panel) (words words′ curves curves′ reply reply′ room left : List ℕ) (k : ℕ) (done : Reported) → reply ≡ replyRoom
-    → reports done (lending words′ curves′ reply′) ≡ reporting panel (lending words curves reply) → lays k left ≡ prints (reportText (done .handed) reply′) room
+pub report-printed : (panel : Panel) (words words′ curves curves′ reply reply′ room left : List ℕ) (watched : Watched) (k : ℕ) (done : Reported) → reply ≡ replyRoom
+    → reports done (lending words′ curves′ reply′ watched) ≡ reporting panel (lending words curves reply noneWatched) → lays k left ≡ prints (reportText (done .handed) reply′) room
     → leavesPanel (record { panel = done .panel; count = k }) (remembering words′ curves′) left ≡ panelPrinting (askedOnce panel (remembering words curves)) room
 unfolding askedOnce
-report-printed panel words words′ curves curves′ reply reply′ room left k done is-reply is-done is-text =
+report-printed panel words words′ curves curves′ reply reply′ room left watched k done is-reply is-done is-text =
     told-left (done .panel) (remembering words′ curves′) (reportText (done .handed) reply′) room left k is-text
     ∙ ap (λ (r : Reporting). panelPrinting (tells (r .reported .panel) (memoryOf (r .lent)) (reportText (r .reported .handed) (r .lent .room))) room) (rw is-reply at is-done)
 

@@ -21,10 +21,15 @@ use Rattle.telling.specs.Memory.{Memory, lentFrom, memoryOf}
 unfoldable pub touchText : ℕ → List ℕ
 touchText number = lineText (line.Touch number)
 
--- "`T r` contact or lift": a contact and its line; it is lent no room
+-- "Reply room is at least 265 bytes": the room that the program lends for a report; for a contact 02, §4: "Contacts now lend reply room too"
+unfoldable pub replyRoom : List ℕ
+replyRoom = replicate leastRoom 0
+
+-- "`T r` contact or lift": a contact and its line, and no further one. 02, §4: "Contacts now lend reply room too; the trace lends no entries", so that nothing
+-- is written into the room
 unfoldable pub contactTold : Panel → Contact → Memory → Told
 contactTold panel c memory =
-    let done = contacting panel c (lentFrom memory []) in
+    let done = contacting panel c (lentFrom memory replyRoom) in
     tells (done .contacted .panel) (memoryOf (done .lent)) (touchText (contactNumber (done .contacted .answer)))
 
 -- "`T r` contact or lift": a lift and its line
@@ -39,10 +44,6 @@ event panel table memory item =
     (cond (eqb kind 2) (tells (fedMark panel .panel) memory [])
     (cond (eqb kind 3) (contactTold panel (contactAt table (wordAt item 1) (wordAt item 3)) memory)
     (liftTold panel memory)))
-
--- "Reply room is at least 265 bytes": the room that the program lends for a report
-unfoldable pub replyRoom : List ℕ
-replyRoom = replicate leastRoom 0
 
 -- "Reports are asked for ..": one of them, and its lines
 unfoldable pub askedOnce : Panel → Memory → Told

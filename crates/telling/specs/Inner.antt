@@ -32,12 +32,14 @@ framesBytes = writtenBytes acknowledgementBytes + writtenBytes longestFrame
 -- how long an acknowledgement and a reply were written
 unfoldable pub acknowledgedBy : Handed → ℕ
 acknowledgedBy handed.NotLent = 0
+acknowledgedBy handed.WrongList = 0
 acknowledgedBy handed.Nothing = 0
 acknowledgedBy (handed.BadCheck command acknowledged) = acknowledged
 acknowledgedBy (handed.Accepted command count outcome acknowledged replied) = acknowledged
 
 unfoldable pub repliedBy : Handed → ℕ
 repliedBy handed.NotLent = 0
+repliedBy handed.WrongList = 0
 repliedBy handed.Nothing = 0
 repliedBy (handed.BadCheck command acknowledged) = 0
 repliedBy (handed.Accepted command count outcome acknowledged replied) = replied

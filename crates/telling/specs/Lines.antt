@@ -12,9 +12,10 @@ use Rattle.text.specs.Text.{lineText, writtenText}
 unfoldable pub framesText : (acknowledged replied : ℕ) → List ℕ → List ℕ
 framesText acknowledged replied room = writtenText (take acknowledged room) ++ writtenText (take replied (drop acknowledged room))
 
--- "`F cc r` accepted command and number; `B cc` bad check"; "F or B precedes O". "Nothing" has no line.
+-- "`F cc r` accepted command and number; `B cc` bad check"; "F or B precedes O". "Nothing" has no line, nor has an ask that is refused.
 unfoldable pub reportText : Handed → List ℕ → List ℕ
 reportText handed.NotLent room = []
+reportText handed.WrongList room = []
 reportText handed.Nothing room = []
 reportText (handed.BadCheck command acknowledged) room = lineText (line.BadCheck command) ++ framesText acknowledged 0 room
 reportText (handed.Accepted command count outcome acknowledged replied) room =

@@ -5,6 +5,7 @@ use mathlib.Core.List.{List}
 use lib.ListN.{length, replicate}
 use Rattle.wire.specs.Addresses.{wordCount}
 use Rattle.curves.specs.Area.{curveWords}
+use Rattle.watch.specs.Watched.{noneWatched}
 use Rattle.commands.specs.Lent.{Lent, lending}
 
 -- what is kept for the panel
@@ -18,9 +19,9 @@ pub record Memory : Type 0 where
 abbrev pub remembering : (words curves : List ℕ) → Memory
 remembering words curves = record { words = words; curves = curves }
 
--- what a call of the panel is lent out of it, with a room for its reply
+-- what a call of the panel is lent out of it, with a room for its reply; 02, §4: "the trace lends no entries"
 abbrev pub lentFrom : Memory → (room : List ℕ) → Lent
-lentFrom memory room = lending (memory .words) (memory .curves) room
+lentFrom memory room = lending (memory .words) (memory .curves) room noneWatched
 
 -- the memory as that call leaves it
 abbrev pub memoryOf : Lent → Memory

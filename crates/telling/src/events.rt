@@ -15,6 +15,7 @@ ghost use Rattle.telling.specs.Memory.{remembering};
 use crate::PanelPrinted;
 use crate::lines;
 use crate::numbers;
+use crate::reports;
 use items::ITEM_BYTES;
 use panel::Panel;
 use text::Line;
@@ -33,6 +34,7 @@ fn do_mark(panel: Panel) -> Panel
     fed.panel
 }
 
+// A contact is lent a reply room and no watched words, so that nothing is written there.
 fn do_contact(
     panel: Panel,
     table: &[u8],
@@ -44,7 +46,20 @@ fn do_contact(
     requires { ⌜ leastText ≤ length (now room) ⌝ }
     ensures { λ r. ⌜ ((curves : List ℕ) → leavesPanel r (remembering (now (words .exit)) curves) (now (room .exit)) ≡ panelPrinting (contactTold panel (contactAt (now (table .entry)) x y) (remembering (now (words .entry)) curves)) (now (room .entry))) ⌝ }
 {
-    let done = panel.contact(table, words, x, y);
+    let mut reply = reports::no_reply();
+    let addresses = [0u16; 0];
+    let uses = [0u8; 0];
+    let mut values = [0u16; 0];
+    let done = panel.contact(
+        table,
+        words,
+        &mut reply,
+        &addresses,
+        &uses,
+        &mut values,
+        x,
+        y,
+    );
     let answer = done.answer;
     let next = done.panel;
     let count = lines::print_line(Line::Touch(numbers::contact_number(answer)), room);

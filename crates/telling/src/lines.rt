@@ -71,6 +71,7 @@ pub(crate) fn print_report(handed: Handed, reply: &[u8], room: &mut [u8]) -> usi
 {
     match handed {
         Handed::NotLent => 0,
+        Handed::WrongList => 0,
         Handed::Nothing => 0,
         Handed::BadCheck(command, acknowledged) => print_both(
             Line::BadCheck(command),

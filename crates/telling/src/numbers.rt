@@ -26,6 +26,7 @@ pub fn contact_number(answer: ContactAnswer) -> u8
     match answer {
         ContactAnswer::Done => 0,
         ContactAnswer::NotLent => 14,
+        ContactAnswer::WrongList => 16,
         ContactAnswer::Waits => 1,
         ContactAnswer::NotRecords => 12,
         ContactAnswer::WrongRecord(_) => 13,

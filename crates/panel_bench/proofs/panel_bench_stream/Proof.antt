@@ -15,7 +15,7 @@ stream-on-requires c κs =
     let lent = c .before .before .before .before .before .before .before .before .before .is-lent in
     let setup = c .before .before .before .before .before .before .bench-setup in
     let begun = c .before .before .before .before .start in (
-      ready-new (entry .input .now) _ (setup .result) (begun .result) (setup .ensures) (begun .ensures .0) (lent .result) (lent .ensures) (c .before .before .before .before .before .before .before .before .if1 .left),
+      ready-new (entry .input .now) _ _ _ (setup .result) (begun .result) (setup .ensures) (begun .ensures .0) (lent .result) (lent .ensures) (c .before .before .before .before .before .before .before .before .if1 .left),
       c .before .before .before .before .before .before .before .first-of .ensures .1,
     )
 
@@ -25,7 +25,7 @@ returns-2 c =
     let setup = c .before .before .before .before .before .before .before .before .before .before .before .before .before .bench-setup in
     let begun = c .before .before .before .before .before .before .before .before .before .before .before .start in
     let done = c .before .before .before .before .before .before .stream-on in
-    all-streamed (entry .input .now) _ (setup .result) (begun .result) (setup .ensures) (begun .ensures .0) (done .result) _ (done .ensures)
+    all-streamed (entry .input .now) _ _ _ (setup .result) (begun .result) (setup .ensures) (begun .ensures .0) (done .result) _ (done .ensures)
 
 pub panel-bench-stream-spec : {M : Type 1} → statement M
 panel-bench-stream-spec =

@@ -4,6 +4,7 @@ use native.Mathlib.Omega.{arith}
 use mathlib.Core.Path.{_≡_}
 use borrow.Author.Needs.{needs}
 use lib.ListN.{length}
+use Rattle.watch.specs.Watched.{noneWatched}
 use Rattle.commands.specs.Lent.{lending}
 use Rattle.panel_bench.specs.Stream.{runs, endOf}
 use Rattle.panel_bench.specs.Inner.{flow}
@@ -13,7 +14,7 @@ use Rattle.panel_bench.proofs.stream_on.Tie as tie
 
 abbrev Inv-loop : tie.InvT-loop
 Inv-loop input words₀ curves₀ room₀ panel₀ sum₀ i₀ words curves room panel sum i =
-    Flowing input (endOf (flow (runs panel₀ (lending words₀ curves₀ room₀) 0) input)) panel (lending words curves room) sum i
+    Flowing input (endOf (flow (runs panel₀ (lending words₀ curves₀ room₀ noneWatched) 0) input)) panel (lending words curves room noneWatched) sum i
     × (length words ≡ length words₀) × (length curves ≡ length curves₀) × (length room ≡ length room₀)
 
 abbrev μ-loop : tie.MeasureT-loop
@@ -25,8 +26,8 @@ loop-holds c = (search flowing-new, search needs, search needs, search needs)
 is-waiting-requires : tie.Need-is-waiting-requires Inv-loop μ-loop
 is-waiting-requires c κs = search needs
 
-report-requires : tie.Need-report-requires Inv-loop μ-loop
-report-requires c κs = search needs
+ask-requires : tie.Need-ask-requires Inv-loop μ-loop
+ask-requires c κs = search needs
 
 weight-requires : tie.Need-weight-requires Inv-loop μ-loop
 weight-requires c κs = search needs
@@ -96,7 +97,7 @@ stream-on-spec =
     μ-loop
     loop-holds
     is-waiting-requires
-    report-requires
+    ask-requires
     weight-requires
     wrapping-add-u64-requires
     loop-less
