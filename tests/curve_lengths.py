@@ -8,7 +8,7 @@ What must be printed is worked out here from 02, §2, for each frame by itself: 
 import sys
 
 import model
-import panel_model
+import panel_script
 import program
 from trace_text import SETUP_KIND, on_line, setup_bytes
 
@@ -60,9 +60,9 @@ def every_frame(flags):
 
 def every_area(waits):
     """A script of asks with areas of every length, and the lines that must be written; where an 84 waits, it waits until the area fits."""
-    script = panel_model.Script()
+    script = panel_script.Script()
     script.start(SETUP, b"")
-    for length in range(panel_model.ALL_CURVES + 1):
+    for length in range(panel_script.ALL_CURVES + 1):
         if waits and length == 0:
             script.send(0x84, b"\x01\x12\x34", ask=False)
         script.lend(curves=length)

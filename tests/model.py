@@ -1,10 +1,10 @@
 #!/usr/bin/env python3
-"""A model of document 01, "The build and its rules", written from the document and the requests of 02 that it was changed by (§1, §2); to be read beside
+"""A model of document 01, "The build and its rules", written from the document and the requests of 02 that it was changed by (§1, §2, §4); to be read beside
 them, section by section.
 
     model.py < TRACE       prints what the panel program must print for a trace
-    model.py --examples    runs 01's printed trace, its examples a to j and the reads and writes it wants run, and what 02 and the manuals say of curves;
-                           exit status 0 if all are right
+    model.py --examples    runs 01's printed trace, its examples a to j and the reads and writes it wants run, what 02 and the manuals say of curves, and
+                           what 02 says of watched words; exit status 0 if all are right
 
 Each part below bears the name of the section of 01 that it states, and a rule of 02 says so. Numbers are those of 01's table "Numbers given back".
 """
@@ -183,6 +183,43 @@ class Channels:
                 self.counts[n] = 0
 
 
+# ---- Watched words (02, §4)
+
+MOST_WATCHED = 16
+
+
+class WatchList:
+    """The list that a caller lends: of each entry a word address, whether it is in use (00 is not) and the value last sent, as three lists."""
+
+    def __init__(self, addresses=(), uses=(), values=()):
+        self.addresses, self.uses, self.values = list(addresses), list(uses), list(values)
+
+    def in_use(self):
+        """The places of the entries in use, and the word that each watches."""
+        return [(place, self.addresses[place]) for place, use in enumerate(self.uses) if use != 0x00]
+
+    def is_wrong(self):
+        """16. Three lists that are not of one length are no list of entries."""
+        if not len(self.addresses) == len(self.uses) == len(self.values):
+            return True
+        watched = [address for _, address in self.in_use()]
+        return len(self.addresses) > MOST_WATCHED or len(watched) > len(set(watched)) or any(address >= 0x7000 for address in watched)
+
+    def note(self, words, run):
+        """The line has written the words of a run: each that is watched counts as sent, changed or not."""
+        for place, address in self.in_use():
+            if address in run:
+                self.values[place] = words[address]
+
+    def send(self, words):
+        """The address of the first word that differs from its value last sent, which is noted; None where there is none."""
+        for place, address in self.in_use():
+            if self.values[place] != words[address]:
+                self.values[place] = words[address]
+                return address
+        return None
+
+
 # ---- Setup and touch table
 
 class Setup(NamedTuple):
@@ -325,12 +362,19 @@ def judge_table(setup, table):
 # ---- The panel
 
 class Handed(NamedTuple):
-    """What asking for a report hands over: `14`, `nothing`, `B` or `F`, and how much acknowledgement and reply were written."""
+    """What asking for a report hands over: `14`, `16`, `nothing`, `B` or `F`, and how much acknowledgement and reply were written."""
     what: str
     report: Report = None
     number: int = 0
     acknowledged: int = 0
     replied: int = 0
+
+
+class Contacted(NamedTuple):
+    """What comes of a contact: the number, the record that 13 names, and how much unasked reply was written."""
+    number: int
+    record: int = None
+    written: int = 0
 
 
 def start(setup, table):
@@ -357,9 +401,11 @@ class Panel:
 
     # ---- Commands
 
-    def report(self, words, curves, room):
+    def report(self, words, curves, room, watch):
         if len(words) != WORDS or len(curves) != CURVE_WORDS or len(room) < LEAST_ROOM:
             return Handed("14")
+        if watch.is_wrong():
+            return Handed("16")
         if not self.line.waiting:
             return Handed("nothing")
         report = self.line.hand_over()
@@ -370,7 +416,7 @@ class Panel:
         if report.accepted:
             number = self.judge(report.command, report.data)
             if number == 0:
-                reply = self.perform(report.command, report.data, words, curves)
+                reply = self.perform(report.command, report.data, words, curves, watch)
         written = acknowledged + reply
         room[:len(written)] = written
         return Handed("F" if report.accepted else "B", report, number, len(acknowledged), len(reply))
@@ -403,7 +449,7 @@ class Panel:
                 return 7
         return 0
 
-    def perform(self, command, data, words, curves):
+    def perform(self, command, data, words, curves, watch):
         """A command that is not refused takes effect; its reply, if it has one."""
         if command == 0x80:
             run = dict(enumerate(data[1:], data[0]))
@@ -422,6 +468,7 @@ class Panel:
         if command == 0x82:
             for i in range(2, len(data), 2):
                 words[address + i // 2 - 1] = word(data, i)
+            watch.note(words, range(address, address + len(data) // 2 - 1))
             return b""
         return frame(self.setup, 0x83, data + b"".join(two(w) for w in words[address:address + data[2]]))
 
@@ -431,19 +478,21 @@ class Panel:
     def is_down(self):
         return self.registers.status in (0x01, 0x03)
 
-    def contact(self, table, words, x, y):
-        """The number, and the record that 13 names. Order: 14, 1, 12, 13, 9, 8."""
-        if len(words) != WORDS:
-            return 14, None
+    def contact(self, table, words, room, watch, x, y):
+        """Order: 14, 16, 1, 12, 13, 9, 8."""
+        if len(words) != WORDS or len(room) < LEAST_ROOM:
+            return Contacted(14)
+        if watch.is_wrong():
+            return Contacted(16)
         if self.line.waiting:
-            return 1, None
+            return Contacted(1)
         number, wrong = judge_table(self.setup, table)
         if number:
-            return number, wrong
+            return Contacted(number, wrong)
         if self.registers.enable == 0x00:
-            return 9, None
+            return Contacted(9)
         if x >= self.setup.width or y >= self.setup.height:
-            return 8, None
+            return Contacted(8)
         if self.is_down:
             self.touched(0x03, x, y)
             if self.caught:
@@ -451,7 +500,14 @@ class Panel:
         else:
             self.touched(0x01, x, y)
             self.press(table, words, x, y)
-        return 0, None
+        return Contacted(0, written=self.tell(words, room, watch))
+
+    def tell(self, words, room, watch):
+        """02, §4: one unasked reply at most, which is no answer to a frame and has no acknowledgement before it."""
+        address = watch.send(words)
+        unasked = b"" if address is None else frame(self.setup, 0x83, two(address) + b"\x01" + two(words[address]))
+        room[:len(unasked)] = unasked
+        return len(unasked)
 
     def touched(self, status, x, y):
         r = self.registers
@@ -491,6 +547,8 @@ class TraceEnds(Exception):
 
 
 class Trace:
+    """02, §4: "the trace lends no entries"."""
+
     def __init__(self):
         self.lines, self.setup, self.table, self.panel = [], None, b"", None
         self.words, self.curves, self.room = [0] * WORDS, [0] * CURVE_WORDS, bytearray(LEAST_ROOM)
@@ -536,10 +594,10 @@ class Trace:
         elif kind == 0x02:
             self.panel.give_mark()
         elif kind == 0x03:
-            self.lines.append(f"T {self.panel.contact(self.table, self.words, word(body, 0), word(body, 2))[0]}")
+            self.lines.append(f"T {self.panel.contact(self.table, self.words, self.room, WatchList(), word(body, 0), word(body, 2)).number}")
         else:
             self.lines.append(f"T {self.panel.lift()}")
-        while (handed := self.panel.report(self.words, self.curves, self.room)).what != "nothing":
+        while (handed := self.panel.report(self.words, self.curves, self.room, WatchList())).what != "nothing":
             self.handed(handed)
 
     def handed(self, handed):
@@ -577,7 +635,7 @@ def given(setup, line):
     panel, words, curves, room, handed = Panel(setup), [0] * WORDS, [0] * CURVE_WORDS, bytearray(LEAST_ROOM), []
     for b in line:
         panel.line.give(b)
-        while (h := panel.report(words, curves, room)).what != "nothing":
+        while (h := panel.report(words, curves, room, WatchList())).what != "nothing":
             handed.append((h.what, h.report.command, h.number))
     return handed, words, [panel.channels.numbers(n, curves) for n in range(CHANNELS)]
 
@@ -627,6 +685,53 @@ def curve_examples(setup):
     yield "EB reads 00", "F 80 0\nF 81 0\nO 5A A5 04 81 EB 01 00\nE 0000\n", trace_output(trace)
 
 
+def watched(setup, entries, *steps):
+    """A panel with a key that stores 1234 in word 0010 at the point 0 0, and no other record. A step is a contact's point, bytes of the line, or None, a
+    lift. What each contact gave, and the values last sent."""
+    table = bytes(10) + two(0xFF00) + two(0xFF00) + two(0xFE05) + b"\xFE" + two(0x0010) + b"\0" + two(0x1234) + bytes(10)
+    panel, words, room, watch = Panel(setup), [0] * WORDS, bytearray(b"\xEE" * LEAST_ROOM), WatchList(*zip(*entries))
+    told = []
+    for step in steps:
+        if step is None:
+            panel.lift()
+        elif isinstance(step, tuple):
+            given = panel.contact(table, words, room, watch, *step)
+            told.append((given.number, room[:given.written].hex().upper()))
+        else:
+            for b in step:
+                panel.give_byte(b)
+            while panel.report(words, [0] * CURVE_WORDS, room, watch).what in ("F", "B"):
+                pass
+    return told, watch.values
+
+
+def watch_examples(on, off):
+    """What 02, §4, says, worked out by hand."""
+    acting, beside = (0, 0), (5, 5)
+    first, second = "5AA506830010011234", "5AA506830020010000"
+    yield "watched: the key's word is sent and noted", ([(0, first)], [0x1234]), watched(off, [(0x10, 1, 0)], acting)
+    yield "watched: with checking", ([(0, "5AA508830010011234479F")], [0x1234]), watched(on, [(0x10, 1, 0)], acting)
+    yield "watched: sent before already", ([(0, "")], [0x1234]), watched(off, [(0x10, 1, 0x1234)], acting)
+    yield "watched: not in use", ([(0, "")], [7]), watched(off, [(0x10, 0, 7)], acting)
+    yield "watched: one a contact, in order, down and where nothing acts", ([(0, second), (0, first), (0, "")], [0, 0x1234]), \
+        watched(off, [(0x20, 0xFF, 9), (0x10, 1, 0)], acting, beside, beside)
+    yield "watched: a contact on no record", ([(0, second)], [0]), watched(off, [(0x20, 1, 9)], beside)
+    yield "watched: 9 and 8", ([(8, ""), (9, "")], [9]), \
+        watched(off, [(0x20, 1, 9)], (800, 0), bytes.fromhex("5AA503800B00"), beside)
+    yield "watched: a write notes, changed or not", ([(0, "")], [0x0102, 0x0304, 0]), \
+        watched(off, [(0x20, 1, 9), (0x21, 1, 0x0304), (0x22, 1, 7)], bytes.fromhex("5AA5098200200102 0304 0000"), beside)
+    yield "watched: a refused write notes nothing", ([(0, "5AA506836FFF010000")], [0]), \
+        watched(off, [(0x6FFF, 1, 9)], bytes.fromhex("5AA507826FFF00090009"), beside)
+    yield "watched: a read notes nothing", ([(0, second)], [0]), watched(off, [(0x20, 1, 9)], bytes.fromhex("5AA50483002001"), beside)
+    entries = [(address, 1, 0) for address in range(0x30, 0x41)]
+    for number, what, those in (
+            (0, "no entries", []), (0, "16 entries", entries[:16]), (16, "17 entries", entries), (16, "17 entries, one in use", [(0, 0, 0)] * 16 + entries[:1]),
+            (16, "a word twice", entries[:2] + entries[:1]), (0, "a word twice, once in use", [(0x30, 0, 0)] + entries[:1]),
+            (0, "6FFF", [(0x6FFF, 1, 0)]), (16, "7000", [(0x7000, 1, 0)]), (16, "FFFF", [(0xFFFF, 1, 0)]), (0, "7000 not in use", [(0x7000, 0, 0)] * 2)):
+        yield f"watched: {what}", [(number, "")], watched(off, those, beside)[0]
+    yield "watched: 16 before 1", [(16, ""), (16, "")], watched(off, [(0x7000, 1, 0)], beside, bytes.fromhex("5AA503800205"), beside)[0]
+
+
 def examples():
     """Each: what, what 01 says (c and d as 02, §1, changes them) or 02, what the model says."""
     on, off, acking = (Setup(0x5A, 0xA5, flags, 2, 800, 480) for flags in (1, 0, 3))
@@ -646,6 +751,7 @@ def examples():
     for count, number in ((1, 0), (2, 4)):
         yield f"write {count} at 6FFF", [("F", 0x82, number)], given(on, frame(on, 0x82, [0x6F, 0xFF] + [1, 2] * count))[0]
     yield from curve_examples(off)
+    yield from watch_examples(on, off)
 
 
 def check_examples():

@@ -5,229 +5,16 @@
     panel_model.py --input      the script it reads (crates/panel_cases/stdin)
     panel_model.py --reached    how often each number was given, and to what
 
-`tests/random panel` draws other sessions.
+Each fails where something on REQUIRED was never reached. `watch_cases.py` has the cases of watched words, `panel_script.py` the calls; `tests/random panel`
+draws other sessions.
 """
-import collections
 import random
 import sys
 
 import model
+import watch_cases
 from model import CHANNELS, KEPT, RECORD, Setup, curve_data, two
-
-ALL_WORDS, ALL_CURVES, ALL_ROOM = 28700, 8200, 300
-UNTOUCHED = 0xC0DE      # each word of the program's curve area at first, so that it can be seen which words stay
-NOTHING_WRONG = Setup(0x5A, 0xA5, 1, 16, 800, 480)
-
-
-class Script:
-    """Calls, as the program reads them, and the lines that the model answers. The arrays are the caller's, as in the program."""
-
-    def __init__(self):
-        self.input, self.lines, self.reached = bytearray(), [], collections.Counter()
-        self.panel, self.table, self.n_words, self.n_curves, self.n_room = None, b"", 28672, 8192, 265
-        self.words, self.curves, self.room = [0] * ALL_WORDS, [UNTOUCHED] * ALL_CURVES, bytearray(b"\xEE" * ALL_ROOM)
-
-    def call(self, letter, arguments, line=None):
-        self.input += letter.encode() + bytes(arguments)
-        if line is not None:
-            self.lines.append(line)
-
-    def count(self, call, number):
-        self.reached[f"{call} {number}"] += 1
-
-    def count_waiting(self):
-        if len(self.panel.line.waiting) > 1:
-            self.count("inputs after which", "several reports wait")
-
-    def count_curves(self, handed, before):
-        """What a frame that was done did to the channels' counts."""
-        command, data, after = handed.report.command, handed.report.data, self.panel.channels.counts
-        if command == 0x84:
-            added = (len(data) - 1) // 2 // len(model.named_by(data[0]))
-            moved = any(before[n] + added > KEPT for n in model.named_by(data[0]))
-            self.count("curve frame:", "a full channel's numbers move down" if moved else "all numbers fit")
-        elif after != before:
-            self.count("clear of", "several channels that have numbers" if sum(a != b for a, b in zip(after, before)) > 1 else "one channel that has numbers")
-
-    def count_contact(self, was_down, page, caught, x, y):
-        self.count(*contact_did(self.table, was_down, page, caught, x, y))
-
-    def title(self, text):
-        self.call("#", bytes([len(text)]) + text.encode(), f"# {text}")
-
-    def lend_table(self, table):
-        self.table = bytes(table)
-        self.call("T", two(len(self.table)) + self.table)
-
-    def lend(self, words=28672, curves=8192, room=265):
-        self.n_words, self.n_curves, self.n_room = words, curves, room
-        self.call("L", two(words) + two(curves) + two(room))
-
-    def set_word(self, address, value):
-        self.words[address] = value
-        self.call("K", two(address) + two(value))
-
-    def set_curve(self, address, value):
-        """A word of the curve area; past its end nothing."""
-        if address < ALL_CURVES:
-            self.curves[address] = value
-        self.call("H", two(address) + two(value))
-
-    def start(self, setup, table=None):
-        if table is not None:
-            self.lend_table(table)
-        number, wrong, panel = model.start(setup, self.table)
-        self.panel = panel or self.panel
-        self.count("start", number)
-        self.call("S", bytes((setup.h1, setup.h2, setup.flags)) + two(setup.pages) + two(setup.width) + two(setup.height),
-                  f"S {number}" + (f" {wrong}" if number == 13 else ""))
-
-    def byte(self, b):
-        number = self.panel.give_byte(b)
-        self.count("byte", number)
-        self.count_waiting()
-        self.call("B", [b], f"B {number}")
-
-    def bytes(self, given):
-        used = 0
-        while used < len(given) and self.panel.give_byte(given[used]) == 0:
-            used += 1
-        self.count_waiting()
-        self.call("G", two(len(given)) + bytes(given), f"G {used}")
-        return used
-
-    def mark(self):
-        number = self.panel.give_mark()
-        self.count("mark", number)
-        self.count_waiting()
-        self.call("M", b"", f"M {number}")
-
-    def ask(self):
-        words, curves, room = self.words[:self.n_words], self.curves[:self.n_curves], self.room[:self.n_room]
-        caught, counts = self.panel.caught, list(self.panel.channels.counts)
-        h = self.panel.report(words, curves, room)
-        if caught:
-            self.count("ask while a slider is caught:", "kept" if self.panel.caught else "dropped")
-        self.words[:self.n_words], self.curves[:self.n_curves], self.room[:self.n_room] = words, curves, room
-        line, end = h.what, h.acknowledged + h.replied
-        acknowledgement, reply = spelled(room[:h.acknowledged]), spelled(room[h.acknowledged:end])
-        if h.what == "F":
-            line = f"F {h.report.command:02x} {h.number} data{spelled(h.report.data)} acknowledgement{acknowledgement} reply{reply}"
-            self.count(f"command {h.report.command:02X}" if h.number != 2 else "command", h.number)
-            if h.number == 0:
-                self.count_curves(h, counts)
-        elif h.what == "B":
-            line = f"B {h.report.command:02x} acknowledgement{acknowledgement}"
-        self.count("ask", h.what)
-        self.call("?", b"", f"? {line} room {sum_of(self.room)}")
-        return h.what not in ("14", "nothing")
-
-    def ask_all(self):
-        while self.ask():
-            pass
-
-    def contact(self, x, y):
-        words = self.words[:self.n_words]
-        before = self.panel.is_down, self.panel.registers.page, self.panel.caught
-        number, wrong = self.panel.contact(self.table, words, x, y)
-        self.words[:self.n_words] = words
-        self.count("contact", number)
-        if number == 0:
-            self.count_contact(*before, x, y)
-        self.call("C", two(x) + two(y), f"C {number}" + (f" {wrong}" if number == 13 else ""))
-
-    def lift(self):
-        number = self.panel.lift()
-        self.count("lift", number)
-        self.call("U", b"", f"U {number}")
-
-    def register(self, address):
-        self.call("R", [address], f"R {address:02x} {self.panel.registers.all()[address]:02x}")
-
-    def curve(self, channel):
-        """How many numbers a channel has, the numbers, and a sum over all of the area."""
-        count = self.panel.curve_count(channel)
-        numbers = "".join(f" {w:04x}" for w in self.curves[channel * KEPT:channel * KEPT + count])
-        self.call("N", [channel], f"N {channel:02x} count {count}{numbers} area {sum_of(self.curves)}")
-
-    def word(self, address):
-        self.call("V", two(address), f"V {address:04x} {self.words[address]:04x}")
-
-    def all(self):
-        r = self.panel.registers
-        self.call("D", b"", f"D{spelled(r.all())} page {r.page:04x} backlight {r.backlight:02x} buzzer {r.buzzer:02x} words {sum_of(self.words)}")
-
-    # Calls that belong together
-
-    def send(self, command, data, ask=True):
-        self.bytes(model.frame(self.panel.setup, command, bytes(data)))
-        if ask:
-            self.ask_all()
-
-    def send_once(self, command, data):
-        """Asks for the one report alone, where there are many such frames."""
-        self.send(command, data, ask=False)
-        self.ask()
-
-    def curve_all(self):
-        for channel in range(CHANNELS):
-            self.curve(channel)
-
-    def send_bad(self, command, data, ask=True):
-        """With a wrong check value, and a mark, so that nothing of it stays."""
-        b = bytearray(model.frame(self.panel.setup, command, bytes(data)))
-        b[-1] ^= 0x40
-        self.bytes(b)
-        if ask:
-            self.ask_all()
-            self.mark()
-            self.ask_all()
-
-
-def contact_did(table, was_down, page, caught, x, y):
-    """What a contact that was not refused did: the panel was up or down, on a page, with a slider caught or None."""
-    if was_down:
-        return "contact while down:", "a slider caught" if caught else "none caught"
-    acted = next((r for r in model.records(table) if r.page == page and r.holds(x, y)), None)
-    if acted is None:
-        return "contact while up:", "no record"
-    kind = {0xFE05: "key", 0xFE02: "step", 0xFE03: "slider"}[acted.code]
-    return f"contact while up: {kind} mode", f"{acted.mode:02X}{', next page' if acted.has_next else ''}"
-
-
-def sum_of(numbers):
-    """As the program sums up what it does not print."""
-    total = 1
-    for n in numbers:
-        total = (total * 31 + n) % 65521
-    return total
-
-
-def spelled(b):
-    return "".join(f" {x:02x}" for x in b)
-
-
-# ---- Records
-
-def record(code, page=0, area=(100, 50, 300, 250), after=0xFF00, address=0x0010, mode=0, rest=b""):
-    head = two(page) + b"".join(two(n) for n in area) + two(after) + two(0xFF00) + two(code) + b"\xFE" + two(address) + bytes([mode])
-    return (head + rest).ljust(RECORD, b"\0")
-
-
-def key(code=0x1234, **fields):
-    return record(0xFE05, rest=two(code), **fields)
-
-
-def step(up=1, around=0, by=5, least=0, greatest=100, **fields):
-    return record(0xFE02, rest=bytes((up, around)) + two(by) + two(least % 65536) + two(greatest % 65536) + b"\x01", **fields)
-
-
-def slider(begin=0, end=1000, area=(100, 50, 300, 250), **fields):
-    return record(0xFE03, area=area, rest=b"".join(two(n) for n in area) + two(begin % 65536) + two(end % 65536), **fields)
-
-
-WRONG = bytes(RECORD)
-END = b"\xFF\xFF" + bytes(30)
+from panel_script import ALL_CURVES, END, NOTHING_WRONG, WRONG, Script, key, slider, spelled, step
 
 
 # ---- The cases
@@ -851,13 +638,33 @@ def exchanged(s):
         s.curve(channel)
 
 
-GROUPS = (limits, starts, commands, lent, waiting, refused_contacts, acting, catching, reading, filling, all_full, each_cleared, every_mode, exchanged)
+GROUPS = (limits, starts, commands, lent, waiting, refused_contacts, acting, catching, reading, filling, all_full, each_cleared, every_mode, exchanged,
+          *watch_cases.GROUPS)
+
+# What the cases must reach, and sessions drawn at random too, where there are many.
+REQUIRED = (
+    *(f"contact sends: {what}" for what in (
+        "contact while up: a record acted", "contact while up: no record", "contact while down: a slider caught", "contact while down: none caught",
+        "others wait", "none other is due", "an entry in use before it is not due", "an entry before it is not in use")),
+    "contact sends nothing: no word differs", "contact sends nothing: no entry is in use",
+    *(f"contact refused while a word is due: {number}" for number in (14, 16, 1, 12, 13, 9, 8)),
+    *(f"{command} {what} a watched word that was {was}" for was in ("due", "not due") for command in ("82", "83")
+      for what in ("done over", "refused over", "done just before", "done just behind")),
+    *(f"{call} 16, {waits}: {fault}" for call in ("contact", "ask") for waits in ("nothing waits", "a report waits")
+      for fault in ("slices of different lengths", "more than 16 entries", "two in use share a word", "one in use is not below 7000")),
+    "contact 14 before 16", "ask 14 before 16",
+)
+
+
+def missing(reached):
+    return [what for what in REQUIRED if not reached[what]]
 
 
 def fixed():
     s = Script()
     for group in GROUPS:
         s.lend()
+        s.lend_list([])
         group(s)
     return drawn(1, 12, s)
 
@@ -869,6 +676,7 @@ def drawn(seed, count, s=None):
     for session in range(count):
         s.title(f"drawn {seed} {session}")
         s.lend()
+        s.lend_list([])
         draw_session(s, r)
     return s
 
@@ -961,6 +769,8 @@ def draw_session(s, r):
     s.start(Setup(*r.choice(pairs), r.choice((0, 1, 1, 2, 3, 3, 3)), 3, 320, 270), b"")
     s.lend_table(some_table(r))
     for _ in range(r.randrange(20, 60)):
+        if r.random() < 0.15:
+            watch_cases.lend_some(s, r)
         what = r.random()
         if what < 0.35:
             line = b"".join(some_frame(s, r) for _ in range(r.choice((1, 1, 2, 3))))
@@ -1012,6 +822,8 @@ def main(words):
     if words not in ([], ["--input"], ["--reached"]):
         sys.exit(__doc__)
     s = fixed()
+    if missing(s.reached):
+        sys.exit(f"never reached: {', '.join(missing(s.reached))}")
     if words == ["--input"]:
         sys.stdout.buffer.write(s.input)
     elif words == ["--reached"]:

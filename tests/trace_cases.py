@@ -14,7 +14,7 @@ import limit_records
 import model
 import panel_model
 from model import two
-from panel_model import key, slider, step
+from panel_script import END, key, slider, step
 from trace_draw import Session
 from trace_text import spoiled
 
@@ -26,7 +26,7 @@ TABLE = b"".join((
     *(slider(begin=begin, end=end, mode=mode, page=6 + at, area=(x, 50, x + 200, 250), address=0x24)
       for at, mode in enumerate((0x00, 0x01, 0x10, 0x11, 0x20, 0x21)) for x, begin, end in ((100, 0, 255), (400, 255, 0))),
     slider(begin=-30000, end=30000, page=12, address=0x6FFF), key(page=13, after=14), step(page=14, after=14, by=32767, least=-32768, greatest=32767),
-    panel_model.END, bytes(model.RECORD)))
+    END, bytes(model.RECORD)))
 
 
 class Cases(Session):

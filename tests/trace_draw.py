@@ -4,7 +4,8 @@ import random
 import limit_records
 import model
 from model import MOST_RECORDS, RECORD, Setup, two
-from panel_model import END, some_clear, some_curve_data, some_data, some_frame, some_point, some_record
+from panel_model import some_clear, some_curve_data, some_data, some_frame, some_point, some_record
+from panel_script import END
 from trace_text import BYTE_KIND, CONTACT_KIND, LIFT_KIND, QUIET_KIND, RECORD_KIND, SETUP_KIND, joined, on_line, setup_bytes, split, spoiled
 
 HEADERS = ((0x5A, 0xA5), (0x5A, 0xA5), (0xFF, 0xFF), (0x5A, 0x5A), (0x80, 0x03), (0x00, 0x00), (0x82, 0x82))

@@ -73,6 +73,11 @@ STRANGE = [
     (FIRST, "T 0\nT 0\nE 0002\n", 2, "not the program's: page 2 is not below the 2 of the setup"),
     (USUAL, "E 0000\nT 0\n", 1, "not the program's: nothing follows an E or X"),
     (USUAL, "X 14\n", 0, "not the program's: 14 cannot stand here, only 11, 12, 13, 15"),
+    (USUAL, "X 16\n", 0, "not the program's: 16 cannot stand here, only 11, 12, 13, 15"),
+    (USUAL, "T 16\nE 0000\n", 0, "not the program's: 16 cannot stand here, only 0, 8, 9, 10"),
+    (FIRST, "T 16\nT 0\nE 0000\n", 0, "not the program's: 16 cannot stand here, only 0, 8, 9"),
+    (USUAL, "F 82 16\nE 0000\n", 0, "not the program's: 16 cannot stand here, only 0, 3, 4"),
+    (FIRST, "T 0\nO 5A A5 08 83 00 10 01 12 34 47 9F\nT 0\nE 0000\n", 1, "not the program's: no frame is due here"),
     (USUAL, "X 13\n", 0, "not the program's: a record's number stands behind 13 and behind no other"),
     (USUAL, "X 11 0\n", 0, "not the program's: a record's number stands behind 13 and behind no other"),
     (USUAL, "X 13 128\n", 0, "not the program's: there is no record 128"),
@@ -152,8 +157,7 @@ def case_troubles():
 def readme_troubles():
     readme = (program.TOP / "README.md").read_text()
     rows = {int(number): (words, where) for number, words, where in re.findall(r"^\| (\d+) \| (.*?) \| (.*?) \|$", readme, re.MULTILINE)}
-    for number in range(16):
-        words = numbers.MEANINGS[number]
+    for number, words in numbers.MEANINGS.items():
         row = words, ", ".join(f"`{letter}`" for letter, given in numbers.OF_LINE.items() if number in given) or "none"
         if rows.get(number) != row:
             yield f"README's table has {rows.get(number)} for {number}; tools/tracing/numbers.py has {row}"

@@ -13,7 +13,7 @@ import tempfile
 
 import model
 import program
-from panel_model import key, slider, step
+from panel_script import key, slider, step
 from trace_draw import drawn, table_events
 from trace_text import SETUP_KIND, on_line, setup_bytes, split
 from tracing.layout import frame

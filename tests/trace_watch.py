@@ -2,7 +2,7 @@
 import collections
 
 import model
-from panel_model import contact_did
+from panel_script import contact_did
 from trace_draw import BUFFER, WAYS, drawn
 from trace_text import BYTE_KIND, CONTACT_KIND, LIFT_KIND, QUIET_KIND
 

@@ -17,6 +17,7 @@ MEANINGS = {
     13: "a touch record is wrong",
     14: "the words lent are not 28,672, the curve words lent not 8,192, or the room lent has less than 265 bytes",
     15: "the trace is wrong: a cut or unknown record, none or two setups, a touch record behind an event",
+    16: "the watch list lent is wrong: more than 16 entries, two in use for one word, one in use for a word that there is not, or slices of different lengths",
 }
 COMMANDS = {0x80: "write registers", 0x81: "read registers", 0x82: "write words", 0x83: "read words", 0x84: "add to curves"}
 OF_COMMAND = {0x80: (0, 3, 4, 5, 6), 0x81: (0, 3, 4, 7), 0x82: (0, 3, 4), 0x83: (0, 3, 4, 7), 0x84: (0, 3)}

@@ -1,9 +1,11 @@
-// Calls of the panel.
+// Starting a panel, giving it bytes and marks, and the calls at which nothing is lent.
 use crate::Bench;
 use crate::answers;
-use crate::numbers;
+use crate::lending;
+use crate::listing;
 use crate::say;
 use crate::script;
+use crate::touching;
 use panel::Panel;
 use panel::StartAnswer;
 
@@ -21,10 +23,7 @@ fn is_started(a: StartAnswer) -> bool {
 
 pub fn start(bench: Bench, table: &[u8]) -> Bench {
     let setup = script::next_setup();
-    let n = bench.table;
-    if table.len() < n {
-        return bench;
-    }
+    let n = lending::part_of(bench.table, table.len());
     let s = Panel::start(setup, &table[0..n]);
     let a = s.answer;
     let panel = s.panel;
@@ -84,72 +83,16 @@ fn give_mark(bench: Bench) -> Bench {
     }
 }
 
-pub fn give(bench: Bench, letter: u8) -> Bench {
+// Calls at which nothing is lent.
+pub fn plain(bench: Bench, letter: u8) -> Bench {
     match letter {
+        b'#' => lending::title(bench),
+        b'L' => lending::lend(bench),
+        b'W' => listing::lend(bench),
         b'B' => give_byte(bench),
         b'G' => give_bytes(bench),
-        _ => give_mark(bench),
-    }
-}
-
-pub fn ask(bench: Bench, words: &mut [u16], curves: &mut [u16], room: &mut [u8]) -> Bench {
-    let panel = bench.panel;
-    let n = bench.words;
-    let k = bench.curves;
-    let m = bench.room;
-    if words.len() < n {
-        return bench;
-    }
-    if curves.len() < k {
-        return bench;
-    }
-    if room.len() < m {
-        return bench;
-    }
-    let reported = panel.report(&mut words[0..n], &mut curves[0..k], &mut room[0..m]);
-    let handed = reported.handed;
-    let payload = reported.payload;
-    let next = reported.panel;
-    say::text(b"? ");
-    answers::say_handed(handed, &payload, room);
-    Bench {
-        panel: next,
-        ..bench
-    }
-}
-
-pub fn contact(bench: Bench, table: &[u8], words: &mut [u16]) -> Bench {
-    let x = script::next_word();
-    let y = script::next_word();
-    let panel = bench.panel;
-    let size = bench.table;
-    let n = bench.words;
-    if table.len() < size {
-        return bench;
-    }
-    if words.len() < n {
-        return bench;
-    }
-    let contacted = panel.contact(&table[0..size], &mut words[0..n], x, y);
-    let a = contacted.answer;
-    let next = contacted.panel;
-    answers::say_contact(a);
-    Bench {
-        panel: next,
-        ..bench
-    }
-}
-
-pub fn lift(bench: Bench) -> Bench {
-    let panel = bench.panel;
-    let lifted = panel.lift();
-    let a = lifted.answer;
-    let next = lifted.panel;
-    say::text(b"U ");
-    say::number(numbers::of_lift(a));
-    say::text(b"\n");
-    Bench {
-        panel: next,
-        ..bench
+        b'M' => give_mark(bench),
+        b'U' => touching::lift(bench),
+        _ => bench,
     }
 }

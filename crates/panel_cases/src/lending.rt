@@ -1,4 +1,5 @@
 // Calls that write a title or change what is lent from there on; none of them is one of the panel's.
+ghost use Prim.Native.Nat.{_≤_};
 use crate::Bench;
 use crate::say;
 use crate::script;
@@ -44,4 +45,11 @@ pub fn set_word(bench: Bench, words: &mut [u16]) -> Bench {
         words[at] = w;
     }
     bench
+}
+
+// How much of an array is lent: as much as the script says, where there is so much.
+pub fn part_of(wanted: usize, all: usize) -> usize
+    ensures { λ r. ⌜ r ≤ all ⌝ }
+{
+    if wanted < all { wanted } else { all }
 }

@@ -6,11 +6,11 @@ use Rattle.panel_cases.proofs.main.Statement.{statement}
 use Rattle.panel_cases.proofs.main.Tie as tie
 
 abbrev Inv-loop : tie.InvT-loop
-Inv-loop table₀ words₀ curves₀ room₀ bench₀ turns₀ table words curves room bench turns =
-    (length table ≡ 8192) × ((length words ≡ 28700) × ((length curves ≡ 8200) × (length room ≡ 300)))
+Inv-loop table₀ words₀ curves₀ room₀ addresses₀ uses₀ values₀ bench₀ turns₀ table words curves room addresses uses values bench turns =
+    (length table ≡ 8192) × ((length words ≡ 28700) × ((length curves ≡ 8200) × ((length room ≡ 300) × ((length addresses ≡ 20) × ((length uses ≡ 20) × (length values ≡ 20))))))
 
 abbrev μ-loop : tie.MeasureT-loop
-μ-loop table₀ words₀ curves₀ room₀ bench₀ turns₀ table words curves room bench turns = turns
+μ-loop table₀ words₀ curves₀ room₀ addresses₀ uses₀ values₀ bench₀ turns₀ table words curves room addresses uses values bench turns = turns
 
 pub main-spec : {M : Type 1} → statement M
 main-spec =
@@ -21,6 +21,9 @@ main-spec =
     (λ c κs. search needs)
     (λ c. search needs)
     (λ c κs. search needs)
+    (λ c. search needs)
+    (λ c. search needs)
+    (λ c. search needs)
     (λ c. search needs)
     (λ c. search needs)
     (λ c. search needs)
