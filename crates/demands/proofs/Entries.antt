@@ -31,7 +31,7 @@ use Rattle.panel.proofs.Ways.{touchedBy}
 use Rattle.panel.proofs.Refusals.{refused-contact-changes-nothing}
 use Rattle.demands.specs.Calls.{Moment, Call, lend, byte, bytes, mark, ask, contact, lift, after, afterAll, numberGiven, handedOver, AllTyped}
 use Rattle.demands.specs.Demand2.{leaving, afterWrite, afterRead, afterStore, afterFetch, afterAdd, afterBadCheck, afterContact, afterCommand, AskLeaves, hands-nothing, hands-bad-check, refuses-command, does-command, Some, here, later}
-use Rattle.demands.specs.Entries.{Entry, entryAt, NamesEntry, by-noting, by-sending, by-other-list, OnlyValues, bytesWritten, Tells, tells-nothing, tells-entry}
+use Rattle.demands.specs.Entries.{ListEntry, entryAt, NamesEntry, by-noting, by-sending, by-other-list, OnlyValues, bytesWritten, Tells, tells-nothing, tells-entry}
 use Rattle.demands.proofs.Answers.{momentTouched}
 use Rattle.demands.proofs.Asking.{asking-leaves}
 use Rattle.demands.proofs.Calls.{call-reached}
@@ -246,10 +246,10 @@ module _ (now : Moment) (i : ℕ) where
   lent-entry : (lent : Lent) → (entryAt (lent .watched) i ≡ entryAt list i) ⊎ NamesEntry now i (lend lent)
   lent-entry lent = go (eqb (new .address) (old .address)) refl (eqb (new .inUse) (old .inUse)) refl (eqb (new .lastSent) (old .lastSent)) refl
     where
-      new : Entry
+      new : ListEntry
       new = entryAt (lent .watched) i
 
-      old : Entry
+      old : ListEntry
       old = entryAt list i
 
       go : (a : Bool) → eqb (new .address) (old .address) ≡ a → (u : Bool) → eqb (new .inUse) (old .inUse) ≡ u → (s : Bool) → eqb (new .lastSent) (old .lastSent) ≡ s
@@ -260,9 +260,9 @@ module _ (now : Moment) (i : ℕ) where
           let values = eqb-true (new .lastSent) (old .lastSent) s in
           inl (rw (addresses, uses, values))
       go false a u is s also =
-          inr (by-other-list lent (λ same. eqb-false (new .address) (old .address) a (ap (λ (e : Entry). e .address) same)))
-      go true a false u s also = inr (by-other-list lent (λ same. eqb-false (new .inUse) (old .inUse) u (ap (λ (e : Entry). e .inUse) same)))
-      go true a true u false s = inr (by-other-list lent (λ same. eqb-false (new .lastSent) (old .lastSent) s (ap (λ (e : Entry). e .lastSent) same)))
+          inr (by-other-list lent (λ same. eqb-false (new .address) (old .address) a (ap (λ (e : ListEntry). e .address) same)))
+      go true a false u s also = inr (by-other-list lent (λ same. eqb-false (new .inUse) (old .inUse) u (ap (λ (e : ListEntry). e .inUse) same)))
+      go true a true u false s = inr (by-other-list lent (λ same. eqb-false (new .lastSent) (old .lastSent) s (ap (λ (e : ListEntry). e .lastSent) same)))
 
   pub call-names-entry : Reachable (now .panel) → (call : Call) → (entryAt (after now call .lent .watched) i ≡ entryAt list i) ⊎ NamesEntry now i call
   unfolding after

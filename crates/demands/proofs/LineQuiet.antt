@@ -26,7 +26,7 @@ use Rattle.panel.specs.Contacts.{Contact}
 use Rattle.panel.specs.Reachable.{Reachable}
 use Rattle.demands.specs.Calls.{Moment, Call, lend, byte, bytes, mark, ask, contact, lift, after, afterAll, numberGiven, handedOver, AllTyped}
 use Rattle.demands.specs.Demand2.{leaving, afterStore, Some, here, later}
-use Rattle.demands.specs.Entries.{Entry, Tells, tells-nothing, tells-entry, LeavesEntry, AllLeaveEntry, SendsEntry, sends-first, StaysQuiet}
+use Rattle.demands.specs.Entries.{ListEntry, Tells, tells-nothing, tells-entry, LeavesEntry, AllLeaveEntry, SendsEntry, sends-first, StaysQuiet}
 use Rattle.demands.proofs.Access.{writes-words}
 use Rattle.demands.proofs.Calls.{call-reached}
 use Rattle.demands.proofs.FrameAsked.{handed-asks}
@@ -115,9 +115,9 @@ module _ (i : ℕ) (now : Moment) where
   lend-quiet : (lent : Lent) → LeavesEntry i now (lend lent) → Quiet i (now .lent) → Quiet i lent
   unfolding LeavesEntry usedAt isDue
   lend-quiet lent leaves quiet =
-      let at = ap (λ (e : Entry). e .address) (leaves .0) in
-      let uses = ap (λ (e : Entry). e .inUse) (leaves .0) in
-      let value = ap (λ (e : Entry). e .lastSent) (leaves .0) in
+      let at = ap (λ (e : ListEntry). e .address) (leaves .0) in
+      let uses = ap (λ (e : ListEntry). e .inUse) (leaves .0) in
+      let value = ap (λ (e : ListEntry). e .lastSent) (leaves .0) in
       record { used = rw uses (quiet .used); not-due = rw (at, uses, value, leaves .1) (quiet .not-due) }
 
   call-quiet : Reachable (now .panel) → (call : Call) → LeavesEntry i now call → Quiet i (now .lent) → Quiet i (after now call .lent)

@@ -21,7 +21,7 @@ use Rattle.panel.specs.Contacts.{Contact}
 use Rattle.demands.specs.Calls.{Moment, WellLent, Call, lend, bytes, mark, ask, contact, begun, after, afterAll, numberGiven, handedOver, Typed, AllTyped, Arises, from-start, by-call}
 use Rattle.demands.specs.Reports.{rulesOf}
 use Rattle.demands.specs.Demand2.{Some}
-use Rattle.demands.specs.Entries.{Entry, entryAt, FirstDue, NamesEntry, bytesWritten, Tells, UnaskedReadsBack, framesSent, frameSent, WordsStand, dueAt, AllSent, LeavesEntry, AllLeaveEntry, StaysQuiet}
+use Rattle.demands.specs.Entries.{ListEntry, entryAt, FirstDue, NamesEntry, bytesWritten, Tells, UnaskedReadsBack, framesSent, frameSent, WordsStand, dueAt, AllSent, LeavesEntry, AllLeaveEntry, StaysQuiet}
 use Rattle.demands.specs.Story.{version, storySetup, new}
 use Rattle.demands.proofs.Computed.{computingStart, computingCalls, computingContacts}
 use Rattle.demands.proofs.Demand2.{no-other-entry-changes, contact-tells, unasked-reads-back, nothing-is-lost, line-writes-send-nothing}
@@ -102,7 +102,7 @@ frame-reads-back = unasked-reads-back watched anywhere touch-done 0 first-is-due
 -- the entry that is sent changes, and is named
 sent-differs : entryAt (afterAll watched (contact anywhere ∷ []) .lent .watched) 0 ≢ entryAt list 0
 unfolding computingContacts
-sent-differs same = let value : _≡_ {A = ℕ} 0 0x0007 = ap (λ (e : Entry). e .lastSent) same in omega arith
+sent-differs same = let value : _≡_ {A = ℕ} 0 0x0007 = ap (λ (e : ListEntry). e .lastSent) same in omega arith
 
 touch-typed : AllTyped (contact anywhere ∷ [])
 unfolding AllTyped Typed allBytes

@@ -23,13 +23,13 @@ use Rattle.demands.specs.Calls.{Moment, Call, lend, byte, bytes, mark, a
 use Rattle.demands.specs.Demand2.{Some, ReadsBack}
 
 -- "each entry a word address, whether it is in use, and the value last sent": one entry, as it stands in the three slices
-pub record Entry : Type 0 where
+pub record ListEntry : Type 0 where
   pub address : ℕ
   pub inUse : ℕ
   pub lastSent : ℕ
 
 -- entry i of a list
-abbrev pub entryAt : Watched → (i : ℕ) → Entry
+abbrev pub entryAt : Watched → (i : ℕ) → ListEntry
 entryAt w i = record { address = getD (w .addresses) i 0; inUse = getD (w .uses) i 0; lastSent = getD (w .values) i 0 }
 
 -- "the first entry in use whose word differs from its value last sent": entry i is that one

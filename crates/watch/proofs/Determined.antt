@@ -17,4 +17,4 @@ pub note-determined : OneAnswerLeft 4 note-kinds.ps note-kinds.r note.Post (λ �
 note-determined κs a x y s t p q = (refl, p ∙ sym q)
 
 pub send-determined : OneAnswerLeft 4 send-kinds.ps send-kinds.r send.Post (λ κs s. now (s .1 .1 .1 .0))
-send-determined κs a x y s t p q = (ap (λ (d : Sending). d .due) (p ∙ sym q), ap (λ (d : Sending). d .values) (p ∙ sym q))
+send-determined κs a x y s t p q = (ap (λ (d : Sending). d .due) (p .0 ∙ sym (q .0)), ap (λ (d : Sending). d .values) (p .0 ∙ sym (q .0)))

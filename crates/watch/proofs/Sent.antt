@@ -1,16 +1,18 @@
 -- Laws of `sending`: the first entry that is due.
 use mathlib.Core.Path.{_≡_, refl, ap, _∙_}
 use mathlib.Core.Bool.{Bool, true, false, cond}
-use mathlib.Core.List.{List}
+use mathlib.Core.List.{List, [], _∷_}
 use mathlib.Core.Logic.{⊎-elim}
 use Prim.Native.Nat.{ℕ, zero, suc, _+_, _-_, _≤_, _<_}
 use native.Mathlib.Nat.{sub-self}
 use native.Mathlib.Omega.{arith}
 use lib.ListN.{length, set, length-set}
+use Rattle.wire.specs.Numbers.{firstSaid}
 use Rattle.words.specs.Words.{wordAtAddress}
+use Rattle.watch.specs.declared.Due.{Due}
 use Rattle.watch.specs.declared.Due.the-variants.{Nothing, Word}
 use Rattle.watch.specs.Watched.{Watched, watching, entryCount, addressAt}
-use Rattle.watch.specs.Sending.{isDue, Sending, sends, sent, sendingFrom, sending}
+use Rattle.watch.specs.Sending.{isDue, Sending, sends, sent, sendingFrom, sending, dueSaid, dueListed, sendSaid}
 use Rattle.watch.proofs.Places.{last-or-before}
 
 -- the loop of `send`, a law for each way it goes
@@ -84,3 +86,20 @@ module _ (words : List ℕ) (w : Watched) where
       go (none-due none is) = ap (λ (s : Sending). length (s .values)) is
       go (first-due i inside due before is) =
           ap (λ (s : Sending). length (s .values)) is ∙ length-set (w .values) i (wordAtAddress words (addressAt (w .addresses) i))
+
+-- what is said of a sending
+module _ (words : List ℕ) (w : Watched) where
+  due-as-listed : (i n : ℕ) → dueSaid (sendingFrom words w i n .due) ≡ firstSaid (dueListed words w i n) []
+  unfolding dueSaid sendingFrom dueListed firstSaid
+  due-as-listed i zero = refl
+  due-as-listed i (suc n) = go (isDue words w i) (due-as-listed (i + 1) n)
+    where
+      go : (b : Bool) → dueSaid (sendingFrom words w (i + 1) n .due) ≡ firstSaid (dueListed words w (i + 1) n) []
+          → dueSaid (cond b (sent words w i) (sendingFrom words w (i + 1) n) .due) ≡ cond b (addressAt (w .addresses) i ∷ []) (firstSaid (dueListed words w (i + 1) n) [])
+      go true behind = refl
+      go false behind = behind
+
+  pub send-said : (due : Due) (values : List ℕ) → sends due values ≡ sending words w
+      → (sends due values ≡ sending words w) × (dueSaid due ≡ sendSaid words w)
+  unfolding sending
+  send-said due values is = (is, ap (λ (s : Sending). dueSaid (s .due)) is ∙ due-as-listed 0 (entryCount w))

@@ -4,6 +4,7 @@ use mathlib.Core.Bool.{Bool, cond, not, _&&_}
 use mathlib.Core.List.{List, [], _∷_}
 use lib.Dec.{eqb}
 use lib.ListN.{set}
+use Rattle.wire.specs.Numbers.{Entry, _when_, firstSaid}
 use Rattle.words.specs.Words.{wordAtAddress}
 use Rattle.watch.specs.declared.Due.{Due}
 use Rattle.watch.specs.declared.Due.the-variants.{Nothing, Word}
@@ -36,6 +37,20 @@ sendingFrom words w i (suc n) = cond (isDue words w i) (sent words w i) (sending
 -- "the first entry in use whose word differs from its value last sent", "and the value is noted"
 unfoldable pub sending : (words : List ℕ) → Watched → Sending
 sending words w = sendingFrom words w 0 (entryCount w)
+
+-- 02 gives these answers no number: what is said is the value, the address of the word
+unfoldable pub dueSaid : Due → List ℕ
+dueSaid Nothing = []
+dueSaid (Word address) = address .0 ∷ []
+
+-- "the first entry in use whose word differs from its value last sent": n entries in their order from entry i on, each with the address that is said where it is due
+unfoldable pub dueListed : (words : List ℕ) → Watched → (i n : ℕ) → List (Entry (List ℕ))
+dueListed words w i zero = []
+dueListed words w i (suc n) = ((addressAt (w .addresses) i ∷ []) when isDue words w i) ∷ dueListed words w (i + 1) n
+
+-- "the first entry": of all entries of a list; where none is due, nothing
+abbrev pub sendSaid : (words : List ℕ) → Watched → List ℕ
+sendSaid words w = firstSaid (dueListed words w 0 (entryCount w)) []
 
 -- beyond the paper: the entries that are due of n entries from entry i on, by their numbers
 unfoldable pub dueFrom : (words : List ℕ) → Watched → (i n : ℕ) → List ℕ

@@ -1,7 +1,7 @@
 // The entry that is due to be sent.
 ghost use mathlib.Core.Path.{_≡_};
 ghost use Rattle.watch.specs.Watched.{watching};
-ghost use Rattle.watch.specs.Sending.{isDue, sends, sending};
+ghost use Rattle.watch.specs.Sending.{isDue, sends, sending, dueSaid, sendSaid};
 use crate::Due;
 use crate::judging;
 use crate::noting;
@@ -18,6 +18,7 @@ fn is_due(words: &[u16], addresses: &[u16], uses: &[u8], values: &[u16], i: usiz
 // Finds the first entry that is due, notes its word as sent and answers its address.
 pub fn send(words: &[u16], addresses: &[u16], uses: &[u8], values: &mut [u16]) -> Due
     ensures { λ r. ⌜ sends r (now (values .exit)) ≡ sending (now (words .entry)) (watching (now (addresses .entry)) (now (uses .entry)) (now (values .entry))) ⌝ }
+    ensures { λ r. ⌜ dueSaid r ≡ sendSaid (now (words .entry)) (watching (now (addresses .entry)) (now (uses .entry)) (now (values .entry))) ⌝ }
 {
     let count = addresses.len();
     let mut left = count;

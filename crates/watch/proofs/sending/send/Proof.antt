@@ -3,7 +3,7 @@ use borrow.Author.Needs.{needs}
 use Prim.Native.Nat.{_≤_}
 use mathlib.Core.Path.{_≡_}
 use lib.ListN.{length}
-use Rattle.watch.proofs.Sent.{SendsLast, all-left, none-found, due-found, not-found}
+use Rattle.watch.proofs.Sent.{SendsLast, all-left, none-found, due-found, not-found, send-said}
 use Rattle.watch.proofs.sending.send.Statement.{statement}
 use Rattle.watch.proofs.sending.send.Tie as tie
 
@@ -27,9 +27,9 @@ send-spec =
     (λ c κs. search needs)
     (λ c κs. search needs)
     (λ c. search needs)
-    (λ c. search due-found)
+    (λ c. send-said _ _ _ _ (search due-found))
     (λ c. search needs)
     (λ c. search needs)
     (λ c. (search needs, search needs, search needs, search not-found))
     (λ c. search needs)
-    (λ c. search none-found))
+    (λ c. send-said _ _ _ _ (search none-found)))
