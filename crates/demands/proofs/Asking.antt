@@ -1,11 +1,11 @@
 -- All that asking can leave: the cases of specs/Demand2's AskLeaves are all there are.
 use mathlib.Core.Path.{_≡_, refl, ap, _∙_}
 use mathlib.Core.Logic.{_⊎_, inl, inr}
-use mathlib.Core.Bool.{Bool, true, false}
+use mathlib.Core.Bool.{Bool, true, false, cond}
 use mathlib.Core.List.{List, [], _∷_}
-use Prim.Native.Nat.{ℕ}
+use Prim.Native.Nat.{ℕ, _≤_}
 use native.Mathlib.Omega.{arith}
-use borrow.Author.Tests.{eqb-true, ltb-true, ltb-false}
+use borrow.Author.Tests.{eqb-true, eqb-false, ltb-true, ltb-false}
 use lib.Dec.{eqb, ltb}
 use Rattle.wire.specs.Addresses.{wordCount}
 use Rattle.reading.specs.Place as Place
@@ -20,8 +20,8 @@ use Rattle.panel.specs.Numbers.{reportNumber}
 use Rattle.panel.specs.Reporting.{Reporting, reporting}
 use Rattle.panel.specs.Reachable.{Reachable}
 use Rattle.panel.proofs.Invariant.{reachable-sound}
-use Rattle.demands.specs.Calls.{Moment, ask, numberGiven, reportHanded, handedOver}
-use Rattle.demands.specs.Demand2.{afterCommand, AskLeaves, hands-nothing, hands-bad-check, refuses-command, does-command}
+use Rattle.demands.specs.Calls.{Moment, ask, after, numberGiven, reportHanded, handedOver}
+use Rattle.demands.specs.Demand2.{afterWrite, afterRead, afterStore, afterFetch, afterAdd, afterCommand, AskLeaves, hands-nothing, hands-bad-check, refuses-command, does-command}
 use Rattle.demands.proofs.FrameAsked.{handed-asks, done-number}
 use Rattle.demands.proofs.Access.{writes-registers, reads-registers, writes-words, reads-words, adds-numbers, answers-bad-check, nothing-changes-nothing}
 use Rattle.demands.proofs.Refusals.{command-refused}
@@ -51,6 +51,40 @@ bad-number handed.Nothing payload command is = never (cc)
 bad-number (handed.BadCheck c acknowledged) payload command is = refl
 bad-number (handed.Accepted c count o acknowledged replied) payload command is = never (cc)
 
+-- a command by its number
+pub as-command : (now : Moment) (command : ℕ) (content : List ℕ) → handedOver now ask ≡ acceptedFrame command content ∷ [] → (known : ℕ) → command ≡ known
+    → handedOver now ask ≡ acceptedFrame known content ∷ []
+as-command now command content hands known is = hands ∙ ap (λ (k : ℕ). acceptedFrame k content ∷ []) is
+
+-- what holds of what each of the five commands leaves holds of what is left, where it is one of them
+pub by-command : (P : Moment → Type 0) (now : Moment) (command : ℕ) (content : List ℕ)
+    → (eqb command 0x80 ≡ false → eqb command 0x81 ≡ false → eqb command 0x82 ≡ false → eqb command 0x83 ≡ false → eqb command 0x84 ≡ false → ⊥)
+    → (command ≡ 0x80 → P (afterWrite now content)) → (command ≡ 0x81 → P (afterRead now content)) → (command ≡ 0x82 → P (afterStore now content))
+    → (command ≡ 0x83 → P (afterFetch now content)) → (command ≡ 0x84 → P (afterAdd now content)) → P (afterCommand now command content)
+unfolding afterCommand
+by-command P now command content one write read store fetch add =
+    go (eqb command 0x80) refl (eqb command 0x81) refl (eqb command 0x82) refl (eqb command 0x83) refl (eqb command 0x84) refl
+  where
+    go : (a : Bool) → eqb command 0x80 ≡ a → (b : Bool) → eqb command 0x81 ≡ b → (c : Bool) → eqb command 0x82 ≡ c → (d : Bool) → eqb command 0x83 ≡ d
+        → (e : Bool) → eqb command 0x84 ≡ e
+        → P (cond a (afterWrite now content) (cond b (afterRead now content) (cond c (afterStore now content) (cond d (afterFetch now content) (afterAdd now content)))))
+    go true p b q c r d s e t = write (eqb-true command 0x80 p)
+    go false p true q c r d s e t = read (eqb-true command 0x81 q)
+    go false p false q true r d s e t = store (eqb-true command 0x82 r)
+    go false p false q false r true s e t = fetch (eqb-true command 0x83 s)
+    go false p false q false r false s true t = add (eqb-true command 0x84 t)
+    go false p false q false r false s false t = absurd (one p q r s t)
+
+pub one-of-five : (command : ℕ) → 0x80 ≤ command → command ≤ 0x84
+    → eqb command 0x80 ≡ false → eqb command 0x81 ≡ false → eqb command 0x82 ≡ false → eqb command 0x83 ≡ false → eqb command 0x84 ≡ false → ⊥
+one-of-five command from to p q r s t =
+    let not-80 = eqb-false command 0x80 p in
+    let not-81 = eqb-false command 0x81 q in
+    let not-82 = eqb-false command 0x82 r in
+    let not-83 = eqb-false command 0x83 s in
+    let not-84 = eqb-false command 0x84 t in
+    omega arith
+
 -- an accepted frame that is done is one of the five commands
 module _ (now : Moment) (reached : Reachable (now .panel)) (command : ℕ) (content : List ℕ) (hands : handedOver now ask ≡ acceptedFrame command content ∷ [])
     (zero : numberGiven now ask ≡ 0) where
@@ -63,30 +97,14 @@ module _ (now : Moment) (reached : Reachable (now .panel)) (command : ℕ) (cont
       omega arith
 
   command-done : AskLeaves now
-  unfolding afterCommand
-  command-done = go (eqb command 0x80) refl (eqb command 0x81) refl (eqb command 0x82) refl (eqb command 0x83) refl (eqb command 0x84) refl
-    where
-      as-command : (c : ℕ) → command ≡ c → handedOver now ask ≡ acceptedFrame c content ∷ []
-      as-command c is = hands ∙ ap (λ (k : ℕ). acceptedFrame k content ∷ []) is
-
-      go : (a : Bool) → eqb command 0x80 ≡ a → (b : Bool) → eqb command 0x81 ≡ b → (c : Bool) → eqb command 0x82 ≡ c → (d : Bool) → eqb command 0x83 ≡ d
-          → (e : Bool) → eqb command 0x84 ≡ e → AskLeaves now
-      go true p b q c r d s e t =
-          let is = eqb-true command 0x80 p in
-          does-command command content hands zero (omega arith) (omega arith) (writes-registers now reached content zero (as-command 0x80 is) ∙ rw p)
-      go false p true q c r d s e t =
-          let is = eqb-true command 0x81 q in
-          does-command command content hands zero (omega arith) (omega arith) (reads-registers now reached content zero (as-command 0x81 is) ∙ rw (p, q))
-      go false p false q true r d s e t =
-          let is = eqb-true command 0x82 r in
-          does-command command content hands zero (omega arith) (omega arith) (writes-words now reached content zero (as-command 0x82 is) ∙ rw (p, q, r))
-      go false p false q false r true s e t =
-          let is = eqb-true command 0x83 s in
-          does-command command content hands zero (omega arith) (omega arith) (reads-words now reached content zero (as-command 0x83 is) ∙ rw (p, q, r, s))
-      go false p false q false r false s true t =
-          let is = eqb-true command 0x84 t in
-          does-command command content hands zero (omega arith) (omega arith) (adds-numbers now reached content zero (as-command 0x84 is) ∙ rw (p, q, r, s))
-      go false p false q false r false s false t = absurd (known p q r s t)
+  command-done =
+      let leaves = by-command (λ then. (0x80 ≤ command) × (command ≤ 0x84) × (after now ask ≡ then)) now command content known
+      (λ is. (omega (arith, is), omega (arith, is), writes-registers now reached content zero (as-command now command content hands 0x80 is)))
+      (λ is. (omega (arith, is), omega (arith, is), reads-registers now reached content zero (as-command now command content hands 0x81 is)))
+      (λ is. (omega (arith, is), omega (arith, is), writes-words now reached content zero (as-command now command content hands 0x82 is)))
+      (λ is. (omega (arith, is), omega (arith, is), reads-words now reached content zero (as-command now command content hands 0x83 is)))
+      (λ is. (omega (arith, is), omega (arith, is), adds-numbers now reached content zero (as-command now command content hands 0x84 is))) in
+      does-command command content hands zero (leaves .0) (leaves .1) (leaves .2)
 
 pub asking-leaves : (now : Moment) → Reachable (now .panel) → AskLeaves now
 unfolding numberGiven handedOver

@@ -1,24 +1,23 @@
 -- What calls do to the channels' counts and to the curve area: every count and every word stays that no call names.
-use mathlib.Core.Path.{_≡_, refl, sym, ap, _∙_}
+use mathlib.Core.Path.{_≡_, refl, ap, _∙_}
 use mathlib.Core.Logic.{_⊎_, inl, inr, ⊎-elim}
 use mathlib.Core.Bool.{Bool, true, false, cond}
 use mathlib.Core.List.{List, [], _∷_}
-use Prim.Native.Nat.{ℕ, _+_, _*_, _≤_, _<_}
+use Prim.Native.Nat.{ℕ, _≤_, _<_}
 use native.Mathlib.Omega.{arith}
 use borrow.Author.Tests.{eq-eqb, ne-eqb, eqb-true, eqb-false, ltb-true, ltb-false}
 use lib.Dec.{eqb, ltb}
-use lib.ListN.{length, getD, drop}
+use lib.ListN.{drop}
 use Rattle.wire.specs.ByteOrder.{byteAt}
 use Rattle.reading.specs.Place.{badCheck, acceptedFrame}
 use Rattle.registers.specs.Run.{clearValue}
 use Rattle.curves.specs.declared.Counts.{Counts}
-use Rattle.curves.specs.Area.{channelCount, channelWords, curveWords, countOf}
+use Rattle.curves.specs.Area.{channelCount, channelWords, countOf}
 use Rattle.curves.specs.Rounds.{named, modeOf}
 use Rattle.curves.specs.Adding.{added}
 use Rattle.curves.specs.Clearing.{cleared, clears}
 use Rattle.curves.proofs.ByHistory.{count-left}
 use Rattle.curves.proofs.OtherWords.{words-stay, count-stays}
-use Rattle.commands.specs.Lent.{Lent}
 use Rattle.commands.specs.Effect.{countsLeft}
 use Rattle.panel.specs.State.{panelCount}
 use Rattle.panel.specs.Sound.{Sound}
@@ -32,7 +31,7 @@ use Rattle.demands.specs.Calls.{Moment, Call, lend, byte, bytes, mark, a
 use Rattle.demands.specs.Demand2.{leaving, afterWrite, afterRead, afterStore, afterFetch, afterAdd, afterBadCheck, afterCommand, AskLeaves, hands-nothing, hands-bad-check, refuses-command, does-command, curveWordAt, NamesCurveWord, by-adding, by-exchange, NamesCount, by-numbers, by-clear, Some, here, later}
 use Rattle.demands.specs.History.{recorded, recordedBy, historyBy}
 use Rattle.demands.specs.Reports.{readBehind}
-use Rattle.demands.proofs.Asking.{asking-leaves}
+use Rattle.demands.proofs.Asking.{by-command, one-of-five, as-command, asking-leaves}
 use Rattle.demands.proofs.Calls.{call-reached}
 use Rattle.demands.proofs.FrameAsked.{handed-asks}
 
@@ -81,38 +80,18 @@ unfolding recorded
 other-recorded n command content history not-84 not-80 = rw (ne-eqb command 0x84 not-84, ne-eqb command 0x80 not-80)
 
 module _ (now : Moment) (command : ℕ) (content : List ℕ) (hands : handedOver now ask ≡ acceptedFrame command content ∷ []) (done : numberGiven now ask ≡ 0) where
-  as-command : (c : ℕ) → command ≡ c → handedOver now ask ≡ acceptedFrame c content ∷ []
-  as-command c is = hands ∙ ap (λ (k : ℕ). acceptedFrame k content ∷ []) is
-
   quiet : (command ≡ 0x84 → ⊥) → (command ≡ 0x80 → ⊥) → (n : ℕ) (history : List ℕ) → historyBy n now ask history ≡ history
   quiet not-84 not-80 n history = history-done now command content hands done n history ∙ other-recorded n command content history not-84 not-80
 
   command-curves : 0x80 ≤ command → command ≤ 0x84 → after now ask ≡ afterCommand now command content → Curving now
-  unfolding afterCommand afterWrite afterRead afterStore afterFetch afterAdd leaving countsLeft
+  unfolding afterWrite afterRead afterStore afterFetch afterAdd leaving countsLeft
   command-curves from to =
-      go (eqb command 0x80) refl (eqb command 0x81) refl (eqb command 0x82) refl (eqb command 0x83) refl
-    where
-      go : (a : Bool) → eqb command 0x80 ≡ a → (b : Bool) → eqb command 0x81 ≡ b → (c : Bool) → eqb command 0x82 ≡ c → (d : Bool) → eqb command 0x83 ≡ d
-          → after now ask
-          ≡ cond a (afterWrite now content) (cond b (afterRead now content) (cond c (afterStore now content) (cond d (afterFetch now content) (afterAdd now content))))
-          → Curving now
-      go true p b q c r d s is =
-          clearing content (as-command 0x80 (eqb-true command 0x80 p)) done (ap (λ (m : Moment). m .panel .counts) is) (ap (λ (m : Moment). m .lent .curves) is)
-      go false p true q c r d s is =
-          let at : command ≡ 0x81 = eqb-true command 0x81 q in
-          stays-by now (afterRead now content) is refl refl (quiet (λ other. omega arith) (λ other. omega arith))
-      go false p false q true r d s is =
-          let at : command ≡ 0x82 = eqb-true command 0x82 r in
-          stays-by now (afterStore now content) is refl refl (quiet (λ other. omega arith) (λ other. omega arith))
-      go false p false q false r true s is =
-          let at : command ≡ 0x83 = eqb-true command 0x83 s in
-          stays-by now (afterFetch now content) is refl refl (quiet (λ other. omega arith) (λ other. omega arith))
-      go false p false q false r false s is =
-          let not-80 = eqb-false command 0x80 p in
-          let not-81 = eqb-false command 0x81 q in
-          let not-82 = eqb-false command 0x82 r in
-          let not-83 = eqb-false command 0x83 s in
-          adding content (as-command 0x84 (omega arith)) done (ap (λ (m : Moment). m .panel .counts) is) (ap (λ (m : Moment). m .lent .curves) is)
+      by-command (λ then. after now ask ≡ then → Curving now) now command content (one-of-five command from to)
+      (λ at is. clearing content (as-command now command content hands 0x80 at) done (ap (λ (m : Moment). m .panel .counts) is) (ap (λ (m : Moment). m .lent .curves) is))
+      (λ at is. stays-by now (afterRead now content) is refl refl (quiet (λ other. omega (arith, at, other)) (λ other. omega (arith, at, other))))
+      (λ at is. stays-by now (afterStore now content) is refl refl (quiet (λ other. omega (arith, at, other)) (λ other. omega (arith, at, other))))
+      (λ at is. stays-by now (afterFetch now content) is refl refl (quiet (λ other. omega (arith, at, other)) (λ other. omega (arith, at, other))))
+      (λ at is. adding content (as-command now command content hands 0x84 at) done (ap (λ (m : Moment). m .panel .counts) is) (ap (λ (m : Moment). m .lent .curves) is))
 
 pub ask-curves : (now : Moment) → Reachable (now .panel) → Curving now
 ask-curves now reached = go (asking-leaves now reached)

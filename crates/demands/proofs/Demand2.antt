@@ -101,7 +101,7 @@ does-commands now arises =
       adds-numbers = λ content. Access.adds-numbers now reached content;
     }
 
--- and all that asking can leave at all: nothing is handed over, a bad check, a command that is refused, or one of these four
+-- and all that asking can leave at all: nothing is handed over, a bad check, a command that is refused, or one of these that is done
 pub asking-leaves : (now : Moment) → Arises now → AskLeaves now
 asking-leaves now arises = Asking.asking-leaves now (arises-reachable now arises)
 

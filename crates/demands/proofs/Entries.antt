@@ -1,9 +1,9 @@
 -- What asks and contacts do to the watch list: an entry that no call names stays, over one call and over a sequence.
 use mathlib.Core.Path.{_≡_, refl, ap, _∙_}
 use mathlib.Core.Logic.{_⊎_, inl, inr, ⊎-elim}
-use mathlib.Core.Bool.{Bool, true, false, cond}
+use mathlib.Core.Bool.{Bool, true, false}
 use mathlib.Core.List.{List, [], _∷_}
-use Prim.Native.Nat.{ℕ}
+use Prim.Native.Nat.{ℕ, _≤_}
 use native.Mathlib.Omega.{arith}
 use borrow.Author.Tests.{eqb-true, eqb-false}
 use lib.Dec.{eqb}
@@ -19,6 +19,7 @@ use Rattle.watch.specs.Watched.{Watched, withValues, addressAt, usedAt}
 use Rattle.watch.specs.Judge.{wrongList}
 use Rattle.watch.specs.Noting.{inRun, isNoted, noted}
 use Rattle.watch.specs.Sending.{Sending, sending}
+use Rattle.watch.proofs.Places.{one-or-two}
 use Rattle.watch.proofs.Runs.{in-run}
 use Rattle.watch.proofs.Noted.{unnoted-stays, length-noted}
 use Rattle.watch.proofs.Sent.{Sends, none-due, first-due, sends-ways}
@@ -33,26 +34,11 @@ use Rattle.demands.specs.Calls.{Moment, Call, lend, byte, bytes, mark, a
 use Rattle.demands.specs.Demand2.{leaving, afterWrite, afterRead, afterStore, afterFetch, afterAdd, afterBadCheck, afterContact, afterCommand, AskLeaves, hands-nothing, hands-bad-check, refuses-command, does-command, Some, here, later}
 use Rattle.demands.specs.Entries.{ListEntry, entryAt, NamesEntry, by-noting, by-sending, by-other-list, OnlyValues, bytesWritten, Tells, tells-nothing, tells-entry}
 use Rattle.demands.proofs.Answers.{momentTouched}
-use Rattle.demands.proofs.Asking.{asking-leaves}
+use Rattle.demands.proofs.Asking.{by-command, one-of-five, as-command, asking-leaves}
 use Rattle.demands.proofs.Calls.{call-reached}
 use Rattle.demands.proofs.TouchEffects.{contact-done, contact-leaves}
 
 -- ---- An ask
-
--- what holds of what each of the five commands leaves holds of what is left
-by-command : (P : Moment → Type 0) (now : Moment) (command : ℕ) (content : List ℕ) → P (afterWrite now content) → P (afterRead now content)
-    → (command ≡ 0x82 → P (afterStore now content)) → P (afterFetch now content) → P (afterAdd now content) → P (afterCommand now command content)
-unfolding afterCommand
-by-command P now command content write read store fetch add =
-    go (eqb command 0x80) (eqb command 0x81) (eqb command 0x82) refl (eqb command 0x83)
-  where
-    go : (a b c : Bool) → eqb command 0x82 ≡ c → (d : Bool)
-        → P (cond a (afterWrite now content) (cond b (afterRead now content) (cond c (afterStore now content) (cond d (afterFetch now content) (afterAdd now content)))))
-    go true b c is d = write
-    go false true c is d = read
-    go false false true is d = store (eqb-true command 0x82 is)
-    go false false false is true = fetch
-    go false false false is false = add
 
 -- words and list stay, or an 0x82 that is done writes the words, and its run is noted
 pub data AskNotes (now : Moment) : Type 0 where
@@ -72,16 +58,17 @@ module _ (now : Moment) (command : ℕ) (content : List ℕ) (hands : handedOver
   unfolding afterStore leaving
   store-notes known is =
       let words = ap (λ (m : Moment). m .lent .words) is in
-      notes-run content (hands ∙ ap (λ (k : ℕ). acceptedFrame k content ∷ []) known) done words (rw words (ap (λ (m : Moment). m .lent .watched) is))
+      notes-run content (as-command now command content hands 0x82 known) done words (rw words (ap (λ (m : Moment). m .lent .watched) is))
 
-  command-notes : after now ask ≡ afterCommand now command content → AskNotes now
-  command-notes =
-      by-command (λ then. after now ask ≡ then → AskNotes now) now command content
-      (notes-none-by now (afterWrite now content) (unfold afterWrite leaving in refl) (unfold afterWrite leaving in refl))
-      (notes-none-by now (afterRead now content) (unfold afterRead leaving in refl) (unfold afterRead leaving in refl))
+  command-notes : 0x80 ≤ command → command ≤ 0x84 → after now ask ≡ afterCommand now command content → AskNotes now
+  unfolding afterWrite afterRead afterFetch afterAdd leaving
+  command-notes from to =
+      by-command (λ then. after now ask ≡ then → AskNotes now) now command content (one-of-five command from to)
+      (λ at. notes-none-by now (afterWrite now content) refl refl)
+      (λ at. notes-none-by now (afterRead now content) refl refl)
       store-notes
-      (notes-none-by now (afterFetch now content) (unfold afterFetch leaving in refl) (unfold afterFetch leaving in refl))
-      (notes-none-by now (afterAdd now content) (unfold afterAdd leaving in refl) (unfold afterAdd leaving in refl))
+      (λ at. notes-none-by now (afterFetch now content) refl refl)
+      (λ at. notes-none-by now (afterAdd now content) refl refl)
 
 pub ask-notes : (now : Moment) → Reachable (now .panel) → AskNotes now
 ask-notes now reached = go (asking-leaves now reached)
@@ -93,7 +80,7 @@ ask-notes now reached = go (asking-leaves now reached)
     go (refuses-command command content hands least most is) =
         notes-none-by now (leaving now command (now .panel .registers) (now .panel .catch) (now .panel .counts) (now .lent) []) (unfold leaving in refl)
         (unfold leaving in refl) is
-    go (does-command command content hands done from to is) = command-notes now command content hands done is
+    go (does-command command content hands done from to is) = command-notes now command content hands done from to is
 
 -- ---- A contact
 
@@ -232,16 +219,13 @@ module _ (now : Moment) (i : ℕ) where
       go : numberGiven now (contact c) ≡ 0 → Tells now c (after now (contact c) .lent .words)
           → (entryAt (after now (contact c) .lent .watched) i ≡ entryAt list i) ⊎ NamesEntry now i (contact c)
       go done (tells-nothing none written room same) = inl (ap (λ (w : Watched). entryAt w i) same)
-      go done (tells-entry j first written room left) = here-or-other (eqb i j) refl
-        where
-          word : ℕ
-          word = wordAtAddress (after now (contact c) .lent .words) (addressAt (list .addresses) j)
-
-          here-or-other : (b : Bool) → eqb i j ≡ b → (entryAt (after now (contact c) .lent .watched) i ≡ entryAt list i) ⊎ NamesEntry now i (contact c)
-          here-or-other true is = inr (by-sending c done (rw (eqb-true i j is) first))
-          here-or-other false is =
-              inl (ap (λ (w : Watched). entryAt w i) left
-              ∙ same-entry list (set (list .values) j word) i (getD-set-other (list .values) j i word 0 (eqb-false i j is)))
+      go done (tells-entry j first written room left) =
+          let word = wordAtAddress (after now (contact c) .lent .words) (addressAt (list .addresses) j) in
+          ⊎-elim
+          (λ same. inr (by-sending c done (rw same first)))
+          (λ other. inl (ap (λ (w : Watched). entryAt w i) left
+          ∙ same-entry list (set (list .values) j word) i (getD-set-other (list .values) j i word 0 other)))
+          (one-or-two i j)
 
   lent-entry : (lent : Lent) → (entryAt (lent .watched) i ≡ entryAt list i) ⊎ NamesEntry now i (lend lent)
   lent-entry lent = go (eqb (new .address) (old .address)) refl (eqb (new .inUse) (old .inUse)) refl (eqb (new .lastSent) (old .lastSent)) refl

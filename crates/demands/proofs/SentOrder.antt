@@ -5,16 +5,16 @@ use mathlib.Core.Bool.{Bool, true, false, cond}
 use mathlib.Core.List.{List, [], _∷_, _++_, map}
 use Prim.Native.Nat.{ℕ, zero, suc, _+_, _≤_, _<_}
 use native.Mathlib.Omega.{arith}
-use borrow.Author.Tests.{ne-eqb, eqb-true, eqb-false}
-use lib.Dec.{eqb}
+use borrow.Author.Tests.{ne-eqb}
 use lib.ListN.{length, take, drop}
-use lib.Seq.{take-nil, drop-nil, take-length}
+use lib.Seq.{take-nil, drop-nil, take-length, drop-length}
 use Rattle.wire.proofs.Over.{take-over}
 use Rattle.frame.proofs.Writers.{length-frameOf}
 use Rattle.touch.specs.Setup.{checkingOf}
 use Rattle.words.specs.Words.{wordAtAddress}
 use Rattle.watch.specs.Watched.{Watched, withValues, entryCount, addressAt}
 use Rattle.watch.specs.Sending.{isDue, Sending, sent, sending, dueFrom, dueEntries}
+use Rattle.watch.proofs.Places.{last-or-before}
 use Rattle.watch.proofs.Judged.{good-lengths}
 use Rattle.watch.proofs.Dues.{none-left, first-sent}
 use Rattle.panel.specs.State.{headerOf}
@@ -105,10 +105,6 @@ sent-in-order now (c ∷ cs) stand =
     let both = step now c cs (stand .0) (stand .1) rest (dueAt now) refl in
     record { sent = both .0; left = both .1 }
 
-drop-length : (xs : List ℕ) → drop (length xs) xs ≡ []
-drop-length [] = refl
-drop-length (x ∷ xs) = drop-length xs
-
 pub all-sent : (now : Moment) (cs : List Contact) → WordsStand now cs → length cs ≡ length (dueAt now) → AllSent now cs
 all-sent now cs stand as-many =
     let order = sent-in-order now cs stand in
@@ -119,13 +115,6 @@ all-sent now cs stand as-many =
     }
 
 -- ---- The entries that are due: exactly these, each once, in the list's order
-
-same-or-later : (i k : ℕ) → i ≤ k → (k ≡ i) ⊎ (i < k)
-same-or-later i k from = go (eqb k i) refl
-  where
-    go : (b : Bool) → eqb k i ≡ b → (k ≡ i) ⊎ (i < k)
-    go true is = inl (eqb-true k i is)
-    go false is = let other = eqb-false k i is in inr (omega (arith, other))
 
 module _ (words : List ℕ) (w : Watched) where
   rising-from : (least i n : ℕ) → least ≤ i → Rising least (dueFrom words w i n)
@@ -164,9 +153,9 @@ module _ (words : List ℕ) (w : Watched) where
     due-listed i zero from below due = absurd (omega arith)
     due-listed i (suc n) from below due =
         ⊎-elim
-        (λ same. rw (← same, due) (inl refl))
+        (λ same. let here : isDue words w i ≡ true = rw same due in rw here (inl (sym same)))
         (λ later. go (isDue words w i) (due-listed (i + 1) n (omega (arith, later)) (omega (arith, later)) due))
-        (same-or-later i k from)
+        (last-or-before i k (omega arith))
       where
         go : (b : Bool) → Among k (dueFrom words w (i + 1) n) → Among k (cond b (i ∷ dueFrom words w (i + 1) n) (dueFrom words w (i + 1) n))
         go true behind = inr behind

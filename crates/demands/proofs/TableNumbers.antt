@@ -51,7 +51,7 @@ some-wrong setup i (r ∷ rs) = go (not (goodRecord setup r)) (some-wrong setup 
     go true ih = refl
     go false ih = ih
 
--- a contact: "contact 14, 1, 12, 13, 9, 8"
+-- a contact: "contact 14, 1, 12, 13, 9, 8", with 16 "right after 14"
 module _ (panel : Panel) (c : Contact) (lent : Lent) where
   abbrev doneBy : Touching
   doneBy = touchedBy panel c lent
