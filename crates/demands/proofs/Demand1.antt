@@ -1,10 +1,12 @@
 -- Demand 1, theorem by theorem. `Arises now`: any calls with any inputs have led to this moment from any start.
 use mathlib.Core.Path.{_≡_, sym, _∙_}
-use mathlib.Core.Bool.{Bool}
+use mathlib.Core.Bool.{Bool, false}
 use mathlib.Core.List.{List}
 use Prim.Native.Nat.{ℕ, _<_}
 use Rattle.frame.specs.Writer as Writer
 use Rattle.frame.specs.Writer.{writing}
+use Rattle.watch.specs.Watched.{Watched}
+use Rattle.watch.specs.Judge.{wrongList}
 use Rattle.commands.specs.Lent.{Lent}
 use Rattle.touch.specs.declared.Setup.{Setup}
 use Rattle.panel.specs.declared.StartAnswer.the-variants as start
@@ -19,7 +21,9 @@ use Rattle.demands.specs.Calls.{Moment, Call, begun, numberGiven, Typed,
 use Rattle.demands.specs.Demand1.{firstNumber, GivenUnder, printed, printedStart, printedWriter, NamesFirstWrong, RefusalLeaves}
 use Rattle.demands.specs.NoPanel.{Inert}
 use Rattle.demands.proofs.Calls.{arises-reachable}
-use Rattle.demands.specs.Done.{DoneExactly}
+use Rattle.demands.specs.Done.{Exactly, DoneExactly}
+use Rattle.demands.specs.Entries.{GoodList}
+use Rattle.demands.proofs.GoodLists.{sixteen-exactly}
 use Rattle.demands.proofs.Done.{done-exactly, printed-above, start-above, writer-above}
 use Rattle.demands.proofs.Numbers as Numbers
 use Rattle.demands.proofs.TableNumbers as TableNumbers
@@ -80,6 +84,10 @@ contact-names-first-wrong = TableNumbers.contact-names-first-wrong
 
 pub start-names-first-wrong : (setup : Setup) (table : List ℕ) (i : ℕ) → started setup table .answer ≡ start.WrongRecord i → NamesFirstWrong setup table i
 start-names-first-wrong = TableNumbers.start-names-first-wrong
+
+-- 16: "two entries in use share a word or one in use has an address not below 0x7000, or the list is longer than 16": a list is let pass exactly where it is a good one
+pub list-passes-exactly-where-good : (w : Watched) → Exactly (wrongList w ≡ false) (GoodList w)
+list-passes-exactly-where-good = sixteen-exactly
 
 -- "A refused command is still handed over and acknowledged as printed; beyond that a refusal leaves the panel, the variable words and the reply room as
 -- they stood."

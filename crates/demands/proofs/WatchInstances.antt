@@ -1,7 +1,7 @@
 -- The watch list, by computation: entries that are due are sent in order, a line write is noted, the frame reads back, and 16 is given in its place.
 use mathlib.Core.Path.{_≡_, refl, sym, ap, _∙_}
 use mathlib.Core.Logic.{_≢_}
-use mathlib.Core.Bool.{true}
+use mathlib.Core.Bool.{true, false}
 use mathlib.Core.List.{List, [], _∷_}
 use Prim.Native.Nat.{ℕ}
 use native.Mathlib.Omega.{arith}
@@ -15,15 +15,17 @@ use Rattle.line.specs.State.{keptOf}
 use Rattle.reading.proofs.ByteLists.{allBytes, tested-bytes}
 use Rattle.curves.specs.Area.{curveWords}
 use Rattle.words.specs.Words.{wordAtAddress}
+use Rattle.watch.specs.Judge.{wrongList}
 use Rattle.watch.specs.Watched.{Watched, watching, addressAt, usedAt}
 use Rattle.commands.specs.Lent.{Lent, lending}
 use Rattle.panel.specs.Contacts.{Contact}
 use Rattle.demands.specs.Calls.{Moment, WellLent, Call, lend, bytes, mark, ask, contact, begun, after, afterAll, numberGiven, handedOver, Typed, AllTyped, Arises, from-start, by-call}
 use Rattle.demands.specs.Reports.{rulesOf}
 use Rattle.demands.specs.Demand2.{Some}
-use Rattle.demands.specs.Entries.{ListEntry, entryAt, FirstDue, NamesEntry, bytesWritten, Tells, UnaskedReadsBack, framesSent, frameSent, WordsStand, dueAt, AllSent, LeavesEntry, AllLeaveEntry, StaysQuiet}
+use Rattle.demands.specs.Entries.{GoodList, ListEntry, entryAt, FirstDue, NamesEntry, bytesWritten, Tells, UnaskedReadsBack, framesSent, frameSent, WordsStand, dueAt, AllSent, LeavesEntry, AllLeaveEntry, StaysQuiet}
 use Rattle.demands.specs.Story.{version, storySetup, new}
-use Rattle.demands.proofs.Computed.{computingStart, computingCalls, computingContacts}
+use Rattle.demands.proofs.Computed.{computingWatched, computingStart, computingCalls, computingContacts}
+use Rattle.demands.proofs.Demand1.{list-passes-exactly-where-good}
 use Rattle.demands.proofs.Demand2.{no-other-entry-changes, contact-tells, unasked-reads-back, nothing-is-lost, line-writes-send-nothing}
 use Rattle.demands.proofs.Story.{zeros-16-bit, no-curves-16-bit, new-arises, version-bytes}
 
@@ -34,6 +36,14 @@ list = watching (0x0001 ∷ 0x0002 ∷ 0x0004 ∷ []) (0x01 ∷ 0x00 ∷ 0xFF �
 -- what is lent with a list: words of 0, and a room that is large enough
 abbrev lentWith : Watched → Lent
 lentWith w = lending (replicate wordCount 0) (replicate curveWords 0) (replicate leastRoom 0) w
+
+-- it is let pass, so it is a good one
+list-passes : wrongList list ≡ false
+unfolding computingWatched
+list-passes = refl
+
+pub list-is-good : GoodList list
+list-is-good = list-passes-exactly-where-good list .only-when list-passes
 
 -- the panel of 01's trace example, lent that list
 abbrev watched : Moment

@@ -9,6 +9,7 @@ use lib.Dec.{eqb}
 use lib.ListN.{length, getD, take, drop, set}
 use Rattle.wire.specs.ByteOrder.{highFirst, byteAt, wordAt}
 use Rattle.wire.specs.Room.{over}
+use Rattle.wire.specs.Addresses.{wordCount}
 use Rattle.frame.specs.Frame.{frameOf}
 use Rattle.reading.specs.Place.{acceptedFrame}
 use Rattle.words.specs.Words.{wordAtAddress, wordsOf}
@@ -31,6 +32,16 @@ pub record ListEntry : Type 0 where
 -- entry i of a list
 abbrev pub entryAt : Watched → (i : ℕ) → ListEntry
 entryAt w i = record { address = getD (w .addresses) i 0; inUse = getD (w .uses) i 0; lastSent = getD (w .values) i 0 }
+
+-- the opposite of 16, "two entries in use share a word or one in use has an address not below 0x7000, or the list is longer than 16": a list of up to 16 entries, lent as
+-- three slices of one length, of which those in use have addresses below 0x7000, each another one
+pub record GoodList (w : Watched) : Type 0 where
+  pub at-most-16 : length (w .addresses) ≤ 16
+  pub as-many-uses : length (w .uses) ≡ length (w .addresses)
+  pub as-many-values : length (w .values) ≡ length (w .addresses)
+  pub below : (i : ℕ) → i < entryCount w → usedAt (w .uses) i ≡ true → addressAt (w .addresses) i < wordCount
+  pub apart : (i j : ℕ) → i < entryCount w → j < entryCount w → usedAt (w .uses) i ≡ true → usedAt (w .uses) j ≡ true
+      → addressAt (w .addresses) i ≡ addressAt (w .addresses) j → i ≡ j
 
 -- "the first entry in use whose word differs from its value last sent": entry i is that one
 pub record FirstDue (words : List ℕ) (w : Watched) (i : ℕ) : Type 0 where
