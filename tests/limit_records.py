@@ -51,6 +51,8 @@ def slider_limits():
         yield SLIDER, (), (at + SECOND_AREA, size), (), (120,)
     yield SLIDER, (), BEGIN, (0x8000, 0x7FFF), ()
     yield SLIDER, (), LAST, (0, 0x8000, 0x7FFF), ()
+    yield SLIDER, ((*BEGIN, 0x8000),), LAST, (0x7FFF,), ()
+    yield SLIDER, ((*BEGIN, 0x7FFF),), LAST, (0x8000,), ()
     for part in (0x00, 0x10, 0x20):
         yield SLIDER, ((*MODE, part), (*LAST, 255)), XE, (101,), (100,)
         yield SLIDER, ((*MODE, part), (*LAST, 255)), YE, (50,), ()

@@ -1,14 +1,16 @@
 #!/usr/bin/env python3
-"""A model of document 01, "The build and its rules", written from the document and the requests of 02 that it was changed by (§1, §2, §4); to be read beside
-them, section by section.
+"""A model of document 01, "The build and its rules", written from the document and the requests of 02 that it was changed by (§1, §2, §4, §5); to be read
+beside them, section by section.
 
     model.py < TRACE       prints what the panel program must print for a trace
     model.py --examples    runs 01's printed trace, its examples a to j and the reads and writes it wants run, what 02 and the manuals say of curves, and
-                           what 02 says of watched words; exit status 0 if all are right
+                           what 02 says of watched words and of the two scale sheets; exit status 0 if all are right
 
 Each part below bears the name of the section of 01 that it states, and a rule of 02 says so. Numbers are those of 01's table "Numbers given back".
 """
+import math
 import sys
+from fractions import Fraction
 from typing import NamedTuple
 
 from check_value import check_value
@@ -242,8 +244,13 @@ class Setup(NamedTuple):
     def acknowledging(self):
         return self.flags & 2 == 2
 
+    @property
+    def revised(self):
+        """02, §5: sliders round by the revised scale sheet, else by the old one."""
+        return self.flags & 4 == 4
+
     def is_good(self):
-        return self.flags < 4 and 1 <= self.pages <= 65280 and 1 <= self.width <= 1024 and 1 <= self.height <= 768
+        return self.flags < 8 and 1 <= self.pages <= 65280 and 1 <= self.width <= 1024 and 1 <= self.height <= 768
 
 
 def setup_of(nine):
@@ -300,13 +307,13 @@ class Record:
 
     # What the record stores over a word
 
-    def act(self, old, x, y):
+    def act(self, setup, old, x, y):
         part = self.mode // 16 if self.code == 0xFE03 else self.mode
         if self.code == 0xFE05:
             return stored(part, old, word(self.bytes, 0x14))
         if self.code == 0xFE02:
             return stored(part, old, self.stepped(value_of(part, old)))
-        return stored(part, old, self.slid(x, y))
+        return stored(part, old, self.slid(setup, x, y))
 
     def stepped(self, value):
         b = self.bytes
@@ -319,13 +326,24 @@ class Record:
             return least if up else greatest
         return least if t < least else greatest
 
-    def slid(self, x, y):
+    @property
+    def ends(self):
+        """Of a slider: begin and end."""
+        return signed(word(self.bytes, 0x1C)), signed(word(self.bytes, 0x1E))
+
+    def along(self, x, y):
+        """Of a slider: d, of the nearest place in its area, and w."""
         xs, ys, xe, ye = self.area
         first, last, at = (xs, xe, x) if self.mode % 16 == 0 else (ys, ye, y)
-        at = max(first, min(at, last))          # the nearest place in its area
-        begin, end = signed(word(self.bytes, 0x1C)), signed(word(self.bytes, 0x1E))
-        moved = abs(end - begin) * (at - first) // (last - first)
-        return begin + moved if end >= begin else begin - moved
+        return max(first, min(at, last)) - first, last - first
+
+    def slid(self, setup, x, y):
+        begin, end = self.ends
+        exact = begin + (end - begin) * Fraction(*self.along(x, y))
+        towards_begin, towards_end = (math.floor(exact), math.ceil(exact)) if begin <= end else (math.ceil(exact), math.floor(exact))
+        # The old sheet rounds down what is moved; the revised one takes the nearer of the two, and the end's where both are as near.
+        is_nearer = abs(towards_end - exact) <= abs(towards_begin - exact)
+        return towards_end if setup.revised and is_nearer else towards_begin
 
 
 def value_of(part, w):
@@ -496,7 +514,7 @@ class Panel:
         if self.is_down:
             self.touched(0x03, x, y)
             if self.caught:
-                words[self.caught.word] = self.caught.act(words[self.caught.word], x, y)
+                words[self.caught.word] = self.caught.act(self.setup, words[self.caught.word], x, y)
         else:
             self.touched(0x01, x, y)
             self.press(table, words, x, y)
@@ -519,7 +537,7 @@ class Panel:
         """The first record of the current page holding the point acts, then its next page is shown."""
         for record in records(table):
             if record.page == self.registers.page and record.holds(x, y):
-                words[record.word] = record.act(words[record.word], x, y)
+                words[record.word] = record.act(self.setup, words[record.word], x, y)
                 if record.code == 0xFE03:
                     self.caught = record
                 if record.has_next:
@@ -640,15 +658,50 @@ def given(setup, line):
     return handed, words, [panel.channels.numbers(n, curves) for n in range(CHANNELS)]
 
 
+OLD_SHEET, REVISED_SHEET = (Setup(0x5A, 0xA5, flags, 2, 1024, 768) for flags in (1, 5))
+
+
 def example_step(around):
     b = bytes(0x0E) + b"\xFE\x02\xFE\0\0\0\x01" + bytes([around]) + two(5) + two(0) + two(100) + b"\x01\0\0\0"
-    return Record(b).act(98, 0, 0)
+    return Record(b).act(OLD_SHEET, 98, 0, 0)
 
 
-def example_slider(begin, end, x):
-    area = two(100) + two(0) + two(300) + two(0)
-    b = two(0) + area + two(0xFF00) + two(0xFF00) + two(0xFE03) + b"\xFE\0\0\0" + area + two(begin % 65536) + two(end % 65536)
-    return signed(Record(b).act(0, x, 0))
+def slider_bytes(begin, end, first, last):
+    area = two(first) + two(0) + two(last) + two(0)
+    return two(0) + area + two(0xFF00) + two(0xFF00) + two(0xFE03) + b"\xFE\0\0\0" + area + two(begin % 65536) + two(end % 65536)
+
+
+def example_slider(begin, end, x, first=100, last=300, sheet=OLD_SHEET):
+    return signed(Record(slider_bytes(begin, end, first, last)).act(sheet, 0, x, 0))
+
+
+def example_drag(sheet, places):
+    """What the slider of example j stores that is caught at its first edge and then moved."""
+    table, panel, words = slider_bytes(0, 7, 100, 300), Panel(sheet), [0] * WORDS
+    return [words[0] for x in (100, *places) if panel.contact(table, words, bytearray(LEAST_ROOM), WatchList(), x, 0).number == 0][1:]
+
+
+def sheet_examples():
+    """02, §5: what a slider stands at by the old sheet and by the revised one, worked out by hand."""
+    for what, due, slider in (
+            ("h", (5, 5), (0, 1000, 101)), ("h, falling", (995, 995), (1000, 0, 101)), ("i", (-5, -5), (-10, 10, 150)),
+            ("j", (6, 7), (0, 7, 299)), ("j, the last edge", (7, 7), (0, 7, 300)), ("j, the first edge", (0, 0), (0, 7, 100)),
+            ("j, falling", (1, 0), (7, 0, 299)), ("j, falling to the last edge", (0, 0), (7, 0, 300)),
+            ("a half, rising", (0, 1), (0, 1, 1, 0, 2)), ("a half, falling", (1, 0), (1, 0, 1, 0, 2)),
+            ("a half below 0, rising", (-1, 0), (-1, 0, 1, 0, 2)), ("a half below 0, falling", (0, -1), (0, -1, 1, 0, 2)),
+            ("a half across 0, rising", (0, 1), (-1, 2, 1, 0, 2)), ("a half across 0, falling", (1, 0), (2, -1, 1, 0, 2)),
+            ("just below a half", (0, 0), (0, 99, 101)), ("the half", (0, 1), (0, 100, 101)), ("just above a half", (0, 1), (0, 101, 101)),
+            ("all words at 1 of 1,023", (-32704, -32704), (-32768, 32767, 1, 0, 1023)),
+            ("all words at 511 of 1,023", (-33, -33), (-32768, 32767, 511, 0, 1023)),
+            ("all words at 512 of 1,023", (31, 32), (-32768, 32767, 512, 0, 1023)),
+            ("all words, falling, at 512 of 1,023", (-32, -33), (32767, -32768, 512, 0, 1023)),
+            ("all words at 1,022 of 1,023", (32702, 32703), (-32768, 32767, 1022, 0, 1023)),
+            ("all words at 1,023 of 1,023", (32767, 32767), (-32768, 32767, 1023, 0, 1023)),
+            ("all words, falling, at 1,023 of 1,023", (-32768, -32768), (32767, -32768, 1023, 0, 1023))):
+        yield f"both sheets: {what}", due, tuple(example_slider(*slider, sheet=sheet) for sheet in (OLD_SHEET, REVISED_SHEET))
+    yield "setup flags that are good", list(range(8)), [flags for flags in range(256) if OLD_SHEET._replace(flags=flags).is_good()]
+    for due, sheet in (([6, 1, 7], OLD_SHEET), ([7, 1, 7], REVISED_SHEET)):
+        yield "a caught slider keeps to the panel's sheet", due, example_drag(sheet, (299, 130, 300))
 
 
 def curve_data(mode, numbers):
@@ -752,6 +805,7 @@ def examples():
         yield f"write {count} at 6FFF", [("F", 0x82, number)], given(on, frame(on, 0x82, [0x6F, 0xFF] + [1, 2] * count))[0]
     yield from curve_examples(off)
     yield from watch_examples(on, off)
+    yield from sheet_examples()
 
 
 def check_examples():

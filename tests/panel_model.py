@@ -12,6 +12,7 @@ import random
 import sys
 
 import model
+import scale_sheets
 import watch_cases
 from model import CHANNELS, KEPT, RECORD, Setup, curve_data, two
 from panel_script import ALL_CURVES, END, NOTHING_WRONG, WRONG, Script, key, slider, spelled, step
@@ -22,7 +23,7 @@ from panel_script import ALL_CURVES, END, NOTHING_WRONG, WRONG, Script, key, sli
 def starts(s):
     s.title("start: 11 at each limit")
     base = NOTHING_WRONG
-    for flags in (0, 1, 2, 3, 4, 255):
+    for flags in (*range(10), 12, 16, 32, 64, 128, 132, 248, 255):
         s.start(base._replace(flags=flags), b"")
         s.register(0x12)
         s.register(0x1C)
@@ -30,7 +31,7 @@ def starts(s):
         for n in numbers:
             s.start(base._replace(**{field: n}), b"")
     s.title("start: 11 before 12 before 13, the first wrong record named")
-    for setup in (base, base._replace(flags=4)):
+    for setup in (base, base._replace(flags=4), base._replace(flags=8)):
         for table in (key() * 128, key() * 129, key()[:31], WRONG + b"\0", key() + WRONG + WRONG, END + WRONG, key() * 127 + WRONG, key() + END + b"\0"):
             s.start(setup, table)
     s.title("what a started panel reads")
@@ -313,7 +314,7 @@ def refused_contacts(s):
 
 
 def acting(s):
-    s.title("keys, steps and sliders in each mode, edges, first record, next page")
+    s.title("keys and steps in each mode, edges, first record, next page")
     s.start(NOTHING_WRONG, b"")
     for mode in (0, 1, 2):
         s.set_word(0x10, 0xABCD)
@@ -337,14 +338,6 @@ def acting(s):
                     s.contact(200, 200)
                     s.lift()
                     s.word(0x10)
-    for mode in (0x00, 0x01, 0x10, 0x11, 0x20, 0x21):
-        for begin, end in ((0, 255), (255, 0), (7, 7)) + (((-30000, 30000), (30000, -30000), (-10, 10)) if mode < 0x10 else ()):
-            s.set_word(0x10, 0xABCD)
-            s.lend_table(slider(begin=begin, end=end, mode=mode))
-            for x, y in ((100, 50), (101, 51), (150, 100), (299, 249), (300, 250), (0, 0), (799, 479), (200, 479), (0, 150)):
-                s.contact(x, y)
-                s.word(0x10)
-            s.lift()
     s.title("the edges, and the first record of the current page")
     s.lend_table(key(code=1, page=1) + key(code=2, area=(100, 50, 100, 50)) + key(code=3, area=(100, 50, 101, 51), after=1) + key(code=4, area=(0, 0, 799, 479)))
     for x, y in ((100, 50), (101, 50), (101, 51), (99, 50), (102, 51), (100, 49), (100, 52)):
@@ -362,6 +355,64 @@ def acting(s):
         s.lift()
         s.all()
     s.send(0x81, [0x00, 0x20])
+
+
+def sliding(s):
+    for flags, sheet in ((1, "old"), (5, "revised")):
+        s.title(f"sliders in each mode by the {sheet} sheet, pressed and dragged")
+        s.start(NOTHING_WRONG._replace(flags=flags), b"")
+        for mode in (0x00, 0x01, 0x10, 0x11, 0x20, 0x21):
+            for begin, end in ((0, 255), (255, 0), (7, 7), (0, 7), (7, 0)) + (((-30000, 30000), (30000, -30000), (-10, 10), (9, -8)) if mode < 0x10 else ()):
+                s.set_word(0x10, 0xABCD)
+                s.lend_table(slider(begin=begin, end=end, mode=mode))
+                for x, y in ((100, 50), (101, 51), (150, 100), (200, 150), (299, 249), (300, 250), (0, 0), (799, 479), (200, 479), (0, 150)):
+                    s.contact(x, y)
+                    s.word(0x10)
+                s.lift()
+        pressed_about_halves(s, sheet)
+        through_all_words(s, sheet)
+
+
+def pressed_about_halves(s, sheet):
+    s.title(f"pressed on a half, just below one and just above by the {sheet} sheet, over 200 points and 201")
+    for mode, w in ((0x00, 200), (0x11, 200), (0x20, 200), (0x01, 201), (0x10, 201), (0x21, 201)):
+        for far in (99, 100, 101, 199):
+            for begin, end in ((0, far), (far, 0)):
+                s.set_word(0x10, 0xABCD)
+                s.lend_table(slider(begin=begin, end=end, mode=mode, area=(100, 50, 100 + w, 50 + w)))
+                for d in (1, w - 1, w):
+                    s.contact(100 + d, 50 + d)
+                    s.lift()
+                    s.word(0x10)
+
+
+def through_all_words(s, sheet):
+    s.title(f"through all words over the widest screen by the {sheet} sheet")
+    s.start(s.panel.setup._replace(width=1024, height=768), b"")
+    for begin, end in ((-32768, 32767), (32767, -32768)):
+        s.lend_table(slider(begin=begin, end=end, area=(0, 0, 1023, 767)))
+        for x in (*range(0, 1024, 93), 341, 511, 512, 682, 1, 1022, 1023):
+            s.contact(x, 500)
+            s.word(0x10)
+        s.lift()
+
+
+def sheet_kept(s):
+    s.title("the sheet is the panel's: a refused start leaves it, another panel has its own, a caught slider keeps to it under another table")
+    for flags, refused in ((5, 9), (1, 13), (4, 8), (0, 12)):
+        s.start(NOTHING_WRONG._replace(flags=flags), slider(begin=0, end=7))
+        s.start(NOTHING_WRONG._replace(flags=refused))
+        for x in (299, 200, 300):
+            s.contact(x, 100)
+            s.word(0x10)
+        s.lend_table(b"")
+        for x in (299, 200):
+            s.contact(x, 100)
+            s.word(0x10)
+        s.send(0x80, [0x02, 5])
+        s.contact(299, 100)
+        s.word(0x10)
+        s.lift()
 
 
 def catching(s):
@@ -627,7 +678,7 @@ def exchanged(s):
     s.send(0x81, [0xEB, 1])
     s.curve(6)
     s.title("a refused start leaves the counts, another panel has none; the words stay")
-    s.start(NOTHING_WRONG._replace(flags=4), b"")
+    s.start(NOTHING_WRONG._replace(flags=8), b"")
     s.curve(6)
     s.start(NOTHING_WRONG._replace(flags=2), b"")
     s.curve_all()
@@ -638,8 +689,8 @@ def exchanged(s):
         s.curve(channel)
 
 
-GROUPS = (limits, starts, commands, lent, waiting, refused_contacts, acting, catching, reading, filling, all_full, each_cleared, every_mode, exchanged,
-          *watch_cases.GROUPS)
+GROUPS = (limits, starts, commands, lent, waiting, refused_contacts, acting, sliding, sheet_kept, catching, reading, filling, all_full, each_cleared,
+          every_mode, exchanged, *watch_cases.GROUPS)
 
 # What the cases must reach, and sessions drawn at random too, where there are many.
 REQUIRED = (
@@ -653,6 +704,8 @@ REQUIRED = (
     *(f"{call} 16, {waits}: {fault}" for call in ("contact", "ask") for waits in ("nothing waits", "a report waits")
       for fault in ("slices of different lengths", "more than 16 entries", "two in use share a word", "one in use is not below 7000")),
     "contact 14 before 16", "ask 14 before 16",
+    *(f"start 0: flags {flags}" for flags in range(8)), *(f"start 11: flag bit {n} alone above 2" for n in range(3, 8)),
+    *scale_sheets.REQUIRED,
 )
 
 
@@ -685,21 +738,35 @@ def some_record(r):
     page, after, address = r.choice((0, 0, 0, 1, 1, 2)), r.choice((0xFF00, 0xFFFF, 0, 1, 2)), r.choice((0x10, 0x10, 0x11, 0x12, 0x6FFF))
     x, y, wide, high = r.choice((0, 100)), r.choice((0, 50)), r.choice((0, 1, 7, 200)), r.choice((0, 1, 7, 200))
     fields = dict(page=page, address=address, area=(x, y, x + wide, y + high))
-    kind = r.randrange(3)
-    if kind == 0:
+    kind = r.choice(("key", "step", "slider"))
+    if kind == "key":
         b = key(code=r.randrange(65536), mode=r.randrange(3), after=after, **fields)
-    elif kind == 1:
+    elif kind == "step":
         mode = r.randrange(3)
         ends = sorted(r.randrange(256) for _ in range(2)) if mode else sorted(r.randrange(-32768, 32768) for _ in range(2))
         b = step(up=r.randrange(2), around=r.randrange(2), by=r.choice((1, 5, 300, 32767)), least=ends[0], greatest=ends[1], mode=mode, after=after, **fields)
     else:
-        mode = r.choice((0x00, 0x01, 0x10, 0x11, 0x20, 0x21))
-        begin, end = (r.randrange(256) if mode > 1 else r.randrange(-32768, 32768) for _ in range(2))
-        b = slider(begin=begin, end=end, mode=mode, **dict(fields, area=(x, y, x + wide + 1, y + high + 1)))
+        b = some_slider(r, x, y, page=page, address=address)
     if r.random() < 0.02:
         b = bytearray(b)
         b[r.randrange(32)] = r.randrange(256)
     return bytes(b)
+
+
+def some_slider(r, x, y, **fields):
+    """Rising or falling, over a few points or many, so that the middle often is a half; its numbers far apart or close together."""
+    mode, wide, high = r.choice((0x00, 0x01, 0x10, 0x11, 0x20, 0x21)), r.choice((1, 2, 8, 200, 201)), r.choice((1, 2, 8, 200, 201))
+    least, greatest = (0, 255) if mode > 1 else (-32768, 32767)
+    begin, end = r.randint(least, greatest), r.randint(least, greatest)
+    if r.random() < 0.3:
+        end = min(max(begin + r.randint(-9, 9), least), greatest)
+    return slider(begin=begin, end=end, mode=mode, area=(x, y, x + wide, y + high), **fields)
+
+
+def widest_slider(r):
+    """Through all words, over the widest screen; for one of 1,024 points."""
+    begin, end = r.choice(((-32768, 32767), (32767, -32768)))
+    return slider(begin=begin, end=end, page=r.randrange(3), area=(0, 0, 1023, r.choice((9, 199))), address=r.choice((0x10, 0x11, 0x12, 0x6FFF)))
 
 
 def some_table(r):
@@ -753,66 +820,123 @@ def some_frame(s, r):
     return bytes(b)
 
 
+def place_in(r, area):
+    """Often in the middle, where a slider's halves lie."""
+    xs, ys, xe, ye = area
+    if r.random() < 0.3:
+        return (xs + xe) // 2, (ys + ye) // 2
+    return r.randint(*sorted((xs, xe))), r.randint(*sorted((ys, ye)))
+
+
+def whole_records(s):
+    return list(model.records(s.table)) if len(s.table) % RECORD == 0 else []
+
+
 def some_point(s, r):
     """Mostly in or beside a record of the page that is shown, where the table has one."""
-    whole = s.table if len(s.table) % RECORD == 0 else b""
-    here = [b.area for b in model.records(whole) if b.page == s.panel.registers.page]
+    here = [b.area for b in whole_records(s) if b.page == s.panel.registers.page]
     if here and r.random() < 0.7:
-        xs, ys, xe, ye = r.choice(here)
         beside = r.choice((0, 0, 0, 1))
-        return tuple(min(max(r.randint(*sorted(ends)) + r.randint(-beside, beside), 0), 65535) for ends in ((xs, xe), (ys, ye)))
+        return tuple(min(max(n + r.randint(-beside, beside), 0), 65535) for n in place_in(r, r.choice(here)))
     return r.choice((0, 1, 99, 100, 101, r.randrange(310), 319, 320)), r.choice((0, 49, 50, 51, r.randrange(260), 269, 270))
 
 
-def draw_session(s, r):
+def draw_stroke(s, r):
+    """The page of a slider is shown, and the slider pressed and dragged; its word is looked at each time."""
+    sliders = [b for b in whole_records(s) if b.code == 0xFE03]
+    if sliders:
+        slid = r.choice(sliders)
+        s.ask_all()
+        s.lift()
+        s.send(0x80, [0x03, *two(slid.page)])
+        for _ in range(r.randrange(1, 5)):
+            s.contact(*place_in(r, slid.area))
+            s.slider_words()
+
+
+def draw_start(s, r):
+    """A panel of either sheet, now and then behind a start that is refused, or with a screen as wide as there is; and a table."""
     pairs = ((0x5A, 0xA5), (0x5A, 0xA5), (0xFF, 0xFF), (0x80, 0x03), (0, 0))
-    s.start(Setup(*r.choice(pairs), r.choice((0, 1, 1, 2, 3, 3, 3)), 3, 320, 270), b"")
-    s.lend_table(some_table(r))
+    setup, widest = Setup(*r.choice(pairs), r.choice((0, 1, 1, 2, 3, 3, 3)) + r.choice((0, 4)), 3, 320, 270), b""
+    if r.random() < 0.3:
+        s.start(setup._replace(flags=setup.flags | 1 << r.randrange(3, 8)))
+    if r.random() < 0.3:
+        setup, widest = setup._replace(width=1024), widest_slider(r)
+    s.start(setup, b"")
+    s.lend_table(widest + some_table(r))
+
+
+def draw_frames(s, r):
+    line = b"".join(some_frame(s, r) for _ in range(r.choice((1, 1, 2, 3))))
+    for _ in range(20):
+        line = line[s.bytes(line):]
+        if not line:
+            break
+        if r.random() < 0.9:
+            s.ask()
+    if r.random() < 0.85:
+        s.ask_all()
+
+
+def draw_contact(s, r):
+    if r.random() < 0.7:
+        s.ask_all()
+    s.contact(*some_point(s, r))
+    s.slider_words()
+
+
+def draw_badly_lent(s, r):
+    s.lend(r.choice((28671, 28672, 28672)), r.choice((0, 1024, 8191, 8192, 8192, 8192, 8193)), r.choice((264, 265, 300)))
+    s.ask()
+    s.contact(r.randrange(320), r.randrange(270))
+    s.lend()
+
+
+def draw_curves(s, r, what):
+    if what < 0.93:
+        s.curve(r.choice((r.randrange(CHANNELS), r.randrange(CHANNELS), r.randrange(256))))
+    elif what < 0.94:
+        s.set_curve(r.randrange(ALL_CURVES), r.randrange(65536))
+    elif what < 0.95:
+        s.ask_all()
+        fill(s, r.choice((0x01, 0x02, 0x80)), r.randrange(60000), r.randrange(900, 1100))
+    else:
+        s.ask_all()
+        s.send(0x80, [0xEB, r.choice((0x55, 0x56, 0x57, 0x5D, r.randrange(0x54, 0x5F)))])
+
+
+def draw_call(s, r, what):
+    """One call, or some that belong together; `what`, from 0 to 1, says which."""
+    if what < 0.35:
+        draw_frames(s, r)
+    elif what < 0.65:
+        draw_contact(s, r)
+    elif what < 0.75:
+        s.lift()
+    elif what < 0.80:
+        s.mark()
+    elif what < 0.84:
+        s.lend_table(some_table(r))
+    elif what < 0.86:
+        s.byte(r.choice((0, 0x5A, 0xA5, 0xFF, 3, r.randrange(256))))
+    elif what < 0.88:
+        draw_badly_lent(s, r)
+    elif what < 0.90:
+        s.set_word(r.choice((0x10, 0x11, 0x12)), r.randrange(65536))
+    elif what < 0.97:
+        draw_curves(s, r, what)
+    else:
+        s.ask_all()
+
+
+def draw_session(s, r):
+    draw_start(s, r)
     for _ in range(r.randrange(20, 60)):
         if r.random() < 0.15:
             watch_cases.lend_some(s, r)
-        what = r.random()
-        if what < 0.35:
-            line = b"".join(some_frame(s, r) for _ in range(r.choice((1, 1, 2, 3))))
-            for _ in range(20):
-                line = line[s.bytes(line):]
-                if not line:
-                    break
-                if r.random() < 0.9:
-                    s.ask()
-            if r.random() < 0.85:
-                s.ask_all()
-        elif what < 0.65:
-            if r.random() < 0.7:
-                s.ask_all()
-            s.contact(*some_point(s, r))
-        elif what < 0.75:
-            s.lift()
-        elif what < 0.80:
-            s.mark()
-        elif what < 0.84:
-            s.lend_table(some_table(r))
-        elif what < 0.86:
-            s.byte(r.choice((0, 0x5A, 0xA5, 0xFF, 3, r.randrange(256))))
-        elif what < 0.88:
-            s.lend(r.choice((28671, 28672, 28672)), r.choice((0, 1024, 8191, 8192, 8192, 8192, 8193)), r.choice((264, 265, 300)))
-            s.ask()
-            s.contact(r.randrange(320), r.randrange(270))
-            s.lend()
-        elif what < 0.90:
-            s.set_word(r.choice((0x10, 0x11, 0x12)), r.randrange(65536))
-        elif what < 0.93:
-            s.curve(r.choice((r.randrange(CHANNELS), r.randrange(CHANNELS), r.randrange(256))))
-        elif what < 0.94:
-            s.set_curve(r.randrange(ALL_CURVES), r.randrange(65536))
-        elif what < 0.95:
-            s.ask_all()
-            fill(s, r.choice((0x01, 0x02, 0x80)), r.randrange(60000), r.randrange(900, 1100))
-        elif what < 0.97:
-            s.ask_all()
-            s.send(0x80, [0xEB, r.choice((0x55, 0x56, 0x57, 0x5D, r.randrange(0x54, 0x5F)))])
-        else:
-            s.ask_all()
+        if r.random() < 0.1:
+            draw_stroke(s, r)
+        draw_call(s, r, r.random())
     s.all()
     s.ask_all()
     s.curve_all()

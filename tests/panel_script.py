@@ -2,6 +2,7 @@
 import collections
 
 import model
+import scale_sheets
 from model import CHANNELS, KEPT, RECORD, Setup, WatchList, two
 
 ALL_WORDS, ALL_CURVES, ALL_ROOM, ALL_ENTRIES = 28700, 8200, 300, 20
@@ -18,6 +19,7 @@ class Script:
         self.words, self.curves, self.room = [0] * ALL_WORDS, [UNTOUCHED] * ALL_CURVES, bytearray(b"\xEE" * ALL_ROOM)
         self.addresses, self.uses, self.values = ([0] * ALL_ENTRIES for _ in range(3))
         self.n_listed = 0, 0, 0     # how much of the watch list's three slices is lent
+        self.unseen = scale_sheets.Unseen()
 
     def call(self, letter, arguments, line=None):
         self.input += letter.encode() + bytes(arguments)
@@ -43,6 +45,12 @@ class Script:
 
     def count_contact(self, was_down, page, caught, x, y):
         self.count(*contact_did(self.table, was_down, page, caught, x, y))
+        if slider := slider_that_stored(self.table, was_down, page, caught, x, y):
+            self.unseen.stored(slider.word, self.words[slider.word], slider_met(self.panel.setup, slider, x, y, was_down))
+
+    def count_seen(self, addresses):
+        """What sliders have met whose words are looked at."""
+        self.reached.update(self.unseen.looked_at(addresses, self.words))
 
     def count_sent(self, was_down, page, caught, x, y, due):
         """What a contact that was done sent, of the places that were due then."""
@@ -133,6 +141,7 @@ class Script:
         number, wrong, panel = model.start(setup, self.table)
         self.panel = panel or self.panel
         self.count("start", number)
+        self.count(f"start {number}:", flags_told(setup.flags))
         self.call("S", bytes((setup.h1, setup.h2, setup.flags)) + two(setup.pages) + two(setup.width) + two(setup.height),
                   f"S {number}" + (f" {wrong}" if number == 13 else ""))
 
@@ -221,10 +230,12 @@ class Script:
 
     def word(self, address):
         self.call("V", two(address), f"V {address:04x} {self.words[address]:04x}")
+        self.count_seen([address])
 
     def all(self):
         r = self.panel.registers
         self.call("D", b"", f"D{spelled(r.all())} page {r.page:04x} backlight {r.backlight:02x} buzzer {r.buzzer:02x} words {sum_of(self.words)}")
+        self.count_seen(self.unseen.addresses())
 
     # Calls that belong together
 
@@ -242,6 +253,11 @@ class Script:
         for channel in range(CHANNELS):
             self.curve(channel)
 
+    def slider_words(self):
+        """The words that sliders have stored since they were last looked at."""
+        for address in self.unseen.addresses():
+            self.word(address)
+
     def send_bad(self, command, data, ask=True):
         """With a wrong check value, and a mark, so that nothing of it stays."""
         b = bytearray(model.frame(self.panel.setup, command, bytes(data)))
@@ -253,11 +269,34 @@ class Script:
             self.ask_all()
 
 
+def acting_record(table, page, x, y):
+    return next((r for r in model.records(table) if r.page == page and r.holds(x, y)), None)
+
+
+def slider_that_stored(table, was_down, page, caught, x, y):
+    """The slider that stores at a contact that was not refused, as `contact_did` is told of it; None where none does."""
+    record = caught if was_down else acting_record(table, page, x, y)
+    return record if record and record.code == 0xFE03 else None
+
+
+def slider_met(setup, slider, x, y, was_down):
+    """What a slider that stores at a point has met, of what scale_sheets names."""
+    return scale_sheets.met(scale_sheets.SHEETS[setup.revised], slider.mode // 16, *slider.ends, *slider.along(x, y), was_down)
+
+
+def flags_told(flags):
+    """The flags of a setup: which they are, or of the bits above 2 which one is set, where it is the only one."""
+    above = flags // 8 * 8
+    if above.bit_count() > 1:
+        return "several flag bits above 2"
+    return f"flag bit {above.bit_length() - 1} alone above 2" if above else f"flags {flags}"
+
+
 def contact_did(table, was_down, page, caught, x, y):
     """What a contact that was not refused did: the panel was up or down, on a page, with a slider caught or None."""
     if was_down:
         return "contact while down:", "a slider caught" if caught else "none caught"
-    acted = next((r for r in model.records(table) if r.page == page and r.holds(x, y)), None)
+    acted = acting_record(table, page, x, y)
     if acted is None:
         return "contact while up:", "no record"
     kind = {0xFE05: "key", 0xFE02: "step", 0xFE03: "slider"}[acted.code]

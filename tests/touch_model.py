@@ -1,13 +1,16 @@
 #!/usr/bin/env python3
-"""Setup and touch table of document 01, written from the document alone: a model to hold the touch library against.
+"""Setup and touch table of document 01, as 02, §5, changes them, written from the documents alone: a model to hold the touch library against.
 
     touch_model.py            what crates/touch_cases must print for the cases below
     touch_model.py --input    those cases, as that program reads them
 
-`tests/random touch` draws others.
+`tests/random touch` draws others. Both count what their sliders meet, and fail where something on REQUIRED was never reached.
 """
+import collections
 import random
 import sys
+
+import scale_sheets
 
 MOST_RECORDS = 128
 
@@ -15,7 +18,7 @@ MOST_RECORDS = 128
 # ---- the rules
 
 def setup_number(s):
-    good = (s["flags"] & ~3) == 0 and 1 <= s["pages"] <= 65280 and 1 <= s["width"] <= 1024 and 1 <= s["height"] <= 768
+    good = (s["flags"] & ~7) == 0 and 1 <= s["pages"] <= 65280 and 1 <= s["width"] <= 1024 and 1 <= s["height"] <= 768
     return 0 if good else 11
 
 
@@ -102,7 +105,25 @@ def value(part, w):
     return signed(w) if part == 0 else w >> 8 if part == 1 else w & 0xFF
 
 
-def act(b, old, x, y):
+def is_revised(s):
+    """Bit 2 chooses the sheet, whatever the other bits are."""
+    return s["flags"] >> 2 & 1 == 1
+
+
+def along(b, x, y):
+    """A slider's axis: how far the nearest place in its area lies from the first edge, and the distance from edge to edge."""
+    xs, ys, xe, ye = area(b, 2)
+    first, last, at = (xs, xe, x) if b[0x13] % 16 == 0 else (ys, ye, y)
+    return min(max(at, first), last) - first, last - first
+
+
+def moved(s, far, d, w):
+    """How far a slider moves of `far`: the whole part and, by the revised sheet, one more where what is left is half or more."""
+    whole, left = divmod(far * d, w)
+    return whole + 1 if is_revised(s) and left + left >= w else whole
+
+
+def act(s, b, old, x, y):
     code, mode = word(b, 0x0E), b[0x13]
     if code == 0xFE05:
         return stored(mode, old, word(b, 0x14))
@@ -117,23 +138,25 @@ def act(b, old, x, y):
                 t = least if t < least else greatest
         return stored(mode, old, t)
     if code == 0xFE03:
-        part, axis = divmod(mode, 16)
-        xs, ys, xe, ye = area(b, 2)
-        first, last, at = (xs, xe, x) if axis == 0 else (ys, ye, y)
-        begin, end = signed(word(b, 0x1C)), signed(word(b, 0x1E))
-        d, w = min(max(at, first), last) - first, last - first
-        moved = abs(end - begin) * d // w if w > 0 else 0
-        return stored(part, old, begin + moved if begin <= end else begin - moved)
+        begin, end = ends_of(b)
+        d, w = along(b, x, y)
+        by = moved(s, abs(end - begin), d, w) if w > 0 else 0
+        return stored(mode // 16, old, begin + by if begin <= end else begin - by)
     return old
 
 
-def drag(b, old, x, y):
-    return act(b, old, x, y) if word(b, 0x0E) == 0xFE03 else old
+def ends_of(slider):
+    return signed(word(slider, 0x1C)), signed(word(slider, 0x1E))
+
+
+def drag(s, b, old, x, y):
+    return act(s, b, old, x, y) if word(b, 0x0E) == 0xFE03 else old
 
 
 # ---- cases
 
 SETUP = dict(h1=0x5A, h2=0xA5, flags=1, pages=16, width=800, height=480)
+SETUPS = {"": SETUP, " by the revised sheet": dict(SETUP, flags=5)}      # as a label tells them, and a setup of each
 KINDS = {"setup": 0, "judge": 1, "find": 2, "act": 3, "drag": 4}
 
 
@@ -159,7 +182,7 @@ def answer(c):
         return judge(s, b)
     if kind == "find":
         return find(b, c["page"], c["x"], c["y"])
-    return "%04x" % (act if kind == "act" else drag)(b, c["old"], c["x"], c["y"])
+    return "%04x" % (act if kind == "act" else drag)(s, b, c["old"], c["x"], c["y"])
 
 
 def patched(base, *patches):
@@ -193,7 +216,7 @@ def around(*numbers):
 
 
 def setups():
-    for flags in (0, 1, 2, 3, 4, 5, 8, 128, 255):
+    for flags in (*range(17), 24, 32, 36, 64, 68, 128, 132, 248, 251, 255):
         yield case("setup", f"setup flags {flags}", dict(SETUP, flags=flags))
     for field, numbers in (("pages", around(1, 65280) + [65535]), ("width", around(1, 1024)), ("height", around(1, 768))):
         for n in numbers:
@@ -325,37 +348,105 @@ def acting():
     for old in (0, 0x7F00, 0xFF00):
         b = patched(STEP, (*MODE, 1), (*GREATEST, 255), (*STEP_BY, 200))
         yield case("act", f"step high byte up 200 in 0..255 from {old:04X}", table=b, old=old)
-    ends = ((0, 1000), (1000, 0), (0xFFF6, 10), (10, 0xFFF6), (0, 7), (7, 0), (5, 5), (0x8000, 0x7FFF), (0x7FFF, 0x8000))
-    for begin, end in ends:
-        for axis in (0, 1):
-            b = patched(SLIDER, (*MODE, axis), (*BEGIN, begin), (*END, end))
-            first = (100, 50)[axis]
-            for d in (0, 1, 2, 50, 99, 100, 101, 199, 200):
-                x, y = ((first + d, 77), (150, first + d))[axis]
-                yield case("act", f"slider {'down' if axis else 'across'} from {signed(begin)} to {signed(end)} at {d} of 200", table=b, x=x, y=y)
-    for mode in (0x00, 0x10, 0x11, 0x20, 0x21):
-        for begin, end in ((0, 255), (255, 0), (3, 200)):
-            for d in (0, 1, 100, 199, 200):
-                b = patched(SLIDER, (*MODE, mode), (*BEGIN, begin), (*END, end))
-                yield case("act", f"slider mode {mode:02X} from {begin} to {end} at {d} of 200 over ABCD", table=b, x=100 + d, y=50 + d, old=0xABCD)
     yield case("act", "other code over 1234", table=patched(KEY, (*CODE, 0xFE01)), old=0x1234)
 
 
+def slider_over(first, w, begin, end, mode=0):
+    """A slider that is w points long, along the axis of its mode; begin and end as signed numbers."""
+    box = AREA[:2] + two(first) + AREA[4:6] + two(first + w) if mode % 16 else two(first) + AREA[2:4] + two(first + w) + AREA[6:]
+    n = int.from_bytes(box, "big")
+    return patched(SLIDER, (*MODE, mode), (2, 8, n), (0x14, 8, n), (*BEGIN, begin & 0xFFFF), (*END, end & 0xFFFF))
+
+
+def slider_points():
+    """Sliders of 200 points, in each mode and by both sheets."""
+    ends = ((0, 1000), (1000, 0), (-10, 10), (10, -10), (0, 7), (7, 0), (5, 5), (-32768, 32767), (32767, -32768))
+    for by, setup in SETUPS.items():
+        for begin, end in ends:
+            for axis in (0, 1):
+                b, first = slider_over((100, 50)[axis], 200, begin, end, axis), (100, 50)[axis]
+                for d in (0, 1, 2, 50, 99, 100, 101, 199, 200):
+                    x, y = ((first + d, 77), (150, first + d))[axis]
+                    yield case("act", f"slider {'down' if axis else 'across'} from {begin} to {end} at {d} of 200{by}", setup, b, x=x, y=y)
+        for mode in (0x00, 0x10, 0x11, 0x20, 0x21):
+            for begin, end in ((0, 255), (255, 0), (3, 200)):
+                for d in (0, 1, 100, 199, 200):
+                    b = patched(SLIDER, (*MODE, mode), (*BEGIN, begin), (*END, end))
+                    yield case("act", f"slider mode {mode:02X} from {begin} to {end} at {d} of 200 over ABCD{by}", setup, b, x=100 + d, y=50 + d, old=0xABCD)
+
+
+def slider_halves():
+    """Places on a half, just below one and just above; words around 0, and bytes at both ends."""
+    for by, setup in SETUPS.items():
+        for w in (2, 3, 4, 7, 8, 200, 201, 1022, 1023):
+            for far in filter(None, (*around(w // 2), w // 2 + 3 * w)):
+                for d in sorted({1, w // 2, w - 1}):
+                    for begin, end in ((-7, far - 7), (far - 7, -7)):
+                        yield case("act", f"slider from {begin} to {end} at {d} of {w}{by}", setup, slider_over(0, w, begin, end), x=d, y=77)
+        for mode in (0x10, 0x11, 0x20, 0x21):
+            for w in (2, 6, 200, 201):
+                for far, d in ((w // 2 - 1, 1), (w // 2, 1), (w // 2 + 1, 1), (253, w // 2)):
+                    for begin, end in ((255 - far, 255), (far, 0)):
+                        b = slider_over(50, w, begin, end, mode)
+                        yield case("act", f"slider mode {mode:02X} from {begin} to {end} at {d} of {w} over ABCD{by}", setup, b, x=50 + d, y=50 + d, old=0xABCD)
+
+
+def slider_through_all_words():
+    """Over the widest screen; rising by the revised sheet at every place."""
+    some = (*range(0, 1023, 33), 511, 512, 1022, 1023)
+    for begin, end in ((-32768, 32767), (32767, -32768)):
+        for by, setup in SETUPS.items():
+            for d in range(1024) if by and begin < end else some:
+                yield case("act", f"slider from {begin} to {end} at {d} of 1023{by}", setup, slider_over(0, 1023, begin, end), x=d, y=77)
+
+
+def sheet_bits():
+    """Bit 2 alone chooses the sheet, whatever the other bits are; keys and steps know none."""
+    b = slider_over(100, 200, 0, 7)
+    for flags in (*range(17), 0x14, 0x20, 0x24, 0x40, 0x44, 0x80, 0x84, 0xF8, 0xFB, 0xFC, 0xFF):
+        for kind in ("act", "drag"):
+            yield case(kind, f"{kind} from 0 to 7 at 199 of 200, flags {flags:02X}", dict(SETUP, flags=flags), b, x=299, y=100)
+    for by, setup in SETUPS.items():
+        for name in ("key", "step"):
+            for old in (0, 0x0064, 0xFFFF):
+                yield case("act", f"{name} over {old:04X}{by}", setup, BASES[name], x=299, y=100, old=old)
+
+
 def dragging():
-    for begin, end in ((0, 1000), (1000, 0)):
-        for axis in (0, 1):
-            b = patched(SLIDER, (*MODE, axis), (*BEGIN, begin), (*END, end))
-            for at in (0, 49, 50, 51, 99, 100, 101, 249, 250, 251, 299, 300, 301, 1000, 0xFFFF):
-                yield case("drag", f"drag {'down' if axis else 'across'} from {begin} to {end} to {at}", table=b, x=at, y=at)
-    for name in ("key", "step"):
-        yield case("drag", f"drag a {name} over 1234", table=BASES[name], x=100, y=50, old=0x1234)
-    yield case("drag", "drag over one point", table=patched(SLIDER, (*XE, 100)), x=100, y=50, old=0x1234)
-    yield case("drag", "drag over an area turned round", table=patched(SLIDER, (*XE, 90)), x=95, y=50, old=0x1234)
+    for by, setup in SETUPS.items():
+        for begin, end in ((0, 1000), (1000, 0), (0, 7), (7, 0), (-32768, 32767)):
+            for axis in (0, 1):
+                b = slider_over((100, 50)[axis], 200, begin, end, axis)
+                for at in (0, 49, 50, 51, 99, 100, 101, 150, 200, 249, 250, 251, 299, 300, 301, 1000, 0xFFFF):
+                    yield case("drag", f"drag {'down' if axis else 'across'} from {begin} to {end} to {at}{by}", setup, b, x=at, y=at)
+        for name in ("key", "step"):
+            yield case("drag", f"drag a {name} over 1234{by}", setup, BASES[name], x=100, y=50, old=0x1234)
+        yield case("drag", f"drag over one point{by}", setup, patched(SLIDER, (*XE, 100)), x=100, y=50, old=0x1234)
+        yield case("drag", f"drag over an area turned round{by}", setup, patched(SLIDER, (*XE, 90)), x=95, y=50, old=0x1234)
 
 
 def fixed():
-    for group in (setups, fields_of_all, fields_of_each, tables, finding, acting, dragging):
+    """So many that `rt try touch_cases` still ends: its interpreter takes a limited number of steps."""
+    for group in (setups, fields_of_all, fields_of_each, tables, finding, acting, slider_points, slider_halves, slider_through_all_words, sheet_bits,
+                  dragging):
         yield from group()
+
+
+def some_slider(r):
+    """A slider, and a point of its axis that is often the middle, where halves lie, or near it or an edge."""
+    mode, w = r.choice((0, 16, 32)) + r.randrange(2), r.choice((1, 2, 3, 8, 199, 200, 254, 1023))
+    least, greatest = (0, 255) if mode > 1 else (-32768, 32767)
+    some, other = r.randint(least, greatest), r.randint(least, greatest)
+    close = min(max(some + r.randint(-9, 9), least), greatest)
+    begin, end = r.choice(((least, greatest), (greatest, least), (some, other), (some, close)))
+    first = r.randint(0, 1023 - w)
+    d = r.choice((w // 2, w // 2, w // 2 + r.choice((-1, 1)), 1, w - 1, r.randint(0, w), r.randint(-20, w + 20)))
+    return slider_over(first, w, begin, end, mode), max(0, first + d)
+
+
+def some_sheet(r):
+    """A setup of either sheet, sometimes with other flags that are wrong."""
+    return dict(SETUP, flags=r.choice((1, 5, 1, 5, r.randrange(256))))
 
 
 def drawn(seed, count):
@@ -377,9 +468,10 @@ def drawn(seed, count):
 
     for i in range(count):
         kind = r.choice(list(KINDS))
-        setup = dict(h1=r.randrange(256), h2=r.randrange(256), flags=r.randrange(8), pages=number(), width=number(), height=number())
+        flags = r.choice((r.randrange(8), 1 << r.randrange(8), r.randrange(256)))
+        setup = dict(h1=r.randrange(256), h2=r.randrange(256), flags=flags, pages=number(), width=number(), height=number())
         if kind != "setup" and r.random() < 0.9:
-            setup = SETUP
+            setup = some_sheet(r)
         table = b"".join(made() for _ in range(r.choice((0, 1, 1, 2, 3, 5, 20))))
         if kind in ("act", "drag"):
             table = made()
@@ -388,7 +480,36 @@ def drawn(seed, count):
         if r.random() < 0.1:
             table += b"\xFF\xFF" + bytes(30) + made()
         x, y = r.choice((100, 300, r.randrange(90, 310), number())), r.choice((50, 250, r.randrange(40, 260), number()))
+        if kind in ("act", "drag") and r.random() < 0.5:
+            table, place = some_slider(r)
+            x, y = place, place
         yield case(kind, f"{kind} {i}", setup, table, page=r.choice((3, 3, 3, number())), x=x, y=y, old=number())
+
+
+# ---- What the cases must reach, and cases drawn at random too, where there are many
+
+UNDER_WRONG_FLAGS = "slider by the {} sheet under flags that are wrong"
+REQUIRED = (*scale_sheets.REQUIRED, *(UNDER_WRONG_FLAGS.format(sheet) for sheet in scale_sheets.SHEETS))
+
+
+def met(c):
+    """What a case's slider meets, where one stores."""
+    s, b = c["setup"], c["table"]
+    if c["kind"] not in ("act", "drag") or word(b, 0x0E) != 0xFE03:
+        return
+    sheet, part, (d, w) = scale_sheets.SHEETS[is_revised(s)], min(b[0x13] // 16, 2), along(b, c["x"], c["y"])
+    if w > 0:
+        yield from scale_sheets.met(sheet, part, *ends_of(b), d, w, c["kind"] == "drag")
+        if s["flags"] > 7:
+            yield UNDER_WRONG_FLAGS.format(sheet)
+
+
+def reached(cases):
+    return collections.Counter(what for c in cases for what in met(c))
+
+
+def missing(counts):
+    return [what for what in REQUIRED if not counts[what]]
 
 
 def line_of(c):
@@ -398,7 +519,10 @@ def line_of(c):
 def main(words):
     if words not in ([], ["--input"]):
         sys.exit(__doc__)
-    for c in fixed():
+    cases = list(fixed())
+    if missing(reached(cases)):
+        sys.exit(f"never reached: {', '.join(missing(reached(cases)))}")
+    for c in cases:
         sys.stdout.buffer.write(encoded(c) if words else f"{line_of(c)}\n".encode())
 
 

@@ -4,8 +4,9 @@
     trace_cases.py             what panel_trace must print (crates/panel_trace/stdout)
     trace_cases.py --input     the trace (crates/panel_trace/stdin)
 
-One session with checking and acknowledging on: the command cases of tests/panel_model.py, touches of every kind of record, noise and marks.
-It has every kind of line but X, which would end it; the traces that end in X are among the examples and those that tests/compare draws.
+One session with checking and acknowledging on and the revised scale sheet: the command cases of tests/panel_model.py, touches of every kind of record,
+noise and marks. It has every kind of line but X, which would end it; the traces that end in X, and those of the old sheet, are among the examples and those
+that tests/compare draws.
 """
 import random
 import sys
@@ -18,7 +19,7 @@ from panel_script import END, key, slider, step
 from trace_draw import Session
 from trace_text import spoiled
 
-SETUP = limit_records.SETUP._replace(flags=3)
+SETUP = limit_records.SETUP._replace(flags=7)
 TABLE = b"".join((
     *(key(code=0x5678 + mode, mode=mode, page=mode, address=0x20 + mode) for mode in (0, 1, 2)),
     *(step(up=up, around=around, mode=mode, page=3 + mode, area=(up * 100, around * 100, up * 100 + 99, around * 100 + 99), address=0x20 + mode)
@@ -41,9 +42,6 @@ class Cases(Session):
 
     def register(self, address):
         self.send(0x81, [address, 1])
-
-    def word(self, address):
-        self.send(0x83, two(address) + b"\x01")
 
     def all(self):
         self.send(0x81, [0x00, 0x20])
@@ -77,7 +75,7 @@ def sliders(s):
     for page in range(6, 13):
         s.show(page)
         for left in (100, 400):
-            for x, y in ((left, 50), (left + 1, 51), (left + 100, 150), (left + 199, 249), (left + 200, 250), (0, 0), (799, 479), (800, 0)):
+            for x, y in ((left, 50), (left + 1, 51), (left + 2, 52), (left + 100, 150), (left + 199, 249), (left + 200, 250), (0, 0), (799, 479), (800, 0)):
                 s.contact(x, y)
                 s.send(0x83, [0, 0x24, 1])
                 s.word(0x6FFF)

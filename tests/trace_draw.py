@@ -4,7 +4,7 @@ import random
 import limit_records
 import model
 from model import MOST_RECORDS, RECORD, Setup, two
-from panel_model import some_clear, some_curve_data, some_data, some_frame, some_point, some_record
+from panel_model import place_in, some_clear, some_curve_data, some_data, some_frame, some_point, some_record, widest_slider
 from panel_script import END
 from trace_text import BYTE_KIND, CONTACT_KIND, LIFT_KIND, QUIET_KIND, RECORD_KIND, SETUP_KIND, joined, on_line, setup_bytes, split, spoiled
 
@@ -18,7 +18,7 @@ BUFFER = 65536      # what a program may read or write at once
 # ---- Setups
 
 def some_setup(r):
-    return Setup(*r.choice(HEADERS), r.choice((0, 1, 1, 1, 2, 3, 3, 3)), PAGES, WIDTH, HEIGHT)
+    return Setup(*r.choice(HEADERS), r.choice((0, 1, 1, 1, 2, 3, 3, 3)) + r.choice((0, 4)), PAGES, WIDTH, HEIGHT)
 
 
 def limit_setup(r):
@@ -26,8 +26,8 @@ def limit_setup(r):
     return some_setup(r)._replace(pages=r.choice((PAGES, 65280)), width=r.choice((WIDTH, 1024)), height=r.choice((HEIGHT, 768)))
 
 
-WRONG_SETUPS = [(field, n) for field, numbers in (("flags", (4, 128, 255)), ("pages", (0, 65281, 65535)), ("width", (0, 1025)), ("height", (0, 769)))
-                for n in numbers]
+WRONG_SETUPS = [(field, n) for field, numbers in (
+    ("flags", (8, 16, 32, 64, 128, 255)), ("pages", (0, 65281, 65535)), ("width", (0, 1025)), ("height", (0, 769))) for n in numbers]
 
 
 def wrong_setup(r, nth):
@@ -37,14 +37,18 @@ def wrong_setup(r, nth):
 
 # ---- Tables
 
-def good_record(r, setup):
-    while not model.Record(b := some_record(r)).is_good(setup):
+def good_record(r, setup, wanted=lambda record: True):
+    while not ((record := model.Record(some_record(r))).is_good(setup) and wanted(record)):
         pass
-    return b
+    return record.bytes
 
 
-def good_records(r, setup, count):
-    return b"".join(good_record(r, setup) for _ in range(count))
+def is_slider(record):
+    return record.code == SLIDER_CODE
+
+
+def good_records(r, setup, count, *wanted):
+    return b"".join(good_record(r, setup, *wanted) for _ in range(count))
 
 
 def good_table(r, setup):
@@ -190,17 +194,38 @@ class Session:
         else:
             self.contact(*some_point(self.beside, self.r))
 
-    def press(self):
-        """Any record, on its page; an earlier one may hold the point too."""
-        records = list(model.records(self.beside.table))
-        if not records:
-            return self.touch()
-        record = self.r.choice(records)
+    def records(self):
+        return list(model.records(self.beside.table))
+
+    def turn_to(self, record):
+        """Shows its page, with nothing down."""
         if self.panel.is_down:
             self.lift()
         if self.panel.registers.page != record.page:
             self.send(0x80, [0x03, *two(record.page)])
-        self.contact(*self.inside(record.area))
+
+    def press(self):
+        """Any record, on its page; an earlier one may hold the point too."""
+        if not self.records():
+            return self.touch()
+        record = self.r.choice(self.records())
+        self.turn_to(record)
+        self.contact(*place_in(self.r, record.area))
+
+    def word(self, address):
+        self.send(0x83, two(address) + b"\x01")
+
+    def stroke(self):
+        """A slider is pressed and perhaps dragged, and its word read each time: nothing else in a trace shows what it has stored."""
+        sliders = list(filter(is_slider, self.records()))
+        if not sliders:
+            return self.touch()
+        slider = self.r.choice(sliders)
+        self.turn_to(slider)
+        self.send(0x80, [0x0B, 0x01])
+        for _ in range(self.r.randrange(1, 5)):
+            self.contact(*place_in(self.r, slider.area))
+            self.word(slider.word)
 
     def change_page(self):
         last = self.setup.pages - 1
@@ -209,14 +234,14 @@ class Session:
     def drag(self):
         """Catches a slider of the page, where it has one, and moves on; in between frames come, and other things."""
         page = self.panel.registers.page
-        sliders = [record.area for record in model.records(self.beside.table) if record.code == SLIDER_CODE and record.page == page]
+        sliders = [record.area for record in self.records() if is_slider(record) and record.page == page]
         if not sliders:
             return self.change_page()
         if self.panel.is_down:
             self.lift()
         self.send(0x80, [0x0B, 0x01])
         area = self.r.choice(sliders)
-        self.contact(*self.inside(area))
+        self.contact(*place_in(self.r, area))
         for _ in range(self.r.randrange(1, 7)):
             self.r.choice((self.move_in, self.move_anywhere, self.interrupt))(area)
         if self.r.random() < 0.7:
@@ -229,12 +254,8 @@ class Session:
             self.contact(self.setup.width - 1, self.r.choice((0, self.setup.height - 1)))
             self.move_in(area)
 
-    def inside(self, area):
-        xs, ys, xe, ye = area
-        return self.r.randint(xs, xe), self.r.randint(ys, ye)
-
     def move_in(self, area):
-        self.contact(*self.inside(area))
+        self.contact(*place_in(self.r, area))
 
     def move_anywhere(self, area):
         self.contact(self.r.randrange(self.setup.width), self.r.randrange(self.setup.height))
@@ -272,11 +293,21 @@ class Session:
         self.send(0x81, [0x00, 0x1D])
 
     def run(self):
-        pieces = {self.frames: 6, self.noisy: 3, self.false_front: 3, self.frames_inside: 3, self.cut_frame: 2, self.echo: 2, self.longest_frame: 1,
-                  self.curves: 3, self.full_curve: 0.3, self.limit_read: 1, self.quiet: 1, self.touch: 5, self.press: 4, self.drag: 5, self.change_page: 2,
-                  self.contact_while_off: 1, self.look_back: 2}
-        for piece in self.r.choices(list(pieces), list(pieces.values()), k=self.r.randrange(5, 30)):
+        self.draw({self.frames: 6, self.noisy: 3, self.false_front: 3, self.frames_inside: 3, self.cut_frame: 2, self.echo: 2, self.longest_frame: 1,
+                   self.curves: 3, self.full_curve: 0.3, self.limit_read: 1, self.quiet: 1, self.touch: 5, self.press: 4, self.drag: 5, self.stroke: 4,
+                   self.change_page: 2, self.contact_while_off: 1, self.look_back: 2}, self.r.randrange(5, 30))
+        return self.ended()
+
+    def run_sliders(self):
+        self.draw({self.stroke: 10, self.drag: 2, self.frames: 1, self.press: 1, self.look_back: 1}, self.r.randrange(20, 40))
+        return self.ended()
+
+    def draw(self, pieces, count):
+        """Pieces by their weights."""
+        for piece in self.r.choices(list(pieces), list(pieces.values()), k=count):
             piece()
+
+    def ended(self):
         self.quiet()
         self.look_back()
         return bytes(self.trace)
@@ -362,7 +393,13 @@ def refused_table(r, nth):
 def limit_table(r, nth):
     """A session over a table of records at the limits, in any order."""
     table = b"".join(r.sample(limit_records.RIGHT, len(limit_records.RIGHT)))
-    return Session(r, limit_records.SETUP._replace(flags=r.randrange(4)), table).run()
+    return Session(r, limit_records.SETUP._replace(flags=r.randrange(8)), table).run()
+
+
+def slider_session(r, nth):
+    """Mostly sliders, of either sheet, one of them as wide as a screen may be."""
+    setup = some_setup(r)._replace(flags=nth % 8, width=1024)
+    return Session(r, setup, widest_slider(r) + good_records(r, setup, 8, is_slider)).run_sliders()
 
 
 def long_table(r, nth):
@@ -425,7 +462,7 @@ def long_session(r, nth):
 
 # Each seed takes its turn in this list, so that a few hundred seeds meet everything.
 TURNS = (wrong_trace, refused_setup, refused_table, long_table, cut_anywhere, without_events, limit_session, smallest, wrong_trace, refused_table,
-         limit_table, refused_table, refused_table, long_session) + (plain_session,) * 11
+         limit_table, refused_table, refused_table, long_session) + (plain_session,) * 9 + (slider_session,) * 2
 
 
 def drawn(seed):

@@ -2,7 +2,8 @@
 import collections
 
 import model
-from panel_script import contact_did
+import scale_sheets
+from panel_script import contact_did, flags_told, slider_met, slider_that_stored
 from trace_draw import BUFFER, WAYS, drawn
 from trace_text import BYTE_KIND, CONTACT_KIND, LIFT_KIND, QUIET_KIND
 
@@ -16,12 +17,15 @@ class Watched(model.Trace):
         self.reached, self.caught, self.page = collections.Counter(), None, 0
         self.sent, self.given = set(), b""      # the acknowledgements, and what has come of the stretch, its last bytes
         self.history = [0] * model.CHANNELS     # of each channel, how many numbers have come since its last clear
+        self.unseen = scale_sheets.Unseen()     # what sliders met counts once an 83 shows it
 
     def count(self, what):
         self.reached[what] += 1
 
     def fail(self, *numbers):
         self.count(f"X {numbers[0]}")
+        if numbers[0] == 11:
+            self.count(f"X 11: {flags_told(self.setup.flags)}")
         super().fail(*numbers)
 
     def start(self):
@@ -30,7 +34,7 @@ class Watched(model.Trace):
             self.started(self.setup)
 
     def started(self, setup):
-        self.count(f"started: checking {'on' if setup.checking else 'off'}, acknowledging {'on' if setup.acknowledging else 'off'}")
+        self.count(f"started: {flags_told(setup.flags)}")
         if setup.h1 == setup.h2:
             self.count("started: header FF FF" if setup.h1 == 0xFF else "started: H1 equal to H2, not FF")
         if len(self.table) == model.MOST_RECORDS * model.RECORD:
@@ -59,7 +63,10 @@ class Watched(model.Trace):
     def contact_made(self, line, was_down, x, y):
         self.count(f"contact {line}")
         if line == "T 0":
-            self.count(" ".join(contact_did(self.table, was_down, self.page, self.caught, x, y)))
+            did = self.table, was_down, self.page, self.caught, x, y
+            self.count(" ".join(contact_did(*did)))
+            if slider := slider_that_stored(*did):
+                self.unseen.stored(slider.word, self.words[slider.word], slider_met(self.setup, slider, x, y, was_down))
         if self.caught:
             moved = f"dragged {'in' if self.caught.holds(x, y) else 'off'} its area"
             self.catch({"T 0": moved, "T 8": "contact off the screen", "T 9": "touch off"}[line])
@@ -84,6 +91,9 @@ class Watched(model.Trace):
         self.behind_echo(handed)
         if accepted:
             self.curves_met(command, handed.report.data, number)
+        if command == 0x83 and handed.replied:
+            address, count = model.word(handed.report.data, 0), handed.report.data[2]
+            self.reached.update(self.unseen.looked_at(range(address, address + count), self.words))
         if handed.acknowledged:
             self.sent.add(bytes(self.room[:handed.acknowledged]))
             behind = ", a reply behind it" if handed.replied else ""
@@ -190,7 +200,7 @@ SLIDER_MODES = ("00", "01", "10", "11", "20", "21")
 
 REQUIRED = [
     "E", "X 11", "X 12", "X 12: 129 records or more", "X 13", "X 15", *(f"X 15: {way.__name__.replace('_', ' ')}" for way in WAYS),
-    *(f"started: checking {a}, acknowledging {b}" for a in ("on", "off") for b in ("on", "off")),
+    *(f"started: flags {flags}" for flags in range(8)), *(f"X 11: flag bit {n} alone above 2" for n in range(3, 8)),
     "started: header FF FF", "started: H1 equal to H2, not FF", "started: 128 records",
     *(f"command {name} {number}" for name, numbers in NUMBERS.items() for number in numbers),
     *(f"84, channels named: {count}" for count in range(1, model.CHANNELS + 1)), "84 of a channel that drops its oldest",
@@ -208,4 +218,5 @@ REQUIRED = [
     *(f"catch kept: {what}" for what in (
         "dragged in its area", "dragged off its area", "contact off the screen", "touch off", "quiet mark", "bad check", "register write",
         "refused register write", "refused frame", "register read", "word read", "word write", "curve frame")),
+    *scale_sheets.REQUIRED,
 ]

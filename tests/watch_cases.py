@@ -94,6 +94,16 @@ def sent_by_records(s):
         s.lend()
 
 
+def sent_by_sheets(s):
+    for flags in (1, 5):
+        begin(s, slider(begin=0, end=7, address=0x0012), flags)
+        s.title(f"what a slider stores by the panel's sheet is what is sent, pressed and dragged, flags {flags}")
+        s.lend_list([(0x0012, 1, 0)])
+        for x in (299, 300, 200, 200, 100):
+            s.contact(x, 100)
+        s.lift()
+
+
 def sent_under_headers(s):
     s.title("unasked replies under other headers, and a panel with no entries")
     for h1, h2, flags in ((0xFF, 0xFF, 1), (0x00, 0x00, 0), (0x83, 0x83, 3), (0x12, 0x34, 2)):
@@ -150,7 +160,7 @@ def lifts(s):
     s.byte(0x5A)
     s.mark()
     s.start(NOTHING_WRONG)
-    s.start(NOTHING_WRONG._replace(flags=4))
+    s.start(NOTHING_WRONG._replace(flags=8))
     s.ask()
     press(s)
 
@@ -196,9 +206,11 @@ def noted(s):
 def not_noted(s):
     begin(s, key())
     s.title("refused writes note nothing: 3, 4; writes with a bad check; commands on registers and curves")
-    s.lend_list(entries((*WATCHED, 0x6FFF, 0x6FFE)))
-    for data in (b"\0\x10", b"\0\x10\0", b"\0\x10\0\1\0", two(0x6FFF) + bytes(4), two(0x6FFE) + bytes(6), two(0x7000) + bytes(2), two(0xFFFF) + bytes(2)):
-        s.send(0x82, data)
+    watched = *WATCHED, 0x6FFF, 0x6FFE
+    for those in ([(address, 1, s.words[address]) for address in watched], entries(watched)):
+        s.lend_list(those)
+        for data in (b"\0\x10", b"\0\x10\0", b"\0\x10\0\1\0", two(0x6FFF) + bytes(4), two(0x6FFE) + bytes(6), two(0x7000) + bytes(2), two(0xFFFF) + bytes(2)):
+            s.send(0x82, data)
     s.send_bad(0x82, [0, 0x10, 0x12, 0x34])
     s.send(0x80, [0x10, 0x12, 0x34])
     s.send(0x80, [0x02, 0x10, 0x00, 0x00])
@@ -356,7 +368,7 @@ def rooms(s):
     s.all()
 
 
-GROUPS = (due_in_order, sent_by_records, sent_under_headers, refused_contacts, lifts, noted, not_noted, lists, slices, waiting, rooms)
+GROUPS = (due_in_order, sent_by_records, sent_by_sheets, sent_under_headers, refused_contacts, lifts, noted, not_noted, lists, slices, waiting, rooms)
 
 
 # ---- Lists drawn at random

@@ -1,6 +1,6 @@
-/* The trace program of 01, with the trend curves of 02, as one would write it in plain C: state in place, a lookup for hex, reads and writes of 64 KiB. It prints what the
-   proved program prints, and is what bench/trace/run measures that against. The reader of the line is bench/line/plain.h. No headers: the
-   kit's clang has none. */
+/* The trace program of 01, with the trend curves and the scale sheets of 02, as one would write it in plain C: state in place, a lookup for hex,
+   reads and writes of 64 KiB. It prints what the proved program prints, and is what bench/trace/run measures that against. The reader of the line
+   is bench/line/plain.h. No headers: the kit's clang has none. */
 #include "../line/plain.h"
 
 typedef unsigned char u8;
@@ -16,7 +16,7 @@ enum { KEY = 0xFE05, STEP = 0xFE02, SLIDER = 0xFE03 };
 enum { BACKLIGHT = 1, BUZZER = 2, PAGE = 3, FLAG = 5, STATUS = 6, PLACE = 7, ENABLE = 0x0B, CLEAR = 0xEB };
 
 static struct { u8 h1, h2, flags; unsigned pages, width, height; } setup;
-static int checking, acknowledging, has_setup, has_started, has_caught;
+static int checking, acknowledging, revised, has_setup, has_started, has_caught;
 static u8 table[(MOST_RECORDS + 1) * RECORD], caught[RECORD], registers[256];
 static unsigned long records;
 static u16 words[WORDS];
@@ -260,7 +260,8 @@ static int slid(const u8 *b, unsigned x, unsigned y) {
     unsigned axis = b[0x13] & 15, first = word_at(b, axis ? 4 : 2), last = word_at(b, axis ? 8 : 6), at = axis ? y : x;
     int begin = signed_at(b, 0x1C), end = signed_at(b, 0x1E);
     unsigned d = at < first ? 0 : (at > last ? last : at) - first, far = end >= begin ? end - begin : begin - end;
-    int moved = (int)((unsigned long)far * d / (last - first));
+    unsigned w = last - first;
+    int moved = (int)(revised ? (2ul * far * d + w) / (2 * w) : (unsigned long)far * d / w);
     return end >= begin ? begin + moved : begin - moved;
 }
 
@@ -351,7 +352,7 @@ static void set_registers(void) {
 
 static int start(void) {
     if (has_started) return 1;
-    if (setup.flags > 3 || setup.pages - 1 >= 65280 || setup.width - 1 >= 1024 || setup.height - 1 >= 768) return fail(11);
+    if (setup.flags > 7 || setup.pages - 1 >= 65280 || setup.width - 1 >= 1024 || setup.height - 1 >= 768) return fail(11);
     if (records > MOST_RECORDS) return fail(12);
     for (unsigned long i = 0; i < records && word_at(table, i * RECORD) != 0xFFFF; i++)
         if (!is_good_record(table + i * RECORD)) return fail_record(i);
@@ -369,6 +370,7 @@ static void take_setup(const u8 *body) {
     setup.height = word_at(body, 7);
     checking = setup.flags & 1;
     acknowledging = setup.flags >> 1 & 1;
+    revised = setup.flags >> 2 & 1;
     has_setup = 1;
 }
 

@@ -15,7 +15,7 @@ use Rattle.line.specs.State.{padded}
 use Rattle.line.specs.Methods.{givenByte, givenMark, givenBytes, asked, numberOfAnswer}
 use Rattle.stores.specs.Store.{inMode, signed, wordOf}
 use Rattle.stores.specs.Step.{stepped, fenced, stepStores}
-use Rattle.stores.specs.Slider.{nearest, roundedDown, slid, slidTo, sliderStores}
+use Rattle.stores.specs.Slider.{nearest, roundedDown, roundedToNearest, roundedBy, slid, slidTo, sliderStores}
 use Rattle.touch.specs.Rounding.{roundingOf}
 use Rattle.touch.specs.Judge as Judge
 use Rattle.touch.specs.Judge.{goodStep, goodSlider, goodRecord, wrong}
@@ -74,7 +74,7 @@ unfolding computingReading isPass isReport passes stillClosed settled waiting wi
 computingReader = tt
 
 unfoldable pub computingStores : Unit {0}
-unfolding inMode signed wordOf stepped fenced stepStores nearest roundingOf roundedDown slid slidTo sliderStores
+unfolding inMode signed wordOf stepped fenced stepStores nearest roundingOf roundedBy roundedDown roundedToNearest slid slidTo sliderStores
 computingStores = tt
 
 unfoldable pub computingRegisters : Unit {0}

@@ -42,7 +42,7 @@ use Rattle.touch.specs.declared.Setup.{Setup}
 use Rattle.touch.specs.declared.Record.{Record}
 use Rattle.touch.specs.Record.{slides}
 use Rattle.touch.specs.Judge.{goodRecord}
-use Rattle.touch.specs.Setup.{goodSetup}
+use Rattle.touch.specs.Setup.{flagValues, goodSetup}
 use Rattle.touch.proofs.GoodFields.{left, right}
 use Rattle.contact.specs.declared.Catch.{Catch}
 use Rattle.contact.specs.declared.Catch.the-variants.{Free, Caught}
@@ -63,7 +63,7 @@ use Rattle.panel.proofs.Ways.{contact-ways, lift-ways, report-ways}
 -- a start
 pages-some : (setup : Setup) → goodSetup setup ≡ true → 0 < setup .pages
 pages-some setup good =
-    let a = ltb (setup .flags) 4 in
+    let a = ltb (setup .flags) flagValues in
     let b = leb 1 (setup .pages) in
     let c = leb (setup .pages) 65280 in
     let d = leb 1 (setup .width) in

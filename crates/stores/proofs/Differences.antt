@@ -1,6 +1,7 @@
 -- Whole numbers as differences n − c of two natural numbers: sums, differences and comparisons over one c are those of the n's.
 use mathlib.Core.Path.{_≡_, refl, sym, ap, _∙_}
 use mathlib.Core.Bool.{Bool, true, false}
+use mathlib.Core.Logic.{_⊎_, inl, inr}
 use Prim.Native.Nat.{ℕ, zero, suc, _+_, _-_, _≤_, _<_}
 use native.Mathlib.Nat.{lt-of-not-le, not-le-of-lt}
 use native.Mathlib.Omega.{arith}
@@ -112,3 +113,12 @@ over-one P h (negsuc m) (pos n) =
 over-one P h (negsuc m) (negsuc n) =
     let c = suc m + suc n in
     rw (sub-below (suc n) c m (omega arith), sub-below (suc m) c n (omega arith)) at (h (suc n) (suc m) c)
+
+-- of any two whole numbers one is at most the other
+pub le-or : (y z : ℤ) → (leZ y z ≡ true) ⊎ (leZ z y ≡ true)
+le-or = over-one (λ y z. (leZ y z ≡ true) ⊎ (leZ z y ≡ true)) (λ a b c. go a b c (leb a b) refl)
+  where
+    go : (a b c : ℕ) (t : Bool) → leb a b ≡ t → (leZ (subℕ a c) (subℕ b c) ≡ true) ⊎ (leZ (subℕ b c) (subℕ a c) ≡ true)
+    go a b c true t = inl (sub-le c a b ∙ t)
+    go a b c false t =
+        let h : b < a = leb-false a b t in inr (sub-le c b a ∙ le-leb b a (omega arith))

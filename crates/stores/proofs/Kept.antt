@@ -1,19 +1,19 @@
 -- What a step or a slider of a good record stores is, read again in its mode, the whole number that 01 names.
-use mathlib.Core.Path.{_≡_, refl, _∙_}
+use mathlib.Core.Path.{_≡_, refl}
 use mathlib.Core.Bool.{Bool, true, false, _||_}
-use mathlib.Core.Logic.{_⊎_, inl, inr}
-use Prim.Native.Nat.{ℕ, _-_, _<_, _≤_}
+use mathlib.Core.Logic.{inl, inr}
+use Prim.Native.Nat.{ℕ, _<_, _≤_}
 use native.Mathlib.Nat.{lt-of-le-of-lt}
 use native.Mathlib.Omega.{arith}
-use lib.Dec.{ltb, leb, eqb}
-use lib.IntN.{ℤ, pos, negsuc, subℕ}
+use lib.Dec.{ltb, eqb}
+use lib.IntN.{ℤ, pos, negsuc}
 use lib.Signed.{leZ, mag}
-use borrow.Author.Tests.{eqb-true, eqb-false, ltb-true, ltb-false, leb-true, leb-false, le-leb, lt-ltb}
+use borrow.Author.Tests.{eqb-true, eqb-false, ltb-true, ltb-false, leb-true, lt-ltb}
 use Rattle.stores.specs.Store.{signed, wordOf, valueIn, placed, goodEnd}
 use Rattle.stores.specs.Step.{stepped, fenced, stepStores}
-use Rattle.stores.specs.Slider.{nearest, Fair, slid, slidTo, sliderStores}
-use Rattle.stores.proofs.Differences.{sub-le, over-one}
-use Rattle.stores.proofs.Slid.{near-le, slid-between-up, slid-between-down}
+use Rattle.stores.specs.Slider.{Fair, slidTo, sliderStores}
+use Rattle.stores.specs.Sheets.{Between}
+use Rattle.stores.proofs.Slid.{slid-to-between}
 use Rattle.stores.proofs.Fenced.{fenced-within}
 use Rattle.stores.proofs.Placed.{stores-word, stores-byte}
 
@@ -74,35 +74,16 @@ step-kept mode old up round step least greatest p q fits-l fits-g ends =
     let in-ends = fenced-within up round (signed least) (signed greatest) t ends in
     kept mode old least greatest (fenced up round (signed least) (signed greatest) t) (in-ends .0) (in-ends .1) p q fits-l fits-g
 
-le-or : (y z : ℤ) → (leZ y z ≡ true) ⊎ (leZ z y ≡ true)
-le-or = over-one (λ y z. (leZ y z ≡ true) ⊎ (leZ z y ≡ true)) (λ a b c. go a b c (leb a b) refl)
-  where
-    go : (a b c : ℕ) (t : Bool) → leb a b ≡ t → (leZ (subℕ a c) (subℕ b c) ≡ true) ⊎ (leZ (subℕ b c) (subℕ a c) ≡ true)
-    go a b c true t = inl (sub-le c a b ∙ t)
-    go a b c false t =
-        let h : b < a = leb-false a b t in inr (sub-le c b a ∙ le-leb b a (omega arith))
-
 -- the number that a slider stores, where its mode holds begin and end, for every fair rounding
 pub slider-kept : {ρ : ℕ → ℕ → ℕ} → Fair ρ → (mode old begin end first last at : ℕ) → begin < 65536 → end < 65536
     → goodEnd mode begin ≡ true → goodEnd mode end ≡ true
     → valueIn mode (sliderStores ρ mode old begin end first last at) ≡ slidTo ρ (signed begin) (signed end) first last at
-unfolding sliderStores slidTo
-slider-kept {ρ} fair mode old begin end first last at p q fits-b fits-e = go (le-or (signed begin) (signed end))
+unfolding sliderStores
+slider-kept {ρ} fair mode old begin end first last at p q fits-b fits-e = go (slid-to-between fair (signed begin) (signed end) first last at)
   where
-    d : ℕ
-    d = nearest first last at - first
-
-    w : ℕ
-    w = last - first
-
     stands : ℤ
-    stands = slid ρ (signed begin) (signed end) d w
+    stands = slidTo ρ (signed begin) (signed end) first last at
 
-    go : (leZ (signed begin) (signed end) ≡ true) ⊎ (leZ (signed end) (signed begin) ≡ true)
-        → valueIn mode (placed mode old (wordOf stands)) ≡ stands
-    go (inl h) =
-        let in-ends = slid-between-up fair w (signed begin) (signed end) d (near-le first last at) h in
-        kept mode old begin end stands (in-ends .0) (in-ends .1) p q fits-b fits-e
-    go (inr h) =
-        let in-ends = slid-between-down fair w (signed begin) (signed end) d (near-le first last at) h in
-        kept mode old end begin stands (in-ends .0) (in-ends .1) q p fits-e fits-b
+    go : Between (signed begin) (signed end) stands → valueIn mode (placed mode old (wordOf stands)) ≡ stands
+    go (inl (low, high)) = kept mode old begin end stands low high p q fits-b fits-e
+    go (inr (low, high)) = kept mode old end begin stands low high q p fits-e fits-b

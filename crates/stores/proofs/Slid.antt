@@ -3,15 +3,16 @@
 use mathlib.Core.Path.{_≡_, refl, sym, ap, _∙_}
 use mathlib.Core.Bool.{Bool, true, false}
 use mathlib.Core.Logic.{_⊎_, inl, inr}
-use Prim.Native.Nat.{ℕ, zero, suc, _+_, _-_, _*_, _/_, _≤_, _<_}
-use native.Mathlib.Nat.{mul-zero, mul-le-mul-left, mul-div-cancel, zero-div, le-div-iff-mul-le, div-mul-le-self, div-zero, le-trans, le-refl, eq-zero-or-pos}
+use Prim.Native.Nat.{ℕ, zero, suc, _+_, _-_, _*_, _≤_, _<_}
+use native.Mathlib.Nat.{mul-zero, mul-le-mul-left, eq-zero-or-pos}
 use native.Mathlib.Omega.{arith}
 use lib.Dec.{ltb, leb}
 use lib.IntN.{ℤ, subℕ}
 use lib.Signed.{leZ}
 use borrow.Author.Tests.{lt-ltb, le-ltb, ltb-true, ltb-false, leb-true, leb-false, le-leb, lt-leb}
-use Rattle.stores.specs.Slider.{nearest, roundedDown, Fair, slid, slidTo}
-use Rattle.stores.proofs.Differences.{sub-le, sub-add, sub-sub, sub-rise, sub-fall, over-one}
+use Rattle.stores.specs.Slider.{nearest, Fair, slid, slidTo}
+use Rattle.stores.specs.Sheets.{Between, Onward}
+use Rattle.stores.proofs.Differences.{sub-le, sub-add, sub-sub, sub-rise, sub-fall, over-one, le-or}
 
 -- where the nearest place is
 module _ (first last at : ℕ) where
@@ -93,15 +94,6 @@ share-le {ρ} fair D d (suc w) h =
     let most : ρ (D * d) (suc w) ≤ ρ (D * suc w) (suc w) = fair .rising (D * d) (D * suc w) (suc w) (mul-le-mul-left D h) in
     rw (fair .all D (suc w) (omega arith)) at most
 
-div-rising : (m n w : ℕ) → m ≤ n → m / w ≤ n / w
-div-rising m n zero h = rw (div-zero m, div-zero n) (le-refl 0)
-div-rising m n (suc w) h =
-    le-div-iff-mul-le {k = suc w} {x = m / suc w} {y = n} (omega arith) .1 (le-trans (div-mul-le-self m (suc w)) h)
-
-pub rounded-down-fair : Fair roundedDown
-unfolding roundedDown
-rounded-down-fair = record { none = zero-div; all = λ n w h. mul-div-cancel n h; rising = div-rising }
-
 -- over any c
 module _ (ρ : ℕ → ℕ → ℕ) (c b e d w : ℕ) where
   pub slid-rise : b ≤ e → slid ρ (subℕ b c) (subℕ e c) d w ≡ subℕ (b + ρ ((e - b) * d) w) c
@@ -115,11 +107,11 @@ module _ (ρ : ℕ → ℕ → ℕ) (c b e d w : ℕ) where
       rw (sub-le c b e, lt-leb b e h, sub-fall c b e f) (sub-sub c b (ρ ((b - e) * d) w) l)
 
 -- which way a slider goes, and how far at d of w
-data Way (ρ : ℕ → ℕ → ℕ) (c b e d w : ℕ) : Type 0 where
+pub data Way (ρ : ℕ → ℕ → ℕ) (c b e d w : ℕ) : Type 0 where
   rises : (m : ℕ) → b ≤ e → m ≡ ρ ((e - b) * d) w → m ≤ e - b → slid ρ (subℕ b c) (subℕ e c) d w ≡ subℕ (b + m) c → Way ρ c b e d w
   falls : (m : ℕ) → e < b → m ≡ ρ ((b - e) * d) w → m ≤ b - e → slid ρ (subℕ b c) (subℕ e c) d w ≡ subℕ (b - m) c → Way ρ c b e d w
 
-way : {ρ : ℕ → ℕ → ℕ} → Fair ρ → (c b e d w : ℕ) → d ≤ w → Way ρ c b e d w
+pub way : {ρ : ℕ → ℕ → ℕ} → Fair ρ → (c b e d w : ℕ) → d ≤ w → Way ρ c b e d w
 way {ρ} fair c b e d w h = go (leb b e) refl
   where
     go : (t : Bool) → leb b e ≡ t → Way ρ c b e d w
@@ -235,3 +227,16 @@ module _ {ρ : ℕ → ℕ → ℕ} (fair : Fair ρ) (begin end : ℤ) (first la
     pub slid-to-down : leZ end begin ≡ true → leZ (slidTo ρ begin end first last at′) (slidTo ρ begin end first last at) ≡ true
     unfolding slidTo
     slid-to-down = slid-down fair (last - first) _ _ (near-rising first last at at′ on) (near-le first last at′) begin end
+
+  -- a slider stands between its ends
+  pub slid-to-between : (at : ℕ) → Between begin end (slidTo ρ begin end first last at)
+  unfolding slidTo
+  slid-to-between at = go (le-or begin end)
+    where
+      go : (leZ begin end ≡ true) ⊎ (leZ end begin ≡ true) → Between begin end (slid ρ begin end (nearest first last at - first) (last - first))
+      go (inl h) = inl (slid-between-up fair (last - first) begin end (nearest first last at - first) (near-le first last at) h)
+      go (inr h) = inr (slid-between-down fair (last - first) begin end (nearest first last at - first) (near-le first last at) h)
+
+  -- and never turns back as the point moves on
+  pub slid-to-onward : (at at′ : ℕ) → at ≤ at′ → Onward begin end (slidTo ρ begin end first last at) (slidTo ρ begin end first last at′)
+  slid-to-onward at at′ on = (slid-to-up at at′ on, slid-to-down at at′ on)

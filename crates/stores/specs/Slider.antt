@@ -1,11 +1,13 @@
--- 01, "Slider": what a slider stores at a point, in whole numbers.
+-- 01, "Slider", and 02, §5: what a slider stores at a point, in whole numbers, by either scale sheet.
 use mathlib.Core.Path.{_≡_}
-use Prim.Native.Nat.{ℕ, _-_, _*_, _/_, _≤_, _<_}
+use Prim.Native.Nat.{ℕ, _+_, _-_, _*_, _/_, _≤_, _<_}
 use mathlib.Core.Bool.{cond}
 use lib.Dec.{ltb}
 use lib.IntN.{ℤ, pos, natAbs, _+ℤ_, _-ℤ_}
 use lib.Signed.{leZ}
 use Rattle.stores.specs.Store.{signed, wordOf, placed}
+use Rattle.stores.specs.declared.Sheet.{Sheet}
+use Rattle.stores.specs.declared.Sheet.the-variants.{Old, Revised}
 
 -- "the point moved to the nearest place in its area", along the axis
 unfoldable pub nearest : (first last at : ℕ) → ℕ
@@ -14,6 +16,15 @@ nearest first last at = cond (ltb at first) first (cond (ltb last at) last at)
 -- "rounded down"
 unfoldable pub roundedDown : (product w : ℕ) → ℕ
 roundedDown product w = product / w
+
+-- 02, §5: "to the nearest number, halves towards the end value": of what is moved from begin towards end, so that a half counts as one more
+unfoldable pub roundedToNearest : (product w : ℕ) → ℕ
+roundedToNearest product w = (2 * product + w) / (2 * w)
+
+-- 02, §5: "The trade's revised scale sheet rounds a slider to the nearest number, ..; the old sheet rounded down."
+unfoldable pub roundedBy : Sheet → (product w : ℕ) → ℕ
+roundedBy Old = roundedDown
+roundedBy Revised = roundedToNearest
 
 -- what a rounding of product / w has to keep, so that a slider begins at begin, ends at end and never turns back
 pub record Fair (rounding : ℕ → ℕ → ℕ) : Type 0 where

@@ -5,7 +5,7 @@ ghost use lib.Signed.{leZ};
 ghost use Rattle.stores.specs.Store.{signed, wordOf, valueIn, placed, keyStores};
 ghost use Rattle.stores.specs.Inner.{whole};
 ghost use Rattle.stores.specs.Step.{stepped, fenced, stepStores};
-ghost use Rattle.stores.specs.Slider.{nearest, roundedDown, slidTo, sliderStores};
+ghost use Rattle.stores.specs.Slider.{nearest, roundedDown, roundedToNearest, roundedBy, slidTo, sliderStores};
 
 // ---- Numbers in words
 
@@ -127,6 +127,14 @@ pub fn step_stores(
 
 // ---- Slider
 
+// The scale sheet that a slider keeps to, which says how it rounds.
+pub enum Sheet {
+    // Down.
+    Old,
+    // To the nearest number, halves towards the end value.
+    Revised,
+}
+
 fn nearest_to(first: u16, last: u16, at: u16) -> u16
     ensures { λ r. ⌜ r ≡ nearest first last at ⌝ }
 {
@@ -152,6 +160,31 @@ fn rounded_down(product: u64, w: u64) -> u64
     if w == 0 { 0 } else { product / w }
 }
 
+// What is left of the product is held against what is wanting, so that no product is too great.
+fn rounded_to_nearest(product: u64, w: u64) -> u64
+    ensures { λ r. ⌜ r ≡ roundedToNearest product w ⌝ }
+{
+    if w == 0 {
+        return 0;
+    }
+    let quotient = product / w;
+    let left = product % w;
+    if left < w - left {
+        quotient
+    } else {
+        quotient + 1
+    }
+}
+
+fn rounded(sheet: Sheet, product: u64, w: u64) -> u64
+    ensures { λ r. ⌜ r ≡ roundedBy sheet product w ⌝ }
+{
+    match sheet {
+        Sheet::Old => rounded_down(product, w),
+        Sheet::Revised => rounded_to_nearest(product, w),
+    }
+}
+
 // How far one raised number lies above another; 0 below it.
 fn above(from: u64, to: u64) -> u64
     ensures { λ r. ⌜ r ≡ to - from ⌝ }
@@ -160,23 +193,24 @@ fn above(from: u64, to: u64) -> u64
 }
 
 // Where a slider stands, raised.
-fn slide(begin: u16, end: u16, first: u16, last: u16, at: u16) -> u64
-    ensures { λ r. ⌜ whole r ≡ slidTo roundedDown (signed begin) (signed end) first last at ⌝ }
+fn slide(sheet: Sheet, begin: u16, end: u16, first: u16, last: u16, at: u16) -> u64
+    ensures { λ r. ⌜ whole r ≡ slidTo (roundedBy sheet) (signed begin) (signed end) first last at ⌝ }
 {
     let b = raise(begin);
     let e = raise(end);
     let d = distance(first, nearest_to(first, last, at));
     let w = distance(first, last);
     if b <= e {
-        b + rounded_down(above(b, e) * d, w)
+        b + rounded(sheet, above(b, e) * d, w)
     } else {
-        b - rounded_down(above(e, b) * d, w)
+        b - rounded(sheet, above(e, b) * d, w)
     }
 }
 
-// The word after a slider acted on it, rounding down: begin and end stand at the first and the last edge, and the point lies at a
-// place along the axis.
+// The word after a slider acted on it, rounding by a sheet: begin and end stand at the first and the last edge, and the point lies
+// at a place along the axis.
 pub fn slider_stores(
+    sheet: Sheet,
     mode: u8,
     old: u16,
     begin: u16,
@@ -185,8 +219,8 @@ pub fn slider_stores(
     last: u16,
     at: u16,
 ) -> u16
-    ensures { λ r. ⌜ r ≡ sliderStores roundedDown mode old begin end first last at ⌝ }
+    ensures { λ r. ⌜ r ≡ sliderStores (roundedBy sheet) mode old begin end first last at ⌝ }
 {
-    let stands = slide(begin, end, first, last, at);
+    let stands = slide(sheet, begin, end, first, last, at);
     place(mode, old, lower(stands))
 }

@@ -1,8 +1,8 @@
 -- What a good step or slider stores is, read again in its mode, the whole number that 01 names.
 use mathlib.Core.Path.{_≡_, sym, ap, _∙_}
 use mathlib.Core.Bool.{true, _&&_}
-use Prim.Native.Nat.{ℕ, _<_, _%_}
-use lib.Dec.{ltb, leb, eqb}
+use Prim.Native.Nat.{ℕ, _<_}
+use lib.Dec.{leb, eqb}
 use lib.Signed.{leZ}
 use Rattle.stores.specs.Store.{signed, valueIn, goodEnd}
 use Rattle.stores.specs.Step.{stepped, fenced}
@@ -15,13 +15,13 @@ use Rattle.touch.specs.declared.Kind.{Kind}
 use Rattle.touch.specs.declared.Kind.the-variants.{Step, Slider}
 use Rattle.touch.specs.declared.Record.{Record}
 use Rattle.touch.specs.Rounding.{roundingOf}
-use Rattle.touch.specs.Record.{up, round, noNext, digitMode, along, firstEdge, lastEdge}
-use Rattle.touch.specs.Judge.{goodMode, goodStep, sameArea, goodSlider, goodKind}
+use Rattle.touch.specs.Record.{up, round, digitMode, along, firstEdge, lastEdge}
+use Rattle.touch.specs.Judge.{goodMode, goodStep, goodKind}
 use Rattle.touch.specs.Act.{actedBy, actedOf}
-use Rattle.touch.proofs.GoodFields.{left, right}
+use Rattle.touch.proofs.GoodFields.{left, right, slider-ends}
 use Rattle.touch.proofs.Rounding.{rounding-fair}
 
--- the last three of a step's tests on its ends, and the last two of a slider's
+-- the last three of a step's tests on its ends
 module _ (mode : ℕ) (f : StepFields) (good : goodStep mode f ≡ true) where
   pub step-ends :
       (goodEnd mode (f .least) ≡ true) × ((goodEnd mode (f .greatest) ≡ true) × (leZ (signed (f .least)) (signed (f .greatest)) ≡ true))
@@ -34,18 +34,6 @@ module _ (mode : ℕ) (f : StepFields) (good : goodStep mode f ≡ true) where
       let to-order : (shape && low && high && order) ≡ true = left (shape && low && high && order) (eqb (f .once) 1) good in
       let to-high : (shape && low && high) ≡ true = left (shape && low && high) order to-order in
       (right shape low (left (shape && low) high to-high), (right (shape && low) high to-high, right (shape && low && high) order to-order))
-
-pub slider-ends : (r : Record) (f : SliderFields) → goodSlider r f ≡ true
-    → (goodEnd (digitMode (r .mode)) (f .begin) ≡ true) × (goodEnd (digitMode (r .mode)) (f .end) ≡ true)
-unfolding goodSlider
-slider-ends r f good =
-    let shape =
-    goodMode (digitMode (r .mode)) && ltb (r .mode % 16) 2 && sameArea (r .area) (f .again) && noNext r
-    && ltb (firstEdge (r .mode) (r .area)) (lastEdge (r .mode) (r .area))
-    in
-    let begins = goodEnd (digitMode (r .mode)) (f .begin) in
-    let ends = goodEnd (digitMode (r .mode)) (f .end) in
-    (right shape begins (left (shape && begins) ends good), right (shape && begins) ends good)
 
 module _ (setup : Setup) (r : Record) (old x y : ℕ) (good : goodKind r (r .kind) ≡ true) where
   pub step-acts-as-printed : (f : StepFields) → r .kind ≡ Step f → f .least < 65536 → f .greatest < 65536

@@ -25,6 +25,41 @@ otherwise : (a b : Bool) → (a || b) ≡ true → a ≡ false → b ≡ true
 otherwise true b e f = cc
 otherwise false b e f = e
 
+-- a slider's tests
+module _ (r : Record) (f : SliderFields) (good : goodSlider r f ≡ true) where
+  shape : Bool
+  shape = goodMode (digitMode (r .mode)) && ltb (r .mode % 16) 2 && sameArea (r .area) (f .again)
+
+  wide : Bool
+  wide = ltb (firstEdge (r .mode) (r .area)) (lastEdge (r .mode) (r .area))
+
+  begins : Bool
+  begins = goodEnd (digitMode (r .mode)) (f .begin)
+
+  ends : Bool
+  ends = goodEnd (digitMode (r .mode)) (f .end)
+
+  to-begin : (shape && noNext r && wide && begins) ≡ true
+  unfolding goodSlider shape wide begins ends
+  to-begin = left (shape && noNext r && wide && begins) ends good
+
+  to-wide : (shape && noNext r && wide) ≡ true
+  to-wide = left (shape && noNext r && wide) begins to-begin
+
+  -- "Next page must be FFxx"
+  stays-of-slider : noNext r ≡ true
+  stays-of-slider = right shape (noNext r) (left (shape && noNext r) wide to-wide)
+
+  -- "and the area wider than one point along its axis"
+  pub slider-wide : firstEdge (r .mode) (r .area) < lastEdge (r .mode) (r .area)
+  unfolding wide
+  slider-wide = ltb-true (firstEdge (r .mode) (r .area)) (lastEdge (r .mode) (r .area)) (right (shape && noNext r) wide to-wide)
+
+  -- "Begin and end are signed, or 0 to 255 in byte modes."
+  pub slider-ends : (goodEnd (digitMode (r .mode)) (f .begin) ≡ true) × (goodEnd (digitMode (r .mode)) (f .end) ≡ true)
+  unfolding goodSlider shape wide begins ends
+  slider-ends = (right (shape && noNext r && wide) begins to-begin, right (shape && noNext r && wide && begins) ends good)
+
 module _ (s : Setup) (r : Record) where
   pages : Bool
   pages = ltb (r .page) (s .pages) && goodArea s (r .area) && (noNext r || ltb (r .next) (s .pages))
@@ -67,17 +102,5 @@ module _ (s : Setup) (r : Record) where
         (otherwise (noNext r) (ltb (r .next) (s .pages))
         (right (ltb (r .page) (s .pages) && goodArea s (r .area)) (noNext r || ltb (r .next) (s .pages)) pages-good) n)
 
-    -- "Next page must be FFxx" for a slider
     pub slider-stays : (f : SliderFields) → r .kind ≡ Slider f → noNext r ≡ true
-    unfolding goodRecord goodSlider pages fields
-    slider-stays f e =
-        let shape = goodMode (digitMode (r .mode)) && ltb (r .mode % 16) 2 && sameArea (r .area) (f .again) in
-        let wide = ltb (firstEdge (r .mode) (r .area)) (lastEdge (r .mode) (r .area)) in
-        let begins = goodEnd (digitMode (r .mode)) (f .begin) in
-        let ends = goodEnd (digitMode (r .mode)) (f .end) in
-        let kind : (shape && noNext r && wide && begins && ends) ≡ true =
-        ap (goodKind r) (sym e) ∙ good-kind
-        in
-        right shape (noNext r)
-        (left (shape && noNext r) wide
-        (left (shape && noNext r && wide) begins (left (shape && noNext r && wide && begins) ends kind)))
+    slider-stays f e = stays-of-slider r f (ap (goodKind r) (sym e) ∙ good-kind)

@@ -6,9 +6,9 @@ use lib.Dec.{ltb, leb, eqb}
 use Rattle.wire.specs.Numbers.{Said, says, Listed, _when_, firstSaid}
 use Rattle.touch.specs.declared.Setup.{Setup}
 
--- "flags (bit 0 checking, bit 1 acknowledging, others 0)": how many values they may take
+-- "flags (bit 0 checking, bit 1 acknowledging, others 0)"; 02, §5: "11 now concerns bits 3 to 7": how many values they may take
 abbrev pub flagValues : ℕ
-flagValues = 4
+flagValues = 8
 
 -- "bit 0 checking"
 abbrev pub checkingOf : Setup → Bool

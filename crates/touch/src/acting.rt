@@ -7,6 +7,7 @@ use crate::Record;
 use crate::Setup;
 use crate::SliderFields;
 use crate::records;
+use crate::setups;
 
 fn slid_at(setup: Setup, r: Record, f: SliderFields, old: u16, x: u16, y: u16) -> u16
     ensures { λ a. ⌜ a ≡ slidAt (roundingOf setup) r f old x y ⌝ }
@@ -15,7 +16,16 @@ fn slid_at(setup: Setup, r: Record, f: SliderFields, old: u16, x: u16, y: u16) -
     let first = records::along(r.mode, area.xs, area.ys);
     let last = records::along(r.mode, area.xe, area.ye);
     let at = records::along(r.mode, x, y);
-    stores::slider_stores(r.mode / 16, old, f.begin, f.end, first, last, at)
+    stores::slider_stores(
+        setups::sheet(setup),
+        r.mode / 16,
+        old,
+        f.begin,
+        f.end,
+        first,
+        last,
+        at,
+    )
 }
 
 // The word at a record's address after the record acted at a point.
