@@ -5,3 +5,4 @@ pub mod Table
 pub mod Judge
 pub mod Find
 pub mod Act
+pub mod Scale
