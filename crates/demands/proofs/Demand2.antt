@@ -3,7 +3,7 @@ use mathlib.Core.Path.{_≡_}
 use mathlib.Core.Logic.{_≢_, ⊎-elim}
 use mathlib.Core.Bool.{Bool, true, false}
 use mathlib.Core.List.{List, [], _∷_, _++_}
-use Prim.Native.Nat.{ℕ, _+_, _-_, _*_, _^_, _≤_, _<_}
+use Prim.Native.Nat.{ℕ, _+_, _-_, _*_, _%_, _^_, _≤_, _<_}
 use lib.ListN.{length, getD, take, drop}
 use Rattle.wire.specs.Bytes.{Bytes}
 use Rattle.wire.specs.ByteOrder.{highFirst, byteAt, wordAt}
@@ -55,6 +55,7 @@ use Rattle.demands.specs.Counts.{handedBy, replyTo, BadCheckCounted, Fra
 use Rattle.demands.specs.Acknowledged.{Acknowledges}
 use Rattle.demands.specs.Replied.{Replied}
 use Rattle.demands.specs.Stored.{Stores}
+use Rattle.demands.specs.Sheets.{flaggedMoment, answerTo, EdgesOnly}
 use Rattle.demands.proofs.Calls.{arises-reachable, call-reached}
 use Rattle.demands.proofs.Named as Named
 use Rattle.demands.proofs.ReadBack as ReadBack
@@ -72,8 +73,9 @@ use Rattle.demands.proofs.WrittenReads as WrittenReads
 use Rattle.demands.proofs.Sizes as Sizes
 use Rattle.demands.proofs.TouchEffects as TouchEffects
 use Rattle.panel.specs.Contacts.{Contact}
-use Rattle.touch.specs.Rounding.{roundingOf}
+use Rattle.touch.specs.Rounding.{sheetOf, roundingOf}
 use Rattle.demands.proofs.Caught as Caught
+use Rattle.demands.proofs.Sheets as Sheets
 
 -- "Frames .. are those of the .. manuals as condensed in document 01": the frame of any command and data within the limit is a good one, and every good
 -- frame is the frame of some command and data within the limit
@@ -174,19 +176,30 @@ module _ (now : Moment) (c : Contact) (are : Bytes (c .table)) (done : numberGiv
       (stepped (stepsUp f) (valueIn (r .mode) (wordAtAddress (now .lent .words) (r .word))) (f .step)))
   step-stores = TouchEffects.step-stores now c are done up i r acts
 
-  -- "Slider: .. |end − begin|·d / w rounded down is moved from begin towards end.", upward and downward alike: read in its mode;
-  -- "in all byte modes the other byte stays"
+  -- "Slider: .. |end − begin|·d / w rounded down is moved from begin towards end.", upward and downward alike, by 02, §5, rounded as the panel's sheet says: read
+  -- in its mode; "in all byte modes the other byte stays"
   pub slider-stores : (f : SliderFields) → r .kind ≡ Slider f
       → Stores (digitMode (r .mode)) (wordAtAddress (now .lent .words) (r .word)) (wordAtAddress (after now (contact c) .lent .words) (r .word))
       (slidTo (roundingOf (now .panel .setup)) (signed (f .begin)) (signed (f .end)) (firstEdge (r .mode) (r .area)) (lastEdge (r .mode) (r .area)) (along (r .mode) (c .x) (c .y)))
   slider-stores = TouchEffects.slider-stores now c are done up i r acts
 
--- "Contact while down: .. a caught slider stores for the point moved to the nearest place in its area"
+-- "Contact while down: .. a caught slider stores for the point moved to the nearest place in its area", by the panel's sheet
 pub dragged-slider-stores : (now : Moment) → Arises now → (c : Contact) → numberGiven now (contact c) ≡ 0
     → isDown (now .panel .registers) ≡ true → (r : Record) → now .panel .catch ≡ Caught r → (f : SliderFields) → r .kind ≡ Slider f
     → Stores (digitMode (r .mode)) (wordAtAddress (now .lent .words) (r .word)) (wordAtAddress (after now (contact c) .lent .words) (r .word))
     (slidTo (roundingOf (now .panel .setup)) (signed (f .begin)) (signed (f .end)) (firstEdge (r .mode) (r .area)) (lastEdge (r .mode) (r .area)) (along (r .mode) (c .x) (c .y)))
 dragged-slider-stores = Caught.dragged-slider-stores
+
+-- 02, §5: "Plants keep panels of both sheets, so flag bit 2 of setup chooses": a panel keeps to its sheet, whatever calls come
+pub keeps-to-its-sheet : (now : Moment) (calls : List Call) → sheetOf (afterAll now calls .panel .setup) ≡ sheetOf (now .panel .setup)
+keeps-to-its-sheet = Sheets.keeps-to-its-sheet
+
+-- 02, §5: "Both agree at the two edges": a panel with other flags, which say the same of checking and acknowledging, answers a contact at an edge of the slider that
+-- acts or is caught, or one at which no slider does, alike, and leaves the same
+pub sheets-agree-at-the-edges : (now : Moment) (c : Contact) → EdgesOnly now c → (flags : ℕ) → flags % 4 ≡ now .panel .setup .flags % 4
+    → (answerTo (flaggedMoment flags now) c ≡ answerTo now c)
+    × (after (flaggedMoment flags now) (contact c) ≡ flaggedMoment flags (after now (contact c)))
+sheets-agree-at-the-edges = Sheets.sheets-agree-at-the-edges
 
 -- "What our frame writer writes, our reader reads back as the same command and data.": what it wrote into any room, under the header and the choice that
 -- are set up, given to the panel while nothing is held or waiting. 02, §1: "the read-back of demand 2 is now stated for every frame but acknowledgements": the

@@ -6,4 +6,4 @@ use Rattle.demands.proofs.Computed.{computingAcknowledgements, computin
 -- every row, by computation
 pub examples-right : AllRight examples
 unfolding computingPanel computingAcknowledgements computingStores
-examples-right = (refl, (refl, (refl, (refl, (refl, (refl, (refl, (refl, (refl, (refl, (refl, (refl, (refl, (refl, tt))))))))))))))
+examples-right = (refl, (refl, (refl, (refl, (refl, (refl, (refl, (refl, (refl, (refl, (refl, (refl, (refl, (refl, (refl, (refl, tt))))))))))))))))

@@ -218,7 +218,8 @@ module _ (now : Moment) (c : Contact) (are : Bytes (c .table)) (done : numberGiv
         other-stays = ap (otherByte (r .mode)) acted-word ∙ step-keeps-other setup r old (c .x) (c .y) f is;
       }
 
-  -- "Slider: with d the distance from the first edge and w the edge-to-edge distance, |end − begin|·d / w rounded down is moved from begin towards end."
+  -- "Slider: with d the distance from the first edge and w the edge-to-edge distance, |end − begin|·d / w rounded down is moved from begin towards end.", by
+  -- 02, §5, rounded as the panel's sheet says
   pub slider-stores : (f : SliderFields) → r .kind ≡ Slider f
       → Stores (digitMode (r .mode)) (wordAtAddress (now .lent .words) (r .word)) (wordAtAddress (after now (contact c) .lent .words) (r .word))
       (slidTo (roundingOf (now .panel .setup)) (signed (f .begin)) (signed (f .end)) (firstEdge (r .mode) (r .area)) (lastEdge (r .mode) (r .area)) (along (r .mode) (c .x) (c .y)))

@@ -17,47 +17,58 @@ use Rattle.panel.specs.Start.{started}
 use Rattle.panel.specs.Contacts.{Contact}
 use Rattle.curves.specs.Area.{curveWords}
 use Rattle.watch.specs.Watched.{noneWatched}
-use Rattle.commands.specs.Lent.{lending}
+use Rattle.commands.specs.Lent.{Lent, lending}
 use Rattle.demands.specs.Calls.{Moment, contact, begun, after, Typed, Arises, from-start, by-call}
 use Rattle.demands.specs.Stored.{Stores}
 use Rattle.demands.proofs.Computed.{computingContacts}
 use Rattle.demands.proofs.Demand2.{step-stores, slider-stores, dragged-slider-stores}
 use Rattle.demands.proofs.Story.{copies-below}
 
--- low byte of word 0000, up 5 from 0 to 255, stop; and high byte of word 0001, across from 100 to 300, 255 to 0
-abbrev stepBytes : List ℕ
+-- low byte of word 0000, up 5 from 0 to 255, stop
+abbrev pub stepBytes : List ℕ
 stepBytes =
     0x00 ∷ 0x00 ∷ 0x00 ∷ 0x0A ∷ 0x00 ∷ 0x0A ∷ 0x00 ∷ 0x64 ∷ 0x00 ∷ 0x32 ∷ 0xFF ∷ 0x00 ∷ 0xFF ∷ 0x00 ∷ 0xFE ∷ 0x02
     ∷ 0xFE ∷ 0x00 ∷ 0x00 ∷ 0x02 ∷ 0x01 ∷ 0x00 ∷ 0x00 ∷ 0x05 ∷ 0x00 ∷ 0x00 ∷ 0x00 ∷ 0xFF ∷ 0x01 ∷ 0x00 ∷ 0x00 ∷ 0x00 ∷ []
 
-abbrev sliderBytes : List ℕ
+-- high byte of word 0001, across from 100 to 300, 255 to 0
+abbrev pub sliderBytes : List ℕ
 sliderBytes =
     0x00 ∷ 0x00 ∷ 0x00 ∷ 0x64 ∷ 0x00 ∷ 0x3C ∷ 0x01 ∷ 0x2C ∷ 0x00 ∷ 0x50 ∷ 0xFF ∷ 0x00 ∷ 0xFF ∷ 0x00 ∷ 0xFE ∷ 0x03
     ∷ 0xFE ∷ 0x00 ∷ 0x01 ∷ 0x10 ∷ 0x00 ∷ 0x64 ∷ 0x00 ∷ 0x3C ∷ 0x01 ∷ 0x2C ∷ 0x00 ∷ 0x50 ∷ 0x00 ∷ 0xFF ∷ 0x00 ∷ 0x00 ∷ []
 
-abbrev table : List ℕ
+-- both
+abbrev pub table : List ℕ
 table = stepBytes ++ sliderBytes
 
-abbrev setup : Setup
+-- checking off, the old sheet
+abbrev pub setup : Setup
 setup = record { h1 = 0x5A; h2 = 0xA5; flags = 0; pages = 2; width = 800; height = 480 }
 
 -- every word is 12FD
-abbrev up : Moment
-up = begun setup table (lending (replicate wordCount 0x12FD) (replicate curveWords 0) (replicate leastRoom 0) noneWatched)
+abbrev pub lent : Lent
+lent = lending (replicate wordCount 0x12FD) (replicate curveWords 0) (replicate leastRoom 0) noneWatched
 
-abbrev onStep : Contact
+-- as started
+abbrev pub up : Moment
+up = begun setup table lent
+
+-- a contact on the step
+abbrev pub onStep : Contact
 onStep = record { table = table; x = 11; y = 11 }
 
+-- one a quarter along the slider
 abbrev onSlider : Contact
 onSlider = record { table = table; x = 150; y = 70 }
 
-abbrev pastSlider : Contact
+-- a contact past its last edge
+abbrev pub pastSlider : Contact
 pastSlider = record { table = table; x = 400; y = 20 }
 
-abbrev down : Moment
+-- the slider is caught
+abbrev pub down : Moment
 down = after up (contact onSlider)
 
-are-bytes : Bytes table
+pub are-bytes : Bytes table
 unfolding allBytes
 are-bytes = tested-bytes table refl
 
@@ -69,7 +80,7 @@ down-arises : Arises down
 unfolding Typed
 down-arises =
     by-call up (contact onSlider) (are-bytes, (omega arith, omega arith))
-    (from-start setup table (lending (replicate wordCount 0x12FD) (replicate curveWords 0) (replicate leastRoom 0) noneWatched) (omega arith) (omega arith)
+    (from-start setup table lent (omega arith) (omega arith)
     (λ k. copies-below wordCount 0x12FD k (omega arith)) (λ k. copies-below curveWords 0 k (omega arith)) up-starts)
 
 -- FD and 5 pass 255, where it stops: 12FD becomes 12FF

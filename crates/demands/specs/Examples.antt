@@ -1,4 +1,4 @@
--- 01, "Proved examples", a to j: "Examples a to j are one proved table under a single claim."
+-- 01, "Proved examples", a to j: "Examples a to j are one proved table under a single claim."; c and d as 02, §1, changes them, and j by both sheets of 02, §5.
 -- A row puts what the definitions give beside what 01 prints; the claim is that every row is right.
 use Prim.Native.Nat.{ℕ}
 use mathlib.Core.Path.{_≡_}
@@ -55,7 +55,7 @@ AllRight (row ∷ rows) = Right row × AllRight rows
 abbrev pub header : List ℕ
 header = 0x5A ∷ 0xA5 ∷ []
 
--- a setup with it, and with 01's trace example's pages and screen; flags 1 is checking on, 0 off
+-- a setup with it, and with 01's trace example's pages and screen; flags 1 is checking on, 0 off; 4 the revised sheet, 0 the old
 abbrev pub setupWith : (flags : ℕ) → Setup
 setupWith flags = record { h1 = 0x5A; h2 = 0xA5; flags = flags; pages = 2; width = 800; height = 480 }
 
@@ -87,9 +87,17 @@ writeAsked = asking (fedBytes (startedWith 0) (0x5A ∷ 0xA5 ∷ 0x05 ∷ 0x82 �
 abbrev pub stepUp : (value step least greatest : ℕ) (round : Bool) → ℕ
 stepUp value step least greatest round = stepStores 0 value true round step least greatest
 
--- h to j: "Slider 100..300", on a whole word, whose begin, end and stored word are read as signed numbers
+-- h to j: "Slider 100..300", on a whole word, whose begin, end and stored word are read as signed numbers, in a panel with these flags
+abbrev pub sliderBy : (flags : ℕ) (begin end : ℤ) (at : ℕ) → ℤ
+sliderBy flags begin end at = signed (sliderStores (roundingOf (setupWith flags)) 0 0 (wordOf begin) (wordOf end) 100 300 at)
+
+-- "0 for the old": by the old sheet, as 01 prints them
 abbrev pub slider : (begin end : ℤ) (at : ℕ) → ℤ
-slider begin end at = signed (sliderStores (roundingOf (setupWith 0)) 0 0 (wordOf begin) (wordOf end) 100 300 at)
+slider = sliderBy 0
+
+-- 02, §5: "flag bit 2 of setup chooses": by the revised sheet
+abbrev pub revisedSlider : (begin end : ℤ) (at : ℕ) → ℤ
+revisedSlider = sliderBy 4
 
 -- "Examples a to j are one proved table under a single claim"
 abbrev pub examples : List Row
@@ -118,4 +126,7 @@ examples =
     -- j. "0 to 7 at 299: 6; at 300: 7."
     whole (slider (pos 0) (pos 7) 299) (pos 6) ∷
     whole (slider (pos 0) (pos 7) 300) (pos 7) ∷
+    -- j by 02, §5: "Example j at 299 gives 7 by the new sheet."; at 300 both give 7
+    whole (revisedSlider (pos 0) (pos 7) 299) (pos 7) ∷
+    whole (revisedSlider (pos 0) (pos 7) 300) (pos 7) ∷
     []
