@@ -40,6 +40,9 @@ MISTAKES = [
     (SETUP + "setup pages=1 pages=2", "line 2: setup: pages: stands here twice: allowed is once"),
     ("setup header=5A A5 flags=07 checking pages=2 width=1 height=1", "line 1: setup: checking: stands beside flags: allowed is one of the two"),
     ("setup header=5A A5 acknowledging flags=00 pages=2 width=1 height=1", "line 1: setup: acknowledging: stands beside flags: allowed is one"),
+    ("setup header=5A A5 revised flags=04 pages=2 width=1 height=1", "line 1: setup: revised: stands beside flags: allowed is one of the two"),
+    ("setup header=5A A5 revised revised pages=2 width=1 height=1", "line 1: setup: revised: stands here twice: allowed is once"),
+    ("setup header=5A A5 old pages=2 width=1 height=1", "line 1: setup: 'old' is no field here: allowed is header, checking, acknowledging, revised, flags"),
     ("setup header=5A A5 flags=7 pages=2 width=1 height=1", "line 1: setup: flags: '7': " + BYTE),
     (SETUP + KEY, "line 2: key: code: is missing: " + WORD),
     (SETUP + KEY + " code=1 by=2", "line 2: key: 'by' is no field here: allowed is page, area, next, word, mode, code"),
@@ -110,6 +113,10 @@ MEANT = [
     (SETUP + "frame length=255 cut=7 81 00 01", "00 5A A5 01 0002 0320 01E0 015A"),
     (SETUP + "frame length=0 81", "00 5A A5 01 0002 0320 01E0 015A 01A5 0100 0181 017F 0120"),
     ("setup header=00 FF flags=07 pages=0 width=65535 height=1", "00 00FF 07 0000 FFFF 0001"),
+    ("setup header=00 FF flags=0C pages=0 width=65535 height=1", "00 00FF 0C 0000 FFFF 0001"),
+    ("setup header=00 FF revised pages=2 width=3 height=1", "00 00FF 04 0002 0003 0001"),
+    ("setup revised header=00 FF checking pages=2 width=3 height=1", "00 00FF 05 0002 0003 0001"),
+    ("setup header=00 FF pages=2 width=3 height=1 acknowledging revised checking", "00 00FF 07 0002 0003 0001"),
     ("repeat 3 setup header=00 FF pages=0 width=0 height=1\nframe 00", "00 00FF 00 0000 0000 0001" * 3 + "0100 01FF 0101 0100"),
     ("repeat 2 repeat 2 lift", "04 04 04 04"),
 ]
@@ -117,7 +124,12 @@ MEANT = [
 # Texts that `show` prints as they stand, each line behind those before it.
 SHOWN = """\
 line 00 01
-setup header=5A A5 flags=07 pages=0 width=65535 height=1
+setup header=5A A5 flags=08 pages=0 width=65535 height=1
+setup header=5A A5 flags=0F pages=0 width=65535 height=1
+setup header=5A A5 revised pages=2 width=800 height=480
+setup header=5A A5 acknowledging revised pages=2 width=800 height=480
+setup header=5A A5 checking acknowledging revised pages=2 width=800 height=480
+frame 81 00 01
 setup header=5A A5 pages=2 width=800 height=480
 frame 82 00 10 00
 line 5A A5 00 82
@@ -147,7 +159,7 @@ frame 81
 quiet
 line 5A A5 02 FF FF
 contact 65535 0
-setup header=5A 5A flags=04 pages=2 width=800 height=480
+setup header=5A 5A flags=FC pages=2 width=800 height=480
 line 5A
 frame 81 00 01
 lift

@@ -23,9 +23,10 @@ two hex digits. A number is decimal, or hex after 0x; it must fit its field, and
 written. What stands in [ ] may be left out. The fields of a statement may come in any order, each once; those of `frame` stand before the
 command.
 
-  setup header=5A A5 [checking] [acknowledging] pages=2 width=800 height=480
-  setup header=5A A5 flags=07 pages=2 width=800 height=480
-                              the flag byte itself, a byte in hex, in place of the two words
+  setup header=5A A5 [checking] [acknowledging] [revised] pages=2 width=800 height=480
+                              revised: sliders round by the revised scale sheet; without it by the old one
+  setup header=5A A5 flags=0F pages=2 width=800 height=480
+                              the flag byte itself, a byte in hex, in place of the three words
   key page=0 area=10,10..100,50 [next=1] word=0x0010 mode=word code=0x1234
   step page=0 area=10,10..100,50 [next=1] word=0x0010 mode=high up round by=5 least=0 greatest=100
                               up or down; at the end stop or round

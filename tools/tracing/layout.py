@@ -10,6 +10,7 @@ RECORD = 32
 BODIES = {SETUP_KIND: 9, BYTE_KIND: 1, QUIET_KIND: 0, CONTACT_KIND: 4, LIFT_KIND: 0, RECORD_KIND: RECORD}
 RUN = re.compile(b"|".join(rb"((?:%s.{%d}){1,4096})" % (re.escape(bytes([kind])), length) for kind, length in BODIES.items()) + b"|(.)", re.DOTALL)
 SETUP = struct.Struct(">BBBHHH")
+FLAG_WORDS = ("checking", "acknowledging", "revised")       # what a setup's flags choose, from bit 0 on
 
 
 class Setup(NamedTuple):

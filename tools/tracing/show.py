@@ -8,13 +8,14 @@ import re
 import struct
 
 from .checks import Checks, check_value
-from .layout import BODIES, BYTE_KIND, CONTACT_KIND, LIFT_KIND, QUIET_KIND, RECORD_KIND, SETUP_KIND, bodies, setup_of, spelled
+from .layout import BODIES, BYTE_KIND, CONTACT_KIND, FLAG_WORDS, LIFT_KIND, QUIET_KIND, RECORD_KIND, SETUP_KIND, bodies, setup_of, spelled
 from .records import record_text
 
 LINE_WIDTH = 16
 SHORT = 64
 PLAIN = {QUIET_KIND: "quiet\n", LIFT_KIND: "lift\n"}
-FLAGS = [" checking" * (flags & 1) + " acknowledging" * (flags >> 1) if flags < 4 else f" flags={flags:02X}" for flags in range(256)]
+FLAGS = ["".join(f" {name}" for bit, name in enumerate(FLAG_WORDS) if flags >> bit & 1) if flags < 1 << len(FLAG_WORDS) else f" flags={flags:02X}"
+         for flags in range(256)]
 HOW = {0x0000: "", 0x4000: "badly "}      # by what is turned over of the check value
 LEAST_FRAME = 4
 ONE_BYTE = [f"line {byte:02X}\n" for byte in range(256)]

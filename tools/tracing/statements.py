@@ -1,13 +1,13 @@
 """The statements of a text that stand for themselves: the words behind the name, into the bytes of the trace."""
 import struct
 
-from .layout import CONTACT_KIND, LIFT_KIND, QUIET_KIND, RECORD, RECORD_KIND, SETUP_KIND, Setup, on_line, setup_bytes
+from .layout import CONTACT_KIND, FLAG_WORDS, LIFT_KIND, QUIET_KIND, RECORD, RECORD_KIND, SETUP_KIND, Setup, on_line, setup_bytes
 from .records import KEY, NO_PAGE, PARTS, SLIDER, STEP, key_rest, record, slider_rest, step_rest
 from .values import AREA, FLAG, HEADER, MODE, NEXT, SIGNED, TWO_DIGITS, WORD, Fields, Mistake, quoted, some_bytes
 
 TOUCH = bytes([RECORD_KIND])
 CONTACT = struct.Struct(">BHH")
-SETUP_FIELDS = {"header": HEADER, "checking": FLAG, "acknowledging": FLAG, "flags": TWO_DIGITS, "pages": WORD, "width": WORD, "height": WORD}
+SETUP_FIELDS = {"header": HEADER, **dict.fromkeys(FLAG_WORDS, FLAG), "flags": TWO_DIGITS, "pages": WORD, "width": WORD, "height": WORD}
 RECORD_FIELDS = {"page": WORD, "area": AREA, "next": NEXT, "word": WORD, "mode": MODE}
 KEY_FIELDS = {**RECORD_FIELDS, "code": WORD}
 STEP_FIELDS = {**RECORD_FIELDS, "up": FLAG, "down": FLAG, "stop": FLAG, "round": FLAG, "by": WORD, "least": SIGNED, "greatest": SIGNED}
@@ -16,9 +16,9 @@ SLIDER_FIELDS = {**RECORD_FIELDS, "across": FLAG, "down": FLAG, "begin": SIGNED,
 
 def setup(words):
     fields = Fields(words, SETUP_FIELDS)
-    flags = ("checking" in fields) + 2 * ("acknowledging" in fields)
+    flags = sum(1 << bit for bit, name in enumerate(FLAG_WORDS) if name in fields)
     if "flags" in fields:
-        fields.refuse_beside("flags", ("checking", "acknowledging"), "flags is the whole flag byte")
+        fields.refuse_beside("flags", FLAG_WORDS, "flags is the whole flag byte")
         flags = fields.of("flags")
     return bytes([SETUP_KIND]) + setup_bytes(Setup(*fields.of("header"), flags, *(fields.of(name) for name in ("pages", "width", "height"))))
 
