@@ -22,7 +22,9 @@ use Rattle.touch.specs.declared.Found.the-variants.{Nothing, At}
 use Rattle.touch.specs.Record.{slides, isSlider, noNext, digitMode, along, firstEdge, lastEdge}
 use Rattle.touch.specs.Find.{found}
 use Rattle.touch.specs.Act.{actedOf, draggedOf}
+use Rattle.touch.specs.Scale.{GoodSliderRecord}
 use Rattle.touch.proofs.Acts.{slider-acts-as-printed}
+use Rattle.touch.proofs.Scale.{good-slider-record}
 use Rattle.touch.proofs.GoodFields.{good-word, good-kind}
 use Rattle.touch.proofs.Tables.{found-stands}
 use Rattle.contact.specs.declared.Catch.{Catch}
@@ -110,6 +112,13 @@ always-fits _ (from-start setup table lent h1 h2 are area is) = λ r f caught ki
     let none : newPanel setup .catch ≡ Caught r = ap (λ (p : Panel). p .catch) (sym (started-new setup table is)) ∙ caught in
     free-fits r f none kind
 always-fits _ (by-call now call typed arises) = call-fits now call typed (always-fits now arises)
+
+-- what is caught is a good slider record
+pub caught-slider-good : (now : Moment) → Arises now → (r : Record) → now .panel .catch ≡ Caught r → (f : SliderFields) → r .kind ≡ Slider f → GoodSliderRecord r f
+caught-slider-good now arises r caught f kind =
+    let sound = reachable-sound (now .panel) (arises-reachable now arises) in
+    let fit = always-fits now arises r f caught kind in
+    good-slider-record (now .panel .setup) r f (sound .pad .caught-good r caught .0) kind (fit .0) (fit .1)
 
 -- "Contact while down: .. a caught slider stores for the point moved to the nearest place in its area"
 pub dragged-slider-stores : (now : Moment) → Arises now → (c : Contact) → numberGiven now (contact c) ≡ 0

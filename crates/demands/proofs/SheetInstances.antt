@@ -13,7 +13,8 @@ use Rattle.panel.specs.Contacts.{Contact}
 use Rattle.demands.specs.Calls.{Moment, contact, begun, after}
 use Rattle.demands.specs.Sheets.{withFlags, flaggedMoment, while-up, while-down, EdgesOnly}
 use Rattle.demands.proofs.Computed.{computingContacts}
-use Rattle.demands.proofs.TouchInstances.{stepBytes, sliderBytes, table, are-bytes, setup, lent, up, down, onStep, pastSlider}
+use Rattle.demands.proofs.TouchInstances.{stepBytes, sliderBytes, table, are-bytes, setup, lent, up, down, down-arises, onStep, pastSlider}
+use Rattle.demands.proofs.Caught.{caught-slider-good}
 use Rattle.demands.proofs.Sheets.{sheets-agree-at-the-edges, found-slider-good}
 
 -- a contact at a place along the slider
@@ -69,6 +70,11 @@ words-by-sheet =
 pub slider-is-good : GoodSliderRecord (recordOf sliderBytes) (sliderFields sliderBytes)
 unfolding computingContacts
 slider-is-good = found-slider-good setup table are-bytes refl 0 150 70 1 (recordOf sliderBytes) refl (sliderFields sliderBytes) refl
+
+-- and so it is while it is caught
+pub caught-is-good : GoodSliderRecord (recordOf sliderBytes) (sliderFields sliderBytes)
+unfolding computingContacts
+caught-is-good = caught-slider-good down down-arises (recordOf sliderBytes) refl (sliderFields sliderBytes) refl
 
 -- what `sheets-agree-at-the-edges` asks of a contact is met by one on the step, which is no slider, and by one at the slider's last edge
 pub on-the-step : EdgesOnly up onStep

@@ -76,7 +76,7 @@ up-starts : started setup table .answer ≡ start.Started
 unfolding computingContacts
 up-starts = refl
 
-down-arises : Arises down
+pub down-arises : Arises down
 unfolding Typed
 down-arises =
     by-call up (contact onSlider) (are-bytes, (omega arith, omega arith))
