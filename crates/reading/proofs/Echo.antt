@@ -4,12 +4,13 @@ use mathlib.Core.Bool.{Bool, true, false, not, _&&_}
 use mathlib.Core.List.{List, [], _∷_, _++_, append-assoc}
 use Prim.Native.Nat.{ℕ, zero, suc, _+_, _<_}
 use native.Mathlib.Omega.{arith}
-use borrow.Author.Tests.{eq-eqb, eqb-true, eqb-false, not-true}
+use borrow.Author.Tests.{eq-eqb, not-true}
 use lib.Dec.{eqb}
 use lib.ListN.{length, getD, drop, length-append}
 use lib.Seq.{drop-append-add}
 use Rattle.wire.specs.Bytes.{Bytes}
-use Rattle.wire.proofs.Truths.{and-left, and-right, or-left, or-right}
+use Rattle.wire.proofs.Truths.{or-left, or-right}
+use Rattle.wire.proofs.EachBelow.{allBelow, below-passes}
 use Rattle.check_value.specs.CheckValue.{polynomial, bitStep, bitSteps, byteStep, checkFrom, checkValue}
 use Rattle.frame.specs.Acknowledgement.{acknowledgementLength, verdict, acknowledgement}
 use Rattle.reading.specs.Place.{Rules}
@@ -112,20 +113,6 @@ module _ (h1 h2 : ℕ) where
   echo-begins-none sent come free = echo-checked-inside (checked h1 h2) come refl sent (none-inside sent come free)
 
 -- Header 5A A5: one test over every command byte, for each of the two verdicts.
-
--- every number below n passes the test
-unfoldable allBelow : (n : ℕ) → (ℕ → Bool) → Bool
-allBelow zero test = true
-allBelow (suc n) test = test n && allBelow n test
-
-below-passes : (n : ℕ) (test : ℕ → Bool) → allBelow n test ≡ true → (k : ℕ) → k < n → test k ≡ true
-unfolding allBelow
-below-passes zero test all k below = absurd (omega arith)
-below-passes (suc n) test all k below = go (eqb k n) refl (below-passes n test (and-right (test n) (allBelow n test) all) k)
-  where
-    go : (b : Bool) → eqb k n ≡ b → (k < n → test k ≡ true) → test k ≡ true
-    go true is later = ap test (eqb-true k n is) ∙ and-left (test n) (allBelow n test) all
-    go false is later = later (omega (arith, eqb-false k n is))
 
 abbrev no-header : (accepted : Bool) → ℕ → Bool
 no-header accepted command = not (headerInside 0x5A 0xA5 (record { command = command; accepted = accepted }))

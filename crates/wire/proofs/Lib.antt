@@ -1,4 +1,5 @@
 pub mod Truths
+pub mod EachBelow
 pub mod PastEnd
 pub mod Parts
 pub mod Over
