@@ -11,7 +11,7 @@ use Rattle.wire.specs.ByteOrder.{wordAt}
 use Rattle.wire.proofs.Parts.{part-whole}
 use Rattle.registers.specs.declared.Registers.{Registers}
 use Rattle.wire.specs.Room.{laidAt}
-use Rattle.registers.specs.Run.{readsAs, registersAfter, dropsCatch}
+use Rattle.registers.specs.Run.{readEach, readsAs, registersAfter, dropsCatch}
 use Rattle.words.specs.Words.{wordsWritten}
 use Rattle.commands.specs.declared.Outcome.{Outcome}
 use Rattle.commands.specs.declared.Outcome.the-variants.{WrongData}
@@ -54,7 +54,7 @@ module _ (pages : ℕ) (content : List ℕ) (o : Outcome) (b : Bool) (is-o : o �
 -- what is to be written is written
 module _ (registers : Registers) (content : List ℕ) where
   pub none-left : length content < 1 → registers ≡ registersLeft registers content
-  unfolding registersLeft registersAfter readsAs laidAt
+  unfolding registersLeft registersAfter readsAs readEach laidAt
   none-left short = rw (nil-of content short)
     where
       nil-of : (l : List ℕ) → length l < 1 → l ≡ []

@@ -50,11 +50,12 @@ passesEnd end command content =
     (ltb end (wordAt content 0 + byteAt content 2))
     false
 
--- 5: "a write touches an unwritable register or half the page"
+-- 5: "a write touches an unwritable register or half the page"; 02, §6: "5 for a write touching some but not all eight or joined with others"
 unfoldable pub touchesUnwritable : ℕ → List ℕ → Bool
 touchesUnwritable command content = byCommand command (unwritableRun (byteAt content 0) (length (drop 1 content))) false false false false
 
--- 6: "backlight above 3F, or page not below P"; 02, §2: "6 for any other value in EB"
+-- 6: "backlight above 3F, or page not below P"; 02, §2: "6 for any other value in EB"; 02, §6: "6 for a first byte other than 5A, a bad digit outside the weekday, or
+-- a date or time that doesn't exist"
 unfoldable pub valueWrong : (pages : ℕ) → ℕ → List ℕ → Bool
 valueWrong pages command content = byCommand command (wrongValue (byteAt content 0) (drop 1 content) pages) false false false false
 

@@ -16,8 +16,9 @@ use Rattle.commands.specs.declared.Outcome.{Outcome}
 use Rattle.commands.specs.declared.Outcome.the-variants.{Done, UnknownCommand, WrongData, PastEnd, Unwritable, WrongValue, ReplyTooLong}
 
 -- "0: done", 02, §2: "2 now means not 80 to 84", "3: data too short, too long, or an odd word byte", "4: address or its run passes the end",
--- "5: a write touches an unwritable register or half the page", "6: backlight above 3F, or page not below P" and 02, §2: "6 for any other value in EB",
--- "7: reply frame's L would pass 255"
+-- "5: a write touches an unwritable register or half the page" and 02, §6: "5 for a write touching some but not all eight or joined with others",
+-- "6: backlight above 3F, or page not below P", 02, §2: "6 for any other value in EB" and 02, §6: "6 for a first byte other than 5A, a bad digit outside the weekday,
+-- or a date or time that doesn't exist", "7: reply frame's L would pass 255"
 unfoldable pub numberOfOutcome : Outcome → ℕ
 numberOfOutcome Done = 0
 numberOfOutcome UnknownCommand = 2

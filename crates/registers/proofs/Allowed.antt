@@ -11,8 +11,8 @@ use lib.ListN.{length, getD}
 use Rattle.wire.specs.ByteOrder.{word}
 use Rattle.wire.proofs.LaidAt.{length-laidAt}
 use Rattle.registers.specs.declared.Registers.{Registers}
-use Rattle.registers.specs.Table.{registerAt, clearRegister, writable}
-use Rattle.registers.specs.Run.{covers, allWritable, halfPage, unwritableRun, byteFor, clearing, wrongValue, readAs, readsAs, registersAfter}
+use Rattle.registers.specs.Table.{registerAt, clearRegister, setRegister, weekdayRegister, writable}
+use Rattle.registers.specs.Run.{covers, allWritable, halfPage, partOfClock, unwritableRun, byteFor, clearing, wrongClock, wrongValue, weekdayFor, readAs, readsAs, registersAfter}
 use Rattle.registers.specs.Touched.{pageOf}
 use Rattle.registers.proofs.ReadsAs.{length-readsAs, clear-reads, other-reads}
 use Rattle.registers.proofs.Written.{written-at, others-stay}
@@ -48,6 +48,13 @@ out-of-run address n register is = go (leb address register) refl is
     go true t is = inr (ltb-false register (address + n) is)
     go false t is = inl (leb-false address register t)
 
+-- a run that is not refused with 5 is writable
+pub run-is-writable : (address n : ℕ) → unwritableRun address n ≡ false → allWritable address n ≡ true
+unfolding unwritableRun
+run-is-writable address n may =
+    not-false (allWritable address n)
+    (neither (not (allWritable address n)) (halfPage address n) (neither (not (allWritable address n) || halfPage address n) (partOfClock address n) may .0) .0)
+
 -- every register of the run is writable
 all-writable : (address n : ℕ) → allWritable address n ≡ true → (register : ℕ) → address ≤ register → register < address + n → writable register ≡ true
 unfolding allWritable
@@ -72,19 +79,20 @@ module _ (registers : Registers) (whole : length (registers .bytes) ≡ 256) (ad
 
   -- what the run covers reads as the byte given to it
   reads-now : (register : ℕ) → covers address (length bytes) register ≡ true
-      → registerAt (registersAfter registers address bytes) register ≡ readAs register (byteFor address bytes register)
+      → registerAt (registersAfter registers address bytes) register ≡ readAs (weekdayFor address bytes) register (byteFor address bytes register)
   unfolding byteFor
   reads-now register is =
       let two = in-run address (length bytes) register is in
       let place : address + (register - address) ≡ register = omega arith in
       ap (registerAt (registersAfter registers address bytes)) (sym place)
       ∙ written-at registers whole address bytes fits (register - address) (omega arith)
-      ∙ ap (λ (r : ℕ). readAs r (getD bytes (register - address) 0)) place
+      ∙ ap (λ (r : ℕ). readAs (weekdayFor address bytes) r (getD bytes (register - address) 0)) place
 
-  -- and is that byte, but for EB
-  given-now : (register : ℕ) → (register ≡ clearRegister → ⊥) → covers address (length bytes) register ≡ true
+  -- and is that byte, but for EB, 1F and the weekday
+  given-now : (register : ℕ) → (register ≡ clearRegister → ⊥) → (register ≡ setRegister → ⊥) → (register ≡ weekdayRegister → ⊥) → covers address (length bytes) register ≡ true
       → registerAt (registersAfter registers address bytes) register ≡ byteFor address bytes register
-  given-now register not is = reads-now register is ∙ sym (other-reads register (byteFor address bytes register) not)
+  given-now register not-clear not-set not-weekday is =
+      reads-now register is ∙ sym (other-reads (weekdayFor address bytes) register (byteFor address bytes register) not-clear not-set not-weekday)
 
   stays-out : (register : ℕ) → covers address (length bytes) register ≡ false → registerAt (registersAfter registers address bytes) register ≡ registerAt registers register
   stays-out register is = others-stay registers whole address bytes fits register (out-of-run address (length bytes) register is)
@@ -94,31 +102,29 @@ module _ (registers : Registers) (whole : length (registers .bytes) ≡ 256) (ad
   clear-reads-00 before = go (covers address (length bytes) clearRegister) refl
     where
       go : (b : Bool) → covers address (length bytes) clearRegister ≡ b → registerAt (registersAfter registers address bytes) clearRegister ≡ 0
-      go true is = reads-now clearRegister is ∙ sym (clear-reads clearRegister (byteFor address bytes clearRegister) refl)
+      go true is = reads-now clearRegister is ∙ sym (clear-reads (weekdayFor address bytes) clearRegister (byteFor address bytes clearRegister) refl)
       go false is = stays-out clearRegister is ∙ before
 
   module _ (may : unwritableRun address (length bytes) ≡ false) where
     -- "isn't writable": what is not stays, whatever is registersAfter
     pub unwritable-stays : (register : ℕ) → writable register ≡ false → registerAt (registersAfter registers address bytes) register ≡ registerAt registers register
-    unfolding unwritableRun
     unwritable-stays register never = go (covers address (length bytes) register) refl
       where
         go : (b : Bool) → covers address (length bytes) register ≡ b → registerAt (registersAfter registers address bytes) register ≡ registerAt registers register
         go false is = stays-out register is
         go true is =
             let two = in-run address (length bytes) register is in
-            let all : allWritable address (length bytes) ≡ true =
-            not-false (allWritable address (length bytes)) (neither (not (allWritable address (length bytes))) (halfPage address (length bytes)) may .0) in
-            no (sym (all-writable address (length bytes) all register (two .0) (two .1)) ∙ never)
+            no (sym (all-writable address (length bytes) (run-is-writable address (length bytes) may) register (two .0) (two .1)) ∙ never)
 
     -- "page, below P", "both bytes together"
     pub page-stays-below : (pages : ℕ) → wrongValue address bytes pages ≡ false → pageOf registers < pages → pageOf (registersAfter registers address bytes) < pages
     unfolding unwritableRun halfPage wrongValue
     page-stays-below pages right below =
         go (covers address (length bytes) 0x03) refl (covers address (length bytes) 0x04) refl
-        (neither (not (allWritable address (length bytes))) _ may .1)
+        (neither (not (allWritable address (length bytes))) _ (neither _ (partOfClock address (length bytes)) may .0) .1)
         (neither (covers address (length bytes) 0x01 && ltb 0x3F (byteFor address bytes 0x01)) _
-        (neither _ (covers address (length bytes) clearRegister && not (clearing (byteFor address bytes clearRegister))) right .0) .1)
+        (neither _ (covers address (length bytes) clearRegister && not (clearing (byteFor address bytes clearRegister)))
+        (neither _ (wrongClock address bytes) right .0) .0) .1)
       where
         go : (high : Bool) → covers address (length bytes) 0x03 ≡ high → (low : Bool) → covers address (length bytes) 0x04 ≡ low
             → (high && not low || not high && low) ≡ false
@@ -127,7 +133,7 @@ module _ (registers : Registers) (whole : length (registers .bytes) ≡ 256) (ad
         go true p true q half value =
             let least : word (byteFor address bytes 0x03) (byteFor address bytes 0x04) < pages =
             leb-false pages (word (byteFor address bytes 0x03) (byteFor address bytes 0x04)) value in
-            unfold pageOf in rw (given-now 0x03 (λ e. omega arith) p, given-now 0x04 (λ e. omega arith) q) least
+            unfold pageOf in rw (given-now 0x03 (λ e. omega arith) (λ e. omega arith) (λ e. omega arith) p, given-now 0x04 (λ e. omega arith) (λ e. omega arith) (λ e. omega arith) q) least
         go true p false q half value = no half
         go false p true q half value = no half
         go false p false q half value = rw (same-page (registersAfter registers address bytes) registers (stays-out 0x03 p) (stays-out 0x04 q)) below

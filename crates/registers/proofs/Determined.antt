@@ -33,6 +33,10 @@ use Rattle.registers.proofs.Registers.is_touch_off.Reads as is-touch-of
 use Rattle.registers.proofs.Registers.is_touch_off.Kinds as is-touch-off-kinds
 use Rattle.registers.proofs.Registers.with_place.Reads as with-place
 use Rattle.registers.proofs.Registers.with_place.Kinds as with-place-kinds
+use Rattle.registers.proofs.Registers.moment.Reads as moment
+use Rattle.registers.proofs.Registers.moment.Kinds as moment-kinds
+use Rattle.registers.proofs.Registers.second_passed.Reads as second-passed
+use Rattle.registers.proofs.Registers.second_passed.Kinds as second-passed-kinds
 
 pub is-unwritable-determined : OneAnswer 1 is-unwritable-kinds.ps is-unwritable-kinds.r is-unwritable.Post
 is-unwritable-determined κs a x y s t p q = cc
@@ -78,3 +82,9 @@ is-touch-off-determined κs a x y s t p q = p ∙ sym q
 
 pub with-place-determined : OneAnswer 0 with-place-kinds.ps with-place-kinds.r with-place.Post
 with-place-determined κs a x y s t p q = p ∙ sym q
+
+pub moment-determined : OneAnswer 0 moment-kinds.ps moment-kinds.r moment.Post
+moment-determined κs a x y s t p q = p ∙ sym q
+
+pub second-passed-determined : OneAnswer 0 second-passed-kinds.ps second-passed-kinds.r second-passed.Post
+second-passed-determined κs a x y s t p q = p ∙ sym q

@@ -6,3 +6,6 @@ pub mod Determined
 pub mod Touching
 pub mod Touched
 pub mod Allowed
+pub mod ClockRuns
+pub mod Clocking
+pub mod Moments

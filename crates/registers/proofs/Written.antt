@@ -2,7 +2,7 @@
 use mathlib.Core.Path.{_≡_, refl, sym, ap, _∙_}
 use mathlib.Core.Logic.{_⊎_, ⊎-elim}
 use mathlib.Core.List.{List, [], _∷_}
-use Prim.Native.Nat.{ℕ, suc, _+_, _-_, _≤_, _<_}
+use Prim.Native.Nat.{ℕ, suc, _+_, _≤_, _<_}
 use native.Mathlib.Omega.{arith}
 use borrow.Author.Tests.{le-leb}
 use lib.ListN.{length, getD}
@@ -10,7 +10,7 @@ use Rattle.wire.specs.Room.{laidAt}
 use Rattle.wire.proofs.LaidAt.{laid-inside, laid-before, laid-behind}
 use Rattle.registers.specs.declared.Registers.{Registers}
 use Rattle.registers.specs.Table.{registerAt, registerRun}
-use Rattle.registers.specs.Run.{readAs, readsAs, registersAfter}
+use Rattle.registers.specs.Run.{weekdayFor, readAs, readsAs, registersAfter}
 use Rattle.registers.proofs.ReadsAs.{length-readsAs, readsAs-at}
 
 module _ (registers : Registers) (whole : length (registers .bytes) ≡ 256) (address : ℕ) (bytes : List ℕ) (fits : address + length bytes ≤ 256) where
@@ -27,7 +27,7 @@ module _ (registers : Registers) (whole : length (registers .bytes) ≡ 256) (ad
   whole-run = length-readsAs address bytes
 
   -- inside the run stands what each byte reads once written
-  pub written-at : (i : ℕ) → i < length bytes → registerAt after (address + i) ≡ readAs (address + i) (getD bytes i 0)
+  pub written-at : (i : ℕ) → i < length bytes → registerAt after (address + i) ≡ readAs (weekdayFor address bytes) (address + i) (getD bytes i 0)
   unfolding registerAt
   written-at i inside =
       rw laid-bytes
@@ -44,7 +44,7 @@ module _ (registers : Registers) (whole : length (registers .bytes) ≡ 256) (ad
       outside)
 
 -- a run is its registers one by one
-run-by-each : (registers : Registers) (address : ℕ) (bytes : List ℕ) → ((i : ℕ) → i < length bytes → registerAt registers (address + i) ≡ getD bytes i 0)
+pub run-by-each : (registers : Registers) (address : ℕ) (bytes : List ℕ) → ((i : ℕ) → i < length bytes → registerAt registers (address + i) ≡ getD bytes i 0)
     → registerRun registers address (length bytes) ≡ bytes
 unfolding registerRun
 run-by-each registers address [] each = refl

@@ -1,8 +1,8 @@
 -- 01, "Registers": the table. "Every other register reads 00 and isn't writable."
 use Prim.Native.Nat.{ℕ, zero, suc}
-use mathlib.Core.Bool.{Bool, cond, _||_}
+use mathlib.Core.Bool.{Bool, cond, _&&_, _||_}
 use mathlib.Core.List.{List, [], _∷_}
-use lib.Dec.{eqb}
+use lib.Dec.{eqb, leb}
 use lib.ListN.{getD, replicate}
 use Rattle.wire.specs.Room.{laidAt}
 use Rattle.wire.specs.Addresses.{registerCount}
@@ -47,6 +47,8 @@ startRows h1 h2 checking acknowledging =
     ∷ row 0x1A (h2 ∷ [])
     -- "1C | 08 if acknowledging, else 00"
     ∷ row 0x1C (cond acknowledging 0x08 0x00 ∷ [])
+    -- 02, §6: "year, month, day, weekday, hour, minute, second in BCD"; "Panels start at the latter moment", 00:00:00 on 1 January 2000, a Saturday
+    ∷ row 0x20 (0x00 ∷ 0x01 ∷ 0x01 ∷ 0x06 ∷ 0x00 ∷ 0x00 ∷ 0x00 ∷ [])
     ∷ []
 
 -- rows laid one after the other over what stands
@@ -71,7 +73,24 @@ registerRun registers address (suc n) = registerAt registers address ∷ registe
 abbrev pub clearRegister : ℕ
 clearRegister = 0xEB
 
--- the column "Writable"; that the page's two bytes, 03 and 04, are written together is judged of the whole run. 02, §2: register EB "becomes writable"
+-- 02, §6: "with 5A first": the first of the clock's registers
+abbrev pub setRegister : ℕ
+setRegister = 0x1F
+
+-- 02, §6: "year, month, day, ..": the first of those that show the moment
+abbrev pub yearRegister : ℕ
+yearRegister = 0x20
+
+-- 02, §6: "the weekday byte"
+abbrev pub weekdayRegister : ℕ
+weekdayRegister = 0x23
+
+-- 02, §6: "registers 1F to 26"
+unfoldable pub isClock : ℕ → Bool
+isClock address = leb 0x1F address && leb address 0x26
+
+-- the column "Writable"; that the page's two bytes, 03 and 04, are written together is judged of the whole run. 02, §2: register EB "becomes writable". 02, §6: "A write
+-- that covers all of 1F to 26 .. sets the clock"; that it covers all of them and no other is judged of the whole run too
 unfoldable pub writable : ℕ → Bool
 writable address =
-    eqb address 0x01 || eqb address 0x02 || eqb address 0x03 || eqb address 0x04 || eqb address 0x05 || eqb address 0x0B || eqb address clearRegister
+    eqb address 0x01 || eqb address 0x02 || eqb address 0x03 || eqb address 0x04 || eqb address 0x05 || eqb address 0x0B || isClock address || eqb address clearRegister

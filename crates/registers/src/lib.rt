@@ -11,6 +11,7 @@ mod by_touch; // what a touch reads and sets
 mod judging; // what is wrong with a run that is to be written, and what it asks for
 mod laying; // a run laid over a room
 mod storing; // a run written
+mod timing; // the clock's registers
 
 pub use judging::clear_value;
 pub use judging::drops_catch;
@@ -20,6 +21,18 @@ pub use laying::read;
 
 // 02, §2: a write to it clears curves; `clearRegister` in specs/.
 const CLEAR_REGISTER: usize = 0xEB;
+
+// 02, §6: the clock's eight registers: the one that is written 5A where the clock is set, the year's, the weekday's and the last; `setRegister`,
+// `yearRegister` and `weekdayRegister` in specs/.
+const CLOCK_REGISTERS: usize = 8;
+
+const SET_REGISTER: usize = 0x1F;
+
+const YEAR_REGISTER: usize = 0x20;
+
+const WEEKDAY_REGISTER: usize = 0x23;
+
+const LAST_CLOCK_REGISTER: usize = 0x26;
 
 // An address of a register. It cannot stand where a word's address is meant, nor the other way round.
 pub struct RegisterAddress(pub u8);
@@ -58,6 +71,9 @@ impl Registers {
         bytes[0x13] = h1;
         bytes[0x1A] = h2;
         bytes[0x1C] = shown(acknowledging, 0x08);
+        bytes[0x21] = 0x01;
+        bytes[0x22] = 0x01;
+        bytes[0x23] = 0x06;
         Registers { bytes: bytes }
     }
 

@@ -4,10 +4,13 @@ ghost use Prim.Native.Nat.{_+_, _≤_};
 ghost use lib.ListN.{length};
 ghost use Rattle.wire.specs.Room.{laidAt};
 ghost use Rattle.wire.specs.Addresses.{registerCount};
-ghost use Rattle.registers.specs.Run.{readAs, readsAs, registersAfter};
+ghost use Rattle.registers.specs.Run.{weekdayFor, readAs, readsAs, registersAfter};
 use crate::CLEAR_REGISTER;
 use crate::RegisterAddress;
 use crate::Registers;
+use crate::SET_REGISTER;
+use crate::WEEKDAY_REGISTER;
+use crate::judging;
 use wire::REGISTER_COUNT;
 
 // The array with these bytes from a place on.
@@ -24,11 +27,30 @@ pub(crate) fn with_run(old: [u8; REGISTER_COUNT], at: usize, bytes: &[u8]) -> [u
     next
 }
 
-// What a register reads once the byte has been written to it.
-fn read_as(register: usize, b: u8) -> u8
-    ensures { λ r. ⌜ r ≡ readAs register b ⌝ }
+// The weekday of the date that a run of these bytes gives to the clock.
+fn weekday_for(address: usize, bytes: &[u8]) -> u8
+    ensures { λ r. ⌜ r ≡ weekdayFor address (now (bytes .entry)) ⌝ }
 {
-    if register == CLEAR_REGISTER { 0 } else { b }
+    let date = clock::date_in(
+        judging::byte_for(0x20, address, bytes),
+        judging::byte_for(0x21, address, bytes),
+        judging::byte_for(0x22, address, bytes),
+    );
+    date.weekday()
+}
+
+// What a register reads once the byte has been written to it.
+fn read_as(weekday: u8, register: usize, b: u8) -> u8
+    ensures { λ r. ⌜ r ≡ readAs weekday register b ⌝ }
+{
+    if (register == CLEAR_REGISTER) | (register == SET_REGISTER) {
+        return 0;
+    }
+    if register == WEEKDAY_REGISTER {
+        weekday
+    } else {
+        b
+    }
 }
 
 // The array with these bytes written from a place on.
@@ -36,10 +58,11 @@ fn with_written(old: [u8; REGISTER_COUNT], at: usize, bytes: &[u8]) -> [u8; REGI
     requires { ⌜ at + length (now bytes) ≤ registerCount ⌝ }
     ensures { λ r. ⌜ r ≡ laidAt at (readsAs at (now (bytes .entry))) old ⌝ }
 {
+    let weekday = weekday_for(at, bytes);
     let mut next = old;
     let mut i = 0;
     while i < bytes.len() {
-        next[at + i] = read_as(at + i, bytes[i]);
+        next[at + i] = read_as(weekday, at + i, bytes[i]);
         i += 1;
     }
     next

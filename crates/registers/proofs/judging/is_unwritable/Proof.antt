@@ -12,4 +12,5 @@ is-unwritable-spec =
     (λ c κs. search needs)
     (λ c κs. search needs)
     (λ c κs. search needs)
+    (λ c κs. search needs)
     (λ c. search run-unwritable))

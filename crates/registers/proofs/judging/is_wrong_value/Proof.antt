@@ -18,4 +18,5 @@ is-wrong-value-spec =
     (λ c κs. search needs)
     (λ c κs. search needs)
     (λ c κs. search needs)
+    (λ c κs. search needs)
     (λ c. search run-wrong))
