@@ -16,6 +16,10 @@ use Rattle.panel.proofs.Panel.give_byte.Reads as give-byte
 use Rattle.panel.proofs.Panel.give_byte.Kinds as give-byte-kinds
 use Rattle.panel.proofs.Panel.give_mark.Reads as give-mark
 use Rattle.panel.proofs.Panel.give_mark.Kinds as give-mark-kinds
+use Rattle.panel.proofs.Panel.give_second.Reads as give-second
+use Rattle.panel.proofs.Panel.give_second.Kinds as give-second-kinds
+use Rattle.panel.proofs.Panel.moment.Reads as moment
+use Rattle.panel.proofs.Panel.moment.Kinds as moment-kinds
 use Rattle.panel.proofs.Panel.give_bytes.Reads as give-bytes
 use Rattle.panel.proofs.Panel.give_bytes.Kinds as give-bytes-kinds
 use Rattle.panel.proofs.Panel.register.Reads as register
@@ -64,6 +68,12 @@ give-mark-determined κs a x y s t p q = p .0 ∙ sym (q .0)
 
 pub give-bytes-determined : OneAnswer 1 give-bytes-kinds.ps give-bytes-kinds.r give-bytes.Post
 give-bytes-determined κs a x y s t p q = p ∙ sym q
+
+pub give-second-determined : OneAnswer 0 give-second-kinds.ps give-second-kinds.r give-second.Post
+give-second-determined κs a x y s t p q = p .0 ∙ sym (q .0)
+
+pub moment-determined : OneAnswer 0 moment-kinds.ps moment-kinds.r moment.Post
+moment-determined κs a x y s t p q = p ∙ sym q
 
 pub register-determined : OneAnswer 0 register-kinds.ps register-kinds.r register.Post
 register-determined κs a x y s t p q = p ∙ sym q

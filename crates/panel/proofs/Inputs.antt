@@ -8,7 +8,9 @@ use Rattle.line.specs.declared.Reader.{Reader}
 use Rattle.line.specs.declared.Given.{Given}
 use Rattle.line.specs.declared.Gave.{Gave}
 use Rattle.line.specs.State.{readerOf, noReader}
-use Rattle.line.specs.Methods.{givenByte, givenMark, givenBytes}
+use Rattle.line.specs.declared.Answer.the-variants.{Done, Waits}
+use Rattle.line.specs.Methods.{busy, givenByte, givenMark, givenBytes}
+use Rattle.registers.specs.Clocked.{secondPassed}
 use Rattle.reading.specs.Moves.{fresh}
 use Rattle.registers.specs.declared.Registers.{Registers}
 use Rattle.registers.specs.Table.{startRegisters}
@@ -25,9 +27,9 @@ use Rattle.panel.specs.declared.StartAnswer.the-variants as start
 use Rattle.panel.specs.declared.Start.{Start}
 use Rattle.panel.specs.declared.Fed.{Fed}
 use Rattle.panel.specs.declared.FedBytes.{FedBytes}
-use Rattle.panel.specs.State.{headerFor, withReader}
+use Rattle.panel.specs.State.{headerFor, withReader, withRegisters}
 use Rattle.panel.specs.Start.{newPanel, noPanel, startJudged, started}
-use Rattle.panel.specs.Inputs.{fedByte, fedMark, fedBytes}
+use Rattle.panel.specs.Inputs.{fedByte, fedMark, fedSecond, fedBytes}
 
 pub new-made : (setup : Setup) (c k : Bool) (header : Header) (registers : Registers) (counts : Counts) (reader : Reader) → c ≡ checkingOf setup → k ≡ acknowledgingOf setup
     → header ≡ headerFor setup → registers ≡ startRegisters (setup .h1) (setup .h2) c k → counts ≡ noCounts
@@ -81,3 +83,13 @@ module _ (panel : Panel) where
       → _≡_ {A = FedBytes} (record { used = given .used; panel = withReader panel (given .reader) }) (fedBytes panel bytes)
   unfolding fedBytes
   bytes-fed bytes given is = ap (λ (g : Gave). record { used = g .used; panel = withReader panel (g .reader) }) is
+
+module _ (panel : Panel) (waits : Bool) (is-waits : waits ≡ busy (panel .reader)) where
+  pub second-refused : waits ≡ true → _≡_ {A = Fed} (record { answer = Waits; panel = panel }) (fedSecond panel)
+  unfolding fedSecond
+  second-refused on = rw (sym is-waits ∙ on)
+
+  pub second-fed : (next : Registers) → waits ≡ false → next ≡ secondPassed (panel .registers)
+      → _≡_ {A = Fed} (record { answer = Done; panel = withRegisters panel next }) (fedSecond panel)
+  unfolding fedSecond
+  second-fed next off is = rw (sym is-waits ∙ off, is)

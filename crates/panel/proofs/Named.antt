@@ -8,17 +8,18 @@ use lib.ListN.{length, take, drop}
 use Rattle.line.specs.declared.Report.the-variants as line
 use Rattle.line.specs.Methods.{asked}
 use Rattle.words.specs.Words.{wordAtAddress}
+use Rattle.registers.proofs.Moments.{second-others}
 use Rattle.wire.specs.Addresses.{registerCount}
 use Rattle.commands.specs.Lent.{Lent, withRoom}
 use Rattle.commands.proofs.Named as Command
 use Rattle.contact.proofs.Named as Touch
 use Rattle.panel.specs.declared.Panel.{Panel}
 use Rattle.panel.specs.State.{fixedFor, padOf, panelRegister}
-use Rattle.panel.specs.Inputs.{fedByte, fedMark, fedBytes}
+use Rattle.panel.specs.Inputs.{fedByte, fedMark, fedSecond, fedBytes}
 use Rattle.panel.specs.Reporting.{acknowledged, accepting, handingOver, handing, reporting}
 use Rattle.panel.specs.Watching.{telling}
 use Rattle.panel.specs.Contacts.{Contact, contacting, lifting}
-use Rattle.panel.proofs.Ways.{contact-ways, lift-ways, report-ways}
+use Rattle.panel.proofs.Ways.{contact-ways, lift-ways, second-ways, report-ways}
 
 -- the frame that is handed over names the word
 pub data ReportNamesWord (panel : Panel) (words : List ℕ) (k : ℕ) : Type 0 where
@@ -83,6 +84,12 @@ lifted-register panel whole address other =
 pub byte-keeps-registers : (panel : Panel) (b : ℕ) → fedByte panel b .panel .registers ≡ panel .registers
 unfolding fedByte
 byte-keeps-registers panel b = refl
+
+-- 02, §6: "Demand 2's last sentence then also lets a second change the clock's registers": 20 to 26, and no other
+pub second-only-clock : (panel : Panel) → length (panel .registers .bytes) ≡ 256 → (address : ℕ) → (address < 0x20) ⊎ (0x27 ≤ address)
+    → panelRegister (fedSecond panel .panel) address ≡ panelRegister panel address
+second-only-clock panel whole address outside =
+    second-ways panel (λ f. panelRegister (f .panel) address ≡ panelRegister panel address) refl (λ quiet. second-others (panel .registers) whole address outside)
 
 pub mark-keeps-registers : (panel : Panel) → fedMark panel .panel .registers ≡ panel .registers
 unfolding fedMark

@@ -20,13 +20,15 @@ use Rattle.touch.specs.declared.Verdict.{Verdict}
 use Rattle.touch.specs.declared.Verdict.the-variants.{Good, NotRecords, Wrong}
 use Rattle.touch.specs.Setup.{goodSetup}
 use Rattle.touch.specs.Judge.{judged}
+use Rattle.registers.specs.Clocked.{secondPassed}
 use Rattle.panel.specs.declared.Panel.{Panel}
+use Rattle.panel.specs.declared.Fed.{Fed}
 use Rattle.panel.specs.declared.StartAnswer.the-variants as start
 use Rattle.panel.specs.declared.Handed.the-variants as handed
-use Rattle.panel.specs.State.{fixedFor, withReader}
+use Rattle.panel.specs.State.{fixedFor, withReader, withRegisters}
 use Rattle.panel.specs.Numbers.{startNumber, reportNumber, contactNumber, liftNumber}
 use Rattle.panel.specs.Start.{noPanel, refuses, startJudged, started}
-use Rattle.panel.specs.Inputs.{fedByte, fedMark, fedBytes}
+use Rattle.panel.specs.Inputs.{fedByte, fedMark, fedSecond, fedBytes}
 use Rattle.panel.specs.Reporting.{wellLent, acknowledged, accepting, Reporting, reports, handingOver, handing, refused, refusal, reporting}
 use Rattle.panel.specs.Contacts.{Contact, silent, contacting, lifting}
 use Rattle.panel.proofs.Ways.{contact-ways, lift-ways, report-ways}
@@ -57,6 +59,10 @@ module _ (panel : Panel) (waits : busy (panel .reader) ≡ true) where
   unfolding fedMark givenMark
   refused-mark-changes-nothing = rw waits
 
+  pub refused-second-changes-nothing : fedSecond panel ≡ record { answer = line-answer.Waits; panel = panel }
+  unfolding fedSecond
+  refused-second-changes-nothing = rw waits
+
   pub refused-bytes-change-nothing : (bytes : List ℕ) → fedBytes panel bytes ≡ record { used = 0; panel = panel }
   unfolding fedBytes givenBytes
   refused-bytes-change-nothing [] = refl
@@ -74,6 +80,15 @@ byte-refused-waits panel b is = answered-waits (busy (panel .reader)) (panel .re
 pub mark-refused-waits : (panel : Panel) → fedMark panel .answer ≡ line-answer.Waits → busy (panel .reader) ≡ true
 unfolding fedMark givenMark
 mark-refused-waits panel is = answered-waits (busy (panel .reader)) (panel .reader) _ is
+
+pub second-refused-waits : (panel : Panel) → fedSecond panel .answer ≡ line-answer.Waits → busy (panel .reader) ≡ true
+unfolding fedSecond
+second-refused-waits panel is = go (busy (panel .reader)) is
+  where
+    go : (w : Bool) → cond {A = Fed} w (record { answer = line-answer.Waits; panel = panel })
+        (record { answer = line-answer.Done; panel = withRegisters panel (secondPassed (panel .registers)) }) .answer ≡ line-answer.Waits → w ≡ true
+    go true is = refl
+    go false is = cc
 
 -- a contact with a number above 0 leaves the panel and all that is lent, and writes nothing
 pub refused-contact-changes-nothing : (panel : Panel) (c : Contact) (lent : Lent) → 0 < contactNumber (contacting panel c lent .contacted .answer)

@@ -1,14 +1,15 @@
 -- What a start, an input, a contact and a lift are answered says what 01's lists give.
-use mathlib.Core.Path.{_≡_, refl, sym, ap, _∙_}
+use mathlib.Core.Path.{_≡_, refl, ap, _∙_}
 use mathlib.Core.Bool.{Bool, true, false, cond, not}
 use mathlib.Core.List.{List, []}
 use Prim.Native.Nat.{ℕ}
 use lib.ListN.{length}
 use Rattle.wire.specs.Numbers.{Said, says, firstSaid}
-use Rattle.line.specs.declared.Given.{Given}
-use Rattle.line.specs.Methods.{busy, answerSaid, inputSaid, givenByte, givenMark}
+use Rattle.line.specs.declared.Answer.the-variants as input
+use Rattle.line.specs.Methods.{busy, numberOfAnswer, answerSaid, inputListed, inputSaid, givenByte, givenMark}
 use Rattle.line.proofs.Said.{byte-said, mark-said}
 use Rattle.registers.specs.Touched.{isDown, isTouchOff}
+use Rattle.registers.specs.Clocked.{secondPassed}
 use Rattle.watch.specs.Judge.{wrongList}
 use Rattle.commands.specs.Lent.{Lent, withWords}
 use Rattle.touch.specs.declared.Setup.{Setup}
@@ -28,8 +29,8 @@ use Rattle.panel.specs.declared.Lifted.{Lifted}
 use Rattle.panel.specs.declared.LiftAnswer.the-variants as lift
 use Rattle.panel.specs.Numbers.{startNumber, startSaid, contactNumber, contactSaid, liftNumber, liftSaid}
 use Rattle.panel.specs.Start.{refuses, startJudged, started}
-use Rattle.panel.specs.Inputs.{fedByte, fedMark}
-use Rattle.panel.specs.State.{padOf, withPad}
+use Rattle.panel.specs.Inputs.{fedByte, fedMark, fedSecond}
+use Rattle.panel.specs.State.{padOf, withPad, withRegisters}
 use Rattle.panel.specs.Contacts.{onScreen, Contact, Contacting, contacts, silent, contactOn, contactJudged, told, touchNotLent, contacting, lifting}
 use Rattle.panel.specs.Watching.{telling}
 use Rattle.panel.specs.Listed.{startListed, contactListed, contactSaidDone, contactAnswered, liftListed, saidBy}
@@ -57,6 +58,19 @@ pub byte-fed-said : (panel : Panel) (b : ℕ) (r : Fed) → r ≡ fedByte panel 
 unfolding fedByte
 byte-fed-said panel b r is =
     (is, ap (λ (f : Fed). answerSaid (f .answer)) is ∙ byte-said (givenByte (panel .reader) b) (panel .reader) b refl .1)
+
+second-as-listed : (panel : Panel) → answerSaid (fedSecond panel .answer) ≡ inputSaid (panel .reader)
+unfolding fedSecond answerSaid inputListed numberOfAnswer firstSaid
+second-as-listed panel = go (busy (panel .reader))
+  where
+    go : (b : Bool) → answerSaid (cond {A = Fed} b (record { answer = input.Waits; panel = panel })
+        (record { answer = input.Done; panel = withRegisters panel (secondPassed (panel .registers)) }) .answer)
+        ≡ cond b (says 1 []) (says 0 [])
+    go true = refl
+    go false = refl
+
+pub second-fed-said : (panel : Panel) (r : Fed) → r ≡ fedSecond panel → (r ≡ fedSecond panel) × (answerSaid (r .answer) ≡ inputSaid (panel .reader))
+second-fed-said panel r is = (is, ap (λ (f : Fed). answerSaid (f .answer)) is ∙ second-as-listed panel)
 
 pub mark-fed-said : (panel : Panel) (r : Fed) → r ≡ fedMark panel → (r ≡ fedMark panel) × (answerSaid (r .answer) ≡ inputSaid (panel .reader))
 unfolding fedMark

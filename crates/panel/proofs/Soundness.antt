@@ -22,11 +22,15 @@ use Rattle.reading.specs.Moves.{fresh, waiting, withByte, withMark, afterReport
 use Rattle.registers.specs.declared.Registers.{Registers}
 use Rattle.wire.specs.Addresses.{registerCount}
 use Rattle.wire.specs.Room.{laidAt}
-use Rattle.registers.specs.Table.{startRows, withRows, startRegisters, registerAt, clearRegister, writable}
+use Rattle.registers.specs.Table.{startRows, withRows, startRegisters, registerAt, clearRegister, isClock, writable}
 use Rattle.registers.specs.Touched.{pageOf}
-use Rattle.registers.proofs.Touched.{same-status}
+use Rattle.registers.proofs.Touched.{same-page, same-status}
 use Rattle.registers.proofs.Allowed.{length-written, clear-reads-00, unwritable-stays, page-stays-below}
-use Rattle.registers.specs.Run.{clearValue}
+use Rattle.registers.specs.Run.{clearValue, registersAfter}
+use Rattle.registers.specs.Clocked.{momentOf, Stands, secondPassed}
+use Rattle.registers.proofs.ClockRuns.{clock-behind, unwritable-apart}
+use Rattle.registers.proofs.Moments.{firstMoment, stands, start-stands, same-stands, second-others, length-second, second-stands, allowed-stands}
+use Rattle.clock.specs.Passing.{nextSecond}
 use Rattle.curves.specs.declared.Counts.{Counts}
 use Rattle.curves.specs.Area.{channelCount, channelWords, countOf}
 use Rattle.curves.proofs.Lengths.{length-none, length-added-counts, length-cleared}
@@ -42,23 +46,23 @@ use Rattle.touch.specs.declared.Setup.{Setup}
 use Rattle.touch.specs.declared.Record.{Record}
 use Rattle.touch.specs.Record.{slides}
 use Rattle.touch.specs.Judge.{goodRecord}
-use Rattle.touch.specs.Setup.{flagValues, goodSetup}
+use Rattle.touch.specs.Setup.{flagValues, checkingOf, acknowledgingOf, goodSetup}
 use Rattle.touch.proofs.GoodFields.{left, right}
 use Rattle.contact.specs.declared.Catch.{Catch}
 use Rattle.contact.specs.declared.Catch.the-variants.{Free, Caught}
-use Rattle.contact.specs.Contact.{padWith}
+use Rattle.contact.specs.Contact.{padWith, touched, lifted}
 use Rattle.contact.specs.Sound as Pad
 use Rattle.contact.proofs.Named.{other-register-stays, lift-only-status}
 use Rattle.contact.proofs.Soundness.{touched-sound, lifted-sound}
 use Rattle.panel.specs.declared.Panel.{Panel}
 use Rattle.panel.specs.State as State
-use Rattle.panel.specs.State.{fixedFor, withReader}
+use Rattle.panel.specs.State.{fixedFor, withReader, withRegisters, panelMoment}
 use Rattle.panel.specs.Start.{newPanel}
-use Rattle.panel.specs.Inputs.{fedByte, fedMark, fedBytes}
+use Rattle.panel.specs.Inputs.{fedByte, fedMark, fedSecond, fedBytes}
 use Rattle.panel.specs.Reporting.{acknowledged, accepting, handingOver, catchAfter, drawing, handing, reporting}
 use Rattle.panel.specs.Contacts.{Contact, contacting, lifting}
 use Rattle.panel.specs.Sound.{lineOf, Reads, Sound}
-use Rattle.panel.proofs.Ways.{contact-ways, lift-ways, report-ways}
+use Rattle.panel.proofs.Ways.{contact-ways, lift-ways, second-ways, report-ways}
 
 -- a start
 pages-some : (setup : Setup) → goodSetup setup ≡ true → 0 < setup .pages
@@ -85,6 +89,7 @@ new-sound setup good =
       };
       fixed = λ address never outside. refl;
       clear-reads = refl;
+      clock = stands (newPanel setup .registers) firstMoment (start-stands (setup .h1) (setup .h2) (checkingOf setup) (acknowledgingOf setup));
       channels = length-none;
       counted = few-none;
       reads = record { kept = fresh; reached = reached-new (lineOf setup); is = refl };
@@ -144,6 +149,7 @@ module _ (panel : Panel) (sound : Sound panel) where
         pad = sound .pad;
         fixed = sound .fixed;
         clear-reads = sound .clear-reads;
+        clock = sound .clock;
         channels = sound .channels;
         counted = sound .counted;
         reads = reads;
@@ -157,6 +163,32 @@ module _ (panel : Panel) (sound : Sound panel) where
   unfolding fedMark
   mark-sound = reader-sound (givenMark (panel .reader) .reader) (reads-mark (lineOf (panel .setup)) (panel .reader) (sound .reads))
 
+  -- a second leaves page and status, and the clock stands one second later
+  passed-sound : Sound (withRegisters panel (secondPassed (panel .registers)))
+  passed-sound =
+      let whole = sound .pad .whole in
+      let others = second-others (panel .registers) whole in
+      let later = secondPassed (panel .registers) in
+      let page = same-page later (panel .registers) (others 0x03 (inl (omega arith))) (others 0x04 (inl (omega arith))) in
+      let status = same-status later (panel .registers) (others 0x06 (inl (omega arith))) in
+      record {
+        pad = record {
+          whole = length-second (panel .registers) whole;
+          below = rw page (sound .pad .below);
+          up-free = λ up. sound .pad .up-free (sym status ∙ up);
+          caught-good = sound .pad .caught-good;
+        };
+        fixed = λ address never outside. others address (unwritable-apart address never) ∙ sound .fixed address never outside;
+        clear-reads = others clearRegister (inr (omega arith)) ∙ sound .clear-reads;
+        clock = stands later (nextSecond (panelMoment panel)) (second-stands (panel .registers) whole (panelMoment panel) (sound .clock));
+        channels = sound .channels;
+        counted = sound .counted;
+        reads = sound .reads;
+      }
+
+  pub second-sound : Sound (fedSecond panel .panel)
+  second-sound = second-ways panel (λ f. Sound (f .panel)) sound (λ quiet. passed-sound)
+
   pub bytes-sound : (bytes : List ℕ) → Bytes bytes → Sound (fedBytes panel bytes .panel)
   unfolding fedBytes
   bytes-sound bytes are =
@@ -164,6 +196,13 @@ module _ (panel : Panel) (sound : Sound panel) where
 
 -- touches
 module _ (panel : Panel) (sound : Sound panel) where
+  -- the clock's registers lie behind those that a touch sets
+  kept-clock : (after : Registers) → ((register : ℕ) → 0x0B ≤ register → registerAt after register ≡ registerAt (panel .registers) register)
+      → Stands after (momentOf after)
+  kept-clock after same =
+      stands after (panelMoment panel)
+      (same-stands (panel .registers) after (panelMoment panel) (λ register is. same register (clock-behind register is)) (sound .clock))
+
   pub contact-sound : (c : Contact) (lent : Lent) → Sound (contacting panel c lent .contacted .panel)
   contact-sound c lent =
       contact-ways panel c lent (λ r. Sound (r .contacted .panel)) (λ answer. sound)
@@ -174,6 +213,8 @@ module _ (panel : Panel) (sound : Sound panel) where
         clear-reads =
             other-register-stays (panel .setup) (State.padOf panel) (sound .pad .whole) (c .table) (lent .words) (c .x) (c .y) clearRegister (inr (omega arith))
             ∙ sound .clear-reads;
+        clock = kept-clock (touched (panel .setup) (State.padOf panel) (c .table) (lent .words) (c .x) (c .y) .pad .registers)
+            (λ register outside. other-register-stays (panel .setup) (State.padOf panel) (sound .pad .whole) (c .table) (lent .words) (c .x) (c .y) register (inr outside));
         channels = sound .channels;
         counted = sound .counted;
         reads = sound .reads;
@@ -192,6 +233,8 @@ module _ (panel : Panel) (sound : Sound panel) where
             lift-only-status (State.padOf panel) (sound .pad .whole) address (not-status address outside) ∙ sound .fixed address never outside;
         clear-reads =
             lift-only-status (State.padOf panel) (sound .pad .whole) clearRegister (not-status clearRegister (inr (omega arith))) ∙ sound .clear-reads;
+        clock = kept-clock (lifted (State.padOf panel) .registers)
+            (λ register outside. lift-only-status (State.padOf panel) (sound .pad .whole) register (not-status register (inr outside)));
         channels = sound .channels;
         counted = sound .counted;
         reads = sound .reads;
@@ -203,9 +246,10 @@ record Allowed (pages : ℕ) (before after : Registers) : Type 0 where
   below : pageOf after < pages
   stays : (address : ℕ) → writable address ≡ false → registerAt after address ≡ registerAt before address
   clear-reads : registerAt before clearRegister ≡ 0 → registerAt after clearRegister ≡ 0
+  clock : Stands before (momentOf before) → Stands after (momentOf after)
 
 same-allowed : (pages : ℕ) (before after : Registers) → length (before .bytes) ≡ 256 → pageOf before < pages → after ≡ before → Allowed pages before after
-same-allowed pages before after whole below is = rw is (record { whole = whole; below = below; stays = λ address never. refl; clear-reads = λ reads. reads })
+same-allowed pages before after whole below is = rw is (record { whole = whole; below = below; stays = λ address never. refl; clear-reads = λ reads. reads; clock = λ at. at })
 
 performed-allowed : (fixed : Fixed) (registers : Registers) (command : ℕ) (content : List ℕ) (lent : Lent)
     → length (registers .bytes) ≡ registerCount → pageOf registers < fixed .pages
@@ -236,12 +280,15 @@ performed-allowed fixed registers command content lent whole below =
           below = page-stays-below registers whole first bytes (passed .fits) (passed .may) pages (passed .right) below;
           stays = λ address never. unwritable-stays registers whole first bytes (passed .fits) (passed .may) address never;
           clear-reads = clear-reads-00 registers whole first bytes (passed .fits);
+          clock = λ at.
+              stands (registersAfter registers first bytes) _
+              (allowed-stands registers whole first bytes (passed .fits) (passed .may) pages (passed .right) (momentOf registers) at);
         })
 
 -- a command leaves the status, and drops the catch or leaves it
 pad-after : (setup : Setup) (before after : Registers) (catch : Catch) (drops : Bool) → Pad.Sound setup (padWith before catch) → Allowed (setup .pages) before after
     → Pad.Sound setup (padWith after (catchAfter drops catch))
-unfolding writable
+unfolding writable isClock
 pad-after setup before after catch drops sound allowed =
     record {
       whole = allowed .whole;
@@ -291,6 +338,7 @@ report-sound panel sound lent =
       pad = pad-after setup (panel .registers) (registersBy (done .performed) (panel .registers) content) (panel .catch) (done .performed .drops) (sound .pad) allowed;
       fixed = λ address never outside. allowed .stays address never ∙ sound .fixed address never outside;
       clear-reads = allowed .clear-reads (sound .clear-reads);
+      clock = allowed .clock (sound .clock);
       channels = drawn-eight (done .performed .writes) (done .performed .adds) (panel .counts) content (lent .curves) (sound .channels);
       counted = drawn-counted (done .performed .writes) (done .performed .adds) (panel .counts) content (lent .curves) (sound .counted);
       reads = asks;

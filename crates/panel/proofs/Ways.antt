@@ -1,4 +1,4 @@
--- The ways in which a contact, a lift and an ask end: what holds of each holds of the call.
+-- The ways in which a contact, a lift, a second and an ask end: what holds of each holds of the call.
 use mathlib.Core.Path.{_≡_, refl}
 use mathlib.Core.Bool.{Bool, true, false, cond, not}
 use mathlib.Core.List.{List, []}
@@ -10,7 +10,9 @@ use Rattle.line.specs.declared.Report.{Report}
 use Rattle.line.specs.declared.Report.the-variants as line
 use Rattle.line.specs.State.{padded}
 use Rattle.line.specs.Methods.{busy, asked}
+use Rattle.line.specs.declared.Answer.the-variants as input
 use Rattle.registers.specs.Touched.{isDown, isTouchOff}
+use Rattle.registers.specs.Clocked.{secondPassed}
 use Rattle.touch.specs.declared.Setup.{Setup}
 use Rattle.touch.specs.declared.Verdict.{Verdict}
 use Rattle.touch.specs.declared.Verdict.the-variants.{Good, NotRecords, Wrong}
@@ -28,7 +30,9 @@ use Rattle.panel.specs.declared.ContactAnswer.the-variants as contact
 use Rattle.panel.specs.declared.Lifted.{Lifted}
 use Rattle.panel.specs.declared.LiftAnswer.{LiftAnswer}
 use Rattle.panel.specs.declared.LiftAnswer.the-variants as lift
-use Rattle.panel.specs.State.{padOf, withPad}
+use Rattle.panel.specs.declared.Fed.{Fed}
+use Rattle.panel.specs.State.{padOf, withPad, withRegisters}
+use Rattle.panel.specs.Inputs.{fedSecond}
 use Rattle.panel.specs.Reporting.{enoughLent, wellLent, Reporting, reports, handingOver, handing, refusal, reporting}
 use Rattle.panel.specs.Watching.{Telling, telling}
 use Rattle.panel.specs.Contacts.{onScreen, Contact, Contacting, contacts, silent, contactOn, contactJudged, isTouch, told, touchNotLent, contacting, lifting}
@@ -107,6 +111,12 @@ pub lift-ways : (panel : Panel) (P : Lifted → Type 0) → P (lifts lift.Waits 
     → P (lifts lift.Done (withPad panel (lifted (padOf panel)))) → P (lifting panel)
 unfolding lifting
 lift-ways panel P waits up done = by-test P (busy (panel .reader)) _ _ waits (by-test P (not (isDown (panel .registers))) _ _ up done)
+
+-- a second is refused, or the clock advances
+pub second-ways : (panel : Panel) (P : Fed → Type 0) → P (record { answer = input.Waits; panel = panel })
+    → (busy (panel .reader) ≡ false → P (record { answer = input.Done; panel = withRegisters panel (secondPassed (panel .registers)) })) → P (fedSecond panel)
+unfolding fedSecond
+second-ways panel P waits done = by-case P (busy (panel .reader)) _ _ (λ is. waits) done
 
 -- an ask is refused with 14 or 16, hands nothing over, or hands over a bad check or, with a good list, an accepted frame
 module _ (panel : Panel) (lent : Lent) (P : Reporting → Type 0)

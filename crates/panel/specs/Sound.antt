@@ -10,12 +10,13 @@ use Rattle.line.specs.State.{readerOf}
 use Rattle.line.specs.Reached.{Reached}
 use Rattle.reading.specs.Moves.{Kept}
 use Rattle.registers.specs.Table.{startRegisters, registerAt, clearRegister, writable}
+use Rattle.registers.specs.Clocked.{Stands}
 use Rattle.curves.specs.Area.{channelCount, channelWords, countOf}
 use Rattle.touch.specs.declared.Setup.{Setup}
 use Rattle.touch.specs.Setup.{checkingOf, acknowledgingOf}
 use Rattle.contact.specs.Sound as Pad
 use Rattle.panel.specs.declared.Panel.{Panel}
-use Rattle.panel.specs.State.{headerFor, padOf}
+use Rattle.panel.specs.State.{headerFor, padOf, panelMoment}
 
 -- "Two header bytes H1 H2, fixed at setup", and whether checking is on: what the reader is set up with
 abbrev pub lineOf : Setup → Line
@@ -37,6 +38,8 @@ pub record Sound (panel : Panel) : Type 0 where
       ≡ registerAt (startRegisters (panel .setup .h1) (panel .setup .h2) (checkingOf (panel .setup)) (acknowledgingOf (panel .setup))) address
   -- 02, §2: register EB "reads 00"
   pub clear-reads : registerAt (panel .registers) clearRegister ≡ 0
+  -- 02, §6: the clock's registers show the moment at which it stands, which exists; "1F reads 00"
+  pub clock : Stands (panel .registers) (panelMoment panel)
   -- "eight channels", each with at most "its latest 1,024 numbers"
   pub channels : length (panel .counts .each) ≡ channelCount
   pub counted : (n : ℕ) → countOf (panel .counts) n ≤ channelWords

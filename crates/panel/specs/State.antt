@@ -5,7 +5,10 @@ use mathlib.Core.List.{List}
 use Rattle.frame.specs.declared.Header.{Header}
 use Rattle.frame.specs.Frame.{headerBytes}
 use Rattle.line.specs.declared.Reader.{Reader}
+use Rattle.clock.specs.declared.Moment.{Moment}
+use Rattle.registers.specs.declared.Registers.{Registers}
 use Rattle.registers.specs.Table.{registerAt}
+use Rattle.registers.specs.Clocked.{momentOf}
 use Rattle.curves.specs.Area.{countOf}
 use Rattle.touch.specs.declared.Setup.{Setup}
 use Rattle.touch.specs.Setup.{checkingOf, acknowledgingOf}
@@ -34,6 +37,11 @@ abbrev pub withReader : Panel → Reader → Panel
 withReader panel reader =
     record { setup = panel .setup; registers = panel .registers; catch = panel .catch; counts = panel .counts; reader = reader }
 
+-- a panel with other registers
+abbrev pub withRegisters : Panel → Registers → Panel
+withRegisters panel registers =
+    record { setup = panel .setup; registers = registers; catch = panel .catch; counts = panel .counts; reader = panel .reader }
+
 -- what a touch reads and sets
 abbrev pub padOf : Panel → Pad
 padOf panel = record { registers = panel .registers; catch = panel .catch }
@@ -50,3 +58,7 @@ panelRegister panel address = registerAt (panel .registers) address
 -- 02, §2: how many numbers a channel has; past the last channel there is none
 abbrev pub panelCount : Panel → ℕ → ℕ
 panelCount panel n = countOf (panel .counts) n
+
+-- 02, §6: "Alarm pages need the time": the moment at which the panel's clock stands
+abbrev pub panelMoment : Panel → Moment
+panelMoment panel = momentOf (panel .registers)

@@ -1,10 +1,11 @@
-// Line bytes and quiet marks: the reader takes them or refuses them.
+// Line bytes, quiet marks and seconds: the panel takes them, or refuses them while a report waits.
 ghost use mathlib.Core.Path.{_≡_};
 ghost use Rattle.line.specs.Methods.{busy, answerSaid, inputSaid};
-ghost use Rattle.panel.specs.Inputs.{fedByte, fedMark, fedBytes};
+ghost use Rattle.panel.specs.Inputs.{fedByte, fedMark, fedSecond, fedBytes};
 use crate::Fed;
 use crate::FedBytes;
 use crate::Panel;
+use line::Answer;
 
 impl Panel {
     // Gives a line byte.
@@ -38,6 +39,29 @@ impl Panel {
             answer: answer,
             panel: Panel {
                 reader: next,
+                ..self
+            },
+        }
+    }
+
+    // Gives a second: the clock advances. It is no mark, and what is half read stays.
+    pub fn give_second(self) -> Fed
+        ensures { λ r. ⌜ r ≡ fedSecond self ⌝ }
+        ensures { λ r. ⌜ answerSaid (r .answer) ≡ inputSaid (self .reader) ⌝ }
+    {
+        let reader = self.reader;
+        if reader.is_waiting() {
+            return Fed {
+                answer: Answer::Waits,
+                panel: self,
+            };
+        }
+        let registers = self.registers;
+        let next = registers.second_passed();
+        Fed {
+            answer: Answer::Done,
+            panel: Panel {
+                registers: next,
                 ..self
             },
         }

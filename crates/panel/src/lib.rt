@@ -1,4 +1,4 @@
-// The panel of 01: start, byte, mark, report, contact, lift. A panel is a value: a method takes it and hands back the next one.
+// The panel of 01: start, byte, mark, second, report, contact, lift. A panel is a value: a method takes it and hands back the next one.
 use commands::Outcome;
 use commands::Performed;
 use contact::Catch;
@@ -10,7 +10,7 @@ use registers::Registers;
 use touch::Setup;
 
 mod asking; // asking for a report
-mod giving; // line bytes and quiet marks
+mod giving; // line bytes, quiet marks and seconds
 mod showing; // what the display board reads
 mod starting; // starting a panel
 mod touching; // contact and lift

@@ -1,8 +1,9 @@
 // What the display board reads.
 ghost use mathlib.Core.Path.{_≡_};
 ghost use Rattle.registers.specs.Touched.{pageOf};
-ghost use Rattle.panel.specs.State.{panelRegister, panelCount};
+ghost use Rattle.panel.specs.State.{panelRegister, panelCount, panelMoment};
 use crate::Panel;
+use clock::Moment;
 use registers::RegisterAddress;
 
 impl Panel {
@@ -33,6 +34,15 @@ impl Panel {
     {
         self.register(RegisterAddress(0x02))
     }
+
+    // The moment at which the clock stands.
+    pub fn moment(self) -> Moment
+        ensures { λ r. ⌜ r ≡ panelMoment self ⌝ }
+    {
+        let registers = self.registers;
+        registers.moment()
+    }
+
     // How many numbers a channel of the curves has; past the last channel, 0.
     pub fn curve_count(self, channel: usize) -> u16
         ensures { λ r. ⌜ r ≡ panelCount self channel ⌝ }
