@@ -1,6 +1,6 @@
 -- Laws of kinds, stages and counts of records: one for each way the code answers.
-use mathlib.Core.Path.{_≡_, sym, ap}
-use mathlib.Core.Bool.{false, _&&_}
+use mathlib.Core.Path.{_≡_, refl, sym, ap}
+use mathlib.Core.Bool.{false, _&&_, _||_}
 use mathlib.Core.List.{List}
 use Prim.Native.Nat.{ℕ, _+_, _*_, _≤_, _<_, min}
 use native.Mathlib.Nat.{min-eq-left, min-eq-right, le-of-lt}
@@ -22,11 +22,11 @@ module _ (stage : Stage) (kind : ℕ) where
   unfolding mayCome
   bare-comes is = ap (λ (s : Stage). mayCome s kind) (sym is)
 
-  pub ready-comes : stage ≡ Ready → (leb 1 kind && leb kind 5) ≡ mayCome stage kind
+  pub ready-comes : stage ≡ Ready → (leb 1 kind && leb kind 6) ≡ mayCome stage kind
   unfolding mayCome
   ready-comes is = ap (λ (s : Stage). mayCome s kind) (sym is)
 
-  pub started-comes : stage ≡ Started → (leb 1 kind && leb kind 4) ≡ mayCome stage kind
+  pub started-comes : stage ≡ Started → ((leb 1 kind && leb kind 4) || eqb kind 6) ≡ mayCome stage kind
   unfolding mayCome
   started-comes is = ap (λ (s : Stage). mayCome s kind) (sym is)
 
@@ -54,6 +54,11 @@ module _ (kind : ℕ) where
   pub no-body : (kind ≡ 0 → ⊥) → (kind ≡ 1 → ⊥) → (kind ≡ 3 → ⊥) → (kind ≡ 5 → ⊥) → 0 ≡ bodyLength kind
   unfolding bodyLength
   no-body n0 n1 n3 n5 = rw (ne-eqb kind 0 n0, ne-eqb kind 1 n1, ne-eqb kind 3 n3, ne-eqb kind 5 n5)
+
+-- 02, §6: "kind 06 without a body is the second"
+pub second-has-no-body : bodyLength 6 ≡ 0
+unfolding bodyLength
+second-has-no-body = refl
 
 pub setup-read : (item : List ℕ) (a b c p w h : ℕ) → a ≡ byteAt item 1 → b ≡ byteAt item 2 → c ≡ byteAt item 3 → p ≡ wordAt item 4 → w ≡ wordAt item 6
     → h ≡ wordAt item 8 → record { h1 = a; h2 = b; flags = c; pages = p; width = w; height = h } ≡ setupIn item

@@ -16,7 +16,7 @@ itemBytes = recordBytes + 1
 unfoldable pub noItem : List ℕ
 noItem = replicate itemBytes 0
 
--- "00 setup, 9 bytes ..; 01 a line byte; 02 quiet, none; 03 contact X Y, 4; 04 lift, none; 05 touch record, 32."
+-- "00 setup, 9 bytes ..; 01 a line byte; 02 quiet, none; 03 contact X Y, 4; 04 lift, none; 05 touch record, 32." 02, §6: "kind 06 without a body is the second"
 unfoldable pub bodyLength : ℕ → ℕ
 bodyLength kind = cond (eqb kind 0) 9 (cond (eqb kind 1) 1 (cond (eqb kind 3) 4 (cond (eqb kind 5) recordBytes 0)))
 

@@ -31,8 +31,8 @@ pub fn may_come(stage: Stage, kind: u8) -> bool
 {
     match stage {
         Stage::Bare => kind == 0,
-        Stage::Ready => (1 <= kind) & (kind <= 5),
-        Stage::Started => (1 <= kind) & (kind <= 4),
+        Stage::Ready => (1 <= kind) & (kind <= 6),
+        Stage::Started => ((1 <= kind) & (kind <= 4)) | (kind == 6),
         Stage::Over => false,
     }
 }

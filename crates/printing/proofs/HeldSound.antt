@@ -21,7 +21,7 @@ use Rattle.panel.specs.declared.StartAnswer.{StartAnswer}
 use Rattle.panel.specs.declared.StartAnswer.the-variants as start
 use Rattle.panel.specs.Inputs.{fedBytes}
 use Rattle.panel.specs.Sound.{Sound}
-use Rattle.panel.proofs.Soundness.{byte-sound, mark-sound, bytes-sound, report-sound, contact-sound, lift-sound}
+use Rattle.panel.proofs.Soundness.{byte-sound, mark-sound, second-sound, bytes-sound, report-sound, contact-sound, lift-sound}
 use Rattle.panel.proofs.Invariant.{started-sound}
 use Rattle.telling.specs.Memory.{Memory, newMemory, Whole, lentFrom}
 use Rattle.telling.specs.Told.{Told, tells}
@@ -100,7 +100,8 @@ event-sound panel table memory item sound whole are =
     by-test ToldSound (eqb (byteAt item 0) 1) _ _ (λ is. record { panel = byte-sound panel sound (byteAt item 1) (are 1); memory = whole })
     (λ not-1. by-test ToldSound (eqb (byteAt item 0) 2) _ _ (λ is. record { panel = mark-sound panel sound; memory = whole })
     (λ not-2. by-test ToldSound (eqb (byteAt item 0) 3) _ _ (λ is. contact-told-sound panel (contactAt table (wordAt item 1) (wordAt item 3)) memory sound whole)
-    (λ not-3. record { panel = lift-sound panel sound; memory = whole })))
+    (λ not-3. by-test ToldSound (eqb (byteAt item 0) 6) _ _ (λ is. record { panel = second-sound panel sound; memory = whole })
+    (λ not-6. record { panel = lift-sound panel sound; memory = whole }))))
 
 asked-sound : (panel : Panel) (memory : Memory) → Sound panel → Whole memory → ToldSound (askedOnce panel memory)
 unfolding askedOnce

@@ -13,7 +13,7 @@ use Rattle.panel.specs.declared.Lifted.{Lifted}
 use Rattle.panel.specs.declared.Contacted.{Contacted}
 use Rattle.panel.specs.declared.Reported.{Reported}
 use Rattle.panel.specs.Numbers.{contactNumber, liftNumber}
-use Rattle.panel.specs.Inputs.{fedByte, fedMark}
+use Rattle.panel.specs.Inputs.{fedByte, fedMark, fedSecond}
 use Rattle.panel.specs.Contacts.{contactAt, Contacting, contacts, contacting, lifting}
 use Rattle.panel.specs.Reporting.{Reporting, reports, reporting}
 use Rattle.text.specs.declared.Line.the-variants as line
@@ -32,6 +32,9 @@ byte-fed panel b fed is = ap (λ (f : Fed). f .panel) is
 
 pub mark-fed : (panel : Panel) (fed : Fed) → fed ≡ fedMark panel → fed .panel ≡ fedMark panel .panel
 mark-fed panel fed is = ap (λ (f : Fed). f .panel) is
+
+pub second-fed : (panel : Panel) (fed : Fed) → fed ≡ fedSecond panel → fed .panel ≡ fedSecond panel .panel
+second-fed panel fed is = ap (λ (f : Fed). f .panel) is
 
 -- text laid for what is told of a panel
 told-left : (panel : Panel) (memory : Memory) (text room left : List ℕ) (k : ℕ) → lays k left ≡ prints text room
@@ -92,13 +95,18 @@ module _ (panel : Panel) (item table room words : List ℕ) where
       unfolding event
       event-contact r words′ left x y is-kind is-x is-y e curves = rw is-kind (rw (is-x, is-y) at (e curves))
 
-      pub event-lift : (r : PanelPrinted) (left : List ℕ) → (getD item 0 0 ≡ 3 → ⊥) → r .panel ≡ lifting panel .panel
+      pub event-second : (next : Panel) → (getD item 0 0 ≡ 3 → ⊥) → getD item 0 0 ≡ 6 → next ≡ fedSecond panel .panel → (curves : List ℕ)
+          → leavesPanel (record { panel = next; count = 0 }) (remembering words curves) room ≡ panelPrinting (event panel table (remembering words curves) item) room
+      unfolding event
+      event-second next not-3 is-kind is-next curves = rw is-kind (rw (← is-next) (quiet-left next (remembering words curves) room))
+
+      pub event-lift : (r : PanelPrinted) (left : List ℕ) → (getD item 0 0 ≡ 3 → ⊥) → (getD item 0 0 ≡ 6 → ⊥) → r .panel ≡ lifting panel .panel
           → lays (r .count) left ≡ prints (touchText (liftNumber (lifting panel .answer))) room → (curves : List ℕ)
           → leavesPanel r (remembering words curves) left ≡ panelPrinting (event panel table (remembering words curves) item) room
       unfolding event liftTold
-      event-lift r left not-3 is-panel is-text curves =
+      event-lift r left not-3 not-6 is-panel is-text curves =
           let memory = remembering words curves in
-          rw (ne-eqb (getD item 0 0) 1 not-1, ne-eqb (getD item 0 0) 2 not-2, ne-eqb (getD item 0 0) 3 not-3)
+          rw (ne-eqb (getD item 0 0) 1 not-1, ne-eqb (getD item 0 0) 2 not-2, ne-eqb (getD item 0 0) 3 not-3, ne-eqb (getD item 0 0) 6 not-6)
           (ap (λ (l : Laid). leavesPanel (record { panel = r .panel; count = l .count }) memory (l .room)) is-text
           ∙ ap (λ (p : Panel). panelPrinting (tells p memory (touchText (liftNumber (lifting panel .answer)))) room) is-panel)
 
@@ -128,3 +136,9 @@ module _ (panel : Panel) (item table room words : List ℕ) where
       → leavesPanel r (remembering words′ curves) left ≡ printedIn (event panel table (remembering words curves) item) panel (remembering words curves) room
   event-told r words′ left wide e curves =
       told-in (event panel table (remembering words curves) item) panel (remembering words curves) room r (remembering words′ curves) left wide (e curves)
+
+-- 02, §6: "kind 06 without a body is the second and prints nothing"
+pub second-prints-nothing : (panel : Panel) (table : List ℕ) (memory : Memory) (item : List ℕ) → getD item 0 0 ≡ 6
+    → event panel table memory item ≡ tells (fedSecond panel .panel) memory []
+unfolding event
+second-prints-nothing panel table memory item is = rw is

@@ -8,7 +8,7 @@ use Rattle.wire.specs.ByteOrder.{byteAt, wordAt}
 use Rattle.frame.specs.Writer.{leastRoom}
 use Rattle.panel.specs.declared.Panel.{Panel}
 use Rattle.panel.specs.Numbers.{contactNumber, liftNumber}
-use Rattle.panel.specs.Inputs.{fedByte, fedMark}
+use Rattle.panel.specs.Inputs.{fedByte, fedMark, fedSecond}
 use Rattle.panel.specs.Contacts.{Contact, contactAt, contacting, lifting}
 use Rattle.panel.specs.Reporting.{reporting}
 use Rattle.text.specs.declared.Line.the-variants as line
@@ -36,14 +36,14 @@ contactTold panel c memory =
 unfoldable pub liftTold : Panel → Memory → Told
 liftTold panel memory = tells (lifting panel .panel) memory (touchText (liftNumber (lifting panel .answer)))
 
--- "01 a line byte; 02 quiet, none; 03 contact X Y, 4; 04 lift, none"
+-- "01 a line byte; 02 quiet, none; 03 contact X Y, 4; 04 lift, none". 02, §6: "In the trace, kind 06 without a body is the second and prints nothing."
 unfoldable pub event : Panel → List ℕ → Memory → List ℕ → Told
 event panel table memory item =
     let kind = byteAt item 0 in
     cond (eqb kind 1) (tells (fedByte panel (byteAt item 1) .panel) memory [])
     (cond (eqb kind 2) (tells (fedMark panel .panel) memory [])
     (cond (eqb kind 3) (contactTold panel (contactAt table (wordAt item 1) (wordAt item 3)) memory)
-    (liftTold panel memory)))
+    (cond (eqb kind 6) (tells (fedSecond panel .panel) memory []) (liftTold panel memory))))
 
 -- "Reports are asked for ..": one of them, and its lines
 unfoldable pub askedOnce : Panel → Memory → Told

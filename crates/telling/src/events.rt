@@ -5,7 +5,7 @@ ghost use Prim.Native.Nat.{ℕ, _≤_};
 ghost use lib.ListN.{length};
 ghost use Rattle.wire.specs.Room.{lays};
 ghost use Rattle.panel.specs.Numbers.{liftNumber};
-ghost use Rattle.panel.specs.Inputs.{fedByte, fedMark};
+ghost use Rattle.panel.specs.Inputs.{fedByte, fedMark, fedSecond};
 ghost use Rattle.panel.specs.Contacts.{lifting};
 ghost use Rattle.panel.specs.Contacts.{contactAt};
 ghost use Rattle.telling.specs.Inner.{prints};
@@ -31,6 +31,13 @@ fn do_mark(panel: Panel) -> Panel
     ensures { λ r. ⌜ r ≡ fedMark panel .panel ⌝ }
 {
     let fed = panel.give_mark();
+    fed.panel
+}
+
+fn do_second(panel: Panel) -> Panel
+    ensures { λ r. ⌜ r ≡ fedSecond panel .panel ⌝ }
+{
+    let fed = panel.give_second();
     fed.panel
 }
 
@@ -110,6 +117,12 @@ pub(crate) fn do_event(
         let x = wire::word_at(&item, 1);
         let y = wire::word_at(&item, 3);
         return do_contact(panel, table, words, x, y, room);
+    }
+    if kind == 6 {
+        return PanelPrinted {
+            panel: do_second(panel),
+            count: 0,
+        };
     }
     do_lift(panel, room)
 }

@@ -51,7 +51,7 @@ metRecord held item =
     let records = held .trace .records in
     holds (withRecords (held .trace) (recordCounted records)) (recordPut records item (held .table)) (held .memory)
 
--- "00 setup ..; 05 touch record": a whole item is one of these, or else an event
+-- "00 setup ..; 05 touch record": a whole item is one of these, or else an event, the second of 02, §6, among them
 unfoldable pub itemDone : Held → List ℕ → Shown
 itemDone held item =
     cond (eqb (byteAt item 0) 0) (shows (metSetup held item) [])

@@ -1,6 +1,6 @@
 -- `telling::events::do_event` meets its contract.
 use borrow.Author.Needs.{needs}
-use Rattle.telling.proofs.Telling.{event-byte, event-mark, event-contact, event-lift}
+use Rattle.telling.proofs.Telling.{event-byte, event-mark, event-contact, event-second, event-lift}
 use Rattle.telling.proofs.events.do_event.Statement.{statement}
 use Rattle.telling.proofs.events.do_event.Tie as tie
 
@@ -22,6 +22,8 @@ do-event-spec =
     (λ c. search needs)
     (λ c. search needs)
     (λ c. search event-contact)
+    (λ c κs. search needs)
+    (λ c. search event-second)
     (λ c κs. search needs)
     (λ c. search needs)
     (λ c. search event-lift))
