@@ -17,14 +17,14 @@ use Rattle.panel.specs.declared.Panel.{Panel}
 use Rattle.panel.specs.Inputs.{fedByte, fedMark, fedBytes}
 use Rattle.panel.specs.Reporting as Reporting
 use Rattle.panel.specs.Reporting.{reporting}
-use Rattle.demands.specs.Calls.{Moment, Call, lend, byte, bytes, mark, ask, contact, lift, after, reportHanded, handedOver, handedOverAll}
+use Rattle.demands.specs.Calls.{Moment, Call, lend, byte, bytes, mark, second, ask, contact, lift, after, reportHanded, handedOver, handedOverAll}
 use Rattle.demands.specs.Given.{unlessRefused, given, givenAll}
 use Rattle.demands.specs.Demand3.{ReadAlike}
 use Rattle.demands.proofs.Answers.{reportedBy, refusal-hands-none}
 use Rattle.panel.proofs.Lengths.{reported-words-long, reported-area-long, reported-room-long, contacted-words-long, contacted-area-stands, contacted-room-long, reported-list-judged, contacted-list-judged}
 use Rattle.watch.specs.Judge.{wrongList}
 use Rattle.commands.specs.Lent.{Lent}
-use Rattle.demands.proofs.Reading.{contact-keeps-reader, lift-keeps-reader}
+use Rattle.demands.proofs.Reading.{contact-keeps-reader, second-keeps-reader, lift-keeps-reader}
 
 -- what an ask hands over and the reader that it leaves, by the reader alone and whether enough is lent
 abbrev handedFrom : Report → (payload : List ℕ) → List Place.Report
@@ -73,6 +73,7 @@ module _ (one other : Moment) (same : Shared one other) where
   given-same (byte b) = ap (λ (r : Reader). unlessRefused (givenByte r b .answer) (Line.byte b)) (same .reader)
   given-same (bytes bs) = ap (λ (r : Reader). map Line.byte (take (givenBytes r bs .used) bs)) (same .reader)
   given-same mark = ap (λ (r : Reader). unlessRefused (givenMark r .answer) Line.mark) (same .reader)
+  given-same second = refl
   given-same ask = refl
   given-same (contact c) = refl
   given-same lift = refl
@@ -83,6 +84,7 @@ module _ (one other : Moment) (same : Shared one other) where
   handed-same (byte b) = refl
   handed-same (bytes bs) = refl
   handed-same mark = refl
+  handed-same second = refl
   handed-same ask =
       rw (ask-told (one .panel) (one .lent) .0, ask-told (other .panel) (other .lent) .0, same .reader, same .words, same .curves, same .room, same .list)
   handed-same (contact c) = refl
@@ -94,6 +96,14 @@ module _ (one other : Moment) (same : Shared one other) where
   shared-after (byte b) = record { reader = ap (λ (r : Reader). givenByte r b .reader) (same .reader); words = same .words; curves = same .curves; room = same .room; list = same .list }
   shared-after (bytes bs) = record { reader = ap (λ (r : Reader). givenBytes r bs .reader) (same .reader); words = same .words; curves = same .curves; room = same .room; list = same .list }
   shared-after mark = record { reader = ap (λ (r : Reader). givenMark r .reader) (same .reader); words = same .words; curves = same .curves; room = same .room; list = same .list }
+  shared-after second =
+      record {
+        reader = second-keeps-reader (one .panel) ∙ same .reader ∙ sym (second-keeps-reader (other .panel));
+        words = same .words;
+        curves = same .curves;
+        room = same .room;
+        list = same .list;
+      }
   shared-after ask =
       record {
         reader =

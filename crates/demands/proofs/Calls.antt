@@ -5,22 +5,22 @@ use Prim.Native.Nat.{ℕ, _<_}
 use Rattle.touch.specs.declared.Setup.{Setup}
 use Rattle.panel.specs.declared.StartAnswer.the-variants as start
 use Rattle.panel.specs.Start.{started}
-use Rattle.panel.specs.Reachable.{Reachable, by-start, by-byte, by-mark, by-bytes, by-report, by-contact, by-lift}
+use Rattle.panel.specs.Reachable.{Reachable, by-start, by-byte, by-mark, by-second, by-bytes, by-report, by-contact, by-lift}
 use Rattle.commands.specs.Lent.{Lent}
-use Rattle.demands.specs.Calls.{Moment, Call, lend, byte, bytes, mark, ask, contact, lift, begun, after, afterAll, handedOver, handedOverAll, Halfwords, Typed, AllTyped, Arises, from-start, by-call}
+use Rattle.demands.specs.Calls.{Moment, Call, lend, byte, bytes, mark, second, ask, contact, lift, begun, after, afterAll, handedOver, handedOverAll, Halfwords, Typed, AllTyped, Arises, from-start, by-call}
 
 -- one sequence and then another
-pub after-then : (now : Moment) (first second : List Call) → afterAll now (first ++ second) ≡ afterAll (afterAll now first) second
+pub after-then : (now : Moment) (first next : List Call) → afterAll now (first ++ next) ≡ afterAll (afterAll now first) next
 unfolding afterAll
-after-then now [] second = refl
-after-then now (call ∷ first) second = after-then (after now call) first second
+after-then now [] next = refl
+after-then now (call ∷ first) next = after-then (after now call) first next
 
-pub handed-then : (now : Moment) (first second : List Call)
-    → handedOverAll now (first ++ second) ≡ handedOverAll now first ++ handedOverAll (afterAll now first) second
+pub handed-then : (now : Moment) (first next : List Call)
+    → handedOverAll now (first ++ next) ≡ handedOverAll now first ++ handedOverAll (afterAll now first) next
 unfolding afterAll handedOverAll
-handed-then now [] second = refl
-handed-then now (call ∷ first) second =
-    rw (handed-then (after now call) first second, append-assoc (handedOver now call))
+handed-then now [] next = refl
+handed-then now (call ∷ first) next =
+    rw (handed-then (after now call) first next, append-assoc (handedOver now call))
 
 -- every call leaves a panel that can be reached from a start
 pub call-reached : (now : Moment) (call : Call) → Typed call → Reachable (now .panel) → Reachable (after now call .panel)
@@ -29,6 +29,7 @@ call-reached now (lend lent) typed reached = reached
 call-reached now (byte b) typed reached = by-byte (now .panel) b typed reached
 call-reached now (bytes bs) typed reached = by-bytes (now .panel) bs typed reached
 call-reached now mark typed reached = by-mark (now .panel) reached
+call-reached now second typed reached = by-second (now .panel) reached
 call-reached now ask typed reached = by-report (now .panel) (now .lent) reached
 call-reached now (contact c) typed reached = by-contact (now .panel) c (now .lent) reached
 call-reached now lift typed reached = by-lift (now .panel) reached

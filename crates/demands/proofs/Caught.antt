@@ -37,9 +37,9 @@ use Rattle.panel.specs.State.{padOf}
 use Rattle.panel.specs.Start.{newPanel}
 use Rattle.panel.specs.Inputs.{fedByte, fedMark, fedBytes}
 use Rattle.panel.specs.Reporting.{accepting, handing, handingOver}
-use Rattle.panel.proofs.Ways.{contact-ways, lift-ways, report-ways}
+use Rattle.panel.proofs.Ways.{contact-ways, lift-ways, second-ways, report-ways}
 use Rattle.panel.proofs.Invariant.{reachable-sound}
-use Rattle.demands.specs.Calls.{Moment, Call, lend, byte, bytes, mark, ask, contact, lift, after, numberGiven, Typed, Arises, from-start, by-call}
+use Rattle.demands.specs.Calls.{Moment, Call, lend, byte, bytes, mark, second, ask, contact, lift, after, numberGiven, Typed, Arises, from-start, by-call}
 use Rattle.demands.specs.Demand2.{afterContact}
 use Rattle.demands.specs.Stored.{otherByte, Stores}
 use Rattle.demands.proofs.Calls.{arises-reachable}
@@ -95,6 +95,7 @@ call-fits now (lend lent) typed fits = fits
 call-fits now (byte b) typed fits = fits
 call-fits now (bytes bs) typed fits = fits
 call-fits now mark typed fits = fits
+call-fits now second typed fits = second-ways (now .panel) (λ f. Fits (f .panel .catch)) fits (λ quiet. fits)
 call-fits now ask typed fits =
     report-ways (now .panel) (now .lent) (λ r. Fits (r .reported .panel .catch)) (λ h payload. fits) (λ command is. fits)
     (λ good command count is.

@@ -24,8 +24,10 @@ use Rattle.touch.specs.Find.{found}
 use Rattle.touch.specs.Act.{actedOf, draggedOf}
 use Rattle.contact.specs.Contact as Touch
 use Rattle.touch.specs.Table.{recordsFrom, firstOf}
-use Rattle.registers.specs.Table.{startRows, withRows, startRegisters, registerAt, registerRun, writable}
-use Rattle.registers.specs.Run.{covers, allWritable, halfPage, unwritableRun, byteFor, clearing, wrongValue, readAs, readsAs, registersAfter, dropsCatch, clearValue}
+use Rattle.registers.specs.Table.{startRows, withRows, startRegisters, registerAt, registerRun, isClock, writable}
+use Rattle.registers.specs.Clocked.{momentOf, withMoment, secondPassed}
+use Rattle.clock.proofs.Computed.{computingClock}
+use Rattle.registers.specs.Run.{covers, allWritable, halfPage, setsClock, touchesClock, partOfClock, unwritableRun, byteFor, clearing, wrongSetting, wrongClock, wrongValue, weekdayFor, readAs, readEach, readsAs, registersAfter, dropsCatch, clearValue}
 use Rattle.registers.specs.Touched.{isDown, pageOf, isTouchOff, withPage, withStatus, withPlace}
 use Rattle.words.specs.Words.{wordAtAddress, wordSet, wordsOf, bytesOf, wordRun, wordsWritten}
 use Rattle.curves.specs.Area.{noCounts, countOf, partOf, heldBy, latest, onChannel}
@@ -41,7 +43,7 @@ use Rattle.commands.specs.Reply.{registersReply, wordsReply}
 use Rattle.commands.specs.Effect.{replying, registersReplying, wordsReplying, registersLeft, countsLeft, catchDropped, registersWriting, curvesAdding, wordsWriting}
 use Rattle.commands.specs.Perform.{performance}
 use Rattle.panel.specs.Start.{newPanel, startJudged, started}
-use Rattle.panel.specs.Inputs.{fedBytes, fedMark}
+use Rattle.panel.specs.Inputs.{fedBytes, fedMark, fedSecond}
 use Rattle.panel.specs.Reporting.{enough, acknowledged, accepting, handingOver, handing, reporting}
 use Rattle.panel.specs.Watching.{unasked, telling}
 use Rattle.panel.specs.Contacts.{touchNotLent, contactOn, contactJudged, told, contacting}
@@ -78,7 +80,7 @@ unfolding inMode signed wordOf stepped fenced stepStores nearest roundingOf roun
 computingStores = tt
 
 unfoldable pub computingRegisters : Unit {0}
-unfolding laidAt startRows withRows startRegisters registerAt registerRun writable covers allWritable halfPage unwritableRun byteFor clearing wrongValue readAs readsAs registersAfter dropsCatch clearValue
+unfolding computingClock momentOf withMoment secondPassed laidAt startRows withRows startRegisters registerAt registerRun isClock writable covers allWritable halfPage setsClock touchesClock partOfClock unwritableRun byteFor clearing wrongSetting wrongClock wrongValue weekdayFor readAs readEach readsAs registersAfter dropsCatch clearValue
 computingRegisters = tt
 
 unfoldable pub computingWords : Unit {0}
@@ -106,7 +108,7 @@ unfolding Judge.judged recordsFrom firstOf headerBytes newPanel startJudged star
 computingStart = tt
 
 unfoldable pub computingPanel : Unit {0}
-unfolding computingReader computingCommands computingWatched computingStart fedBytes fedMark enough acknowledged accepting handingOver handing reporting reportNumber
+unfolding computingReader computingCommands computingWatched computingStart fedBytes fedMark fedSecond enough acknowledged accepting handingOver handing reporting reportNumber
 computingPanel = tt
 
 unfoldable pub computingEffects : Unit {0}

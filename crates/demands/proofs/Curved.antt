@@ -21,13 +21,13 @@ use Rattle.curves.proofs.OtherWords.{words-stay, count-stays}
 use Rattle.commands.specs.Effect.{countsLeft}
 use Rattle.panel.specs.State.{panelCount}
 use Rattle.panel.specs.Sound.{Sound}
-use Rattle.panel.specs.Inputs.{fedByte, fedMark, fedBytes}
+use Rattle.panel.specs.Inputs.{fedByte, fedMark, fedSecond, fedBytes}
 use Rattle.panel.specs.Contacts.{Contact, contacting, lifting}
 use Rattle.panel.specs.Reachable.{Reachable}
 use Rattle.panel.proofs.Lengths.{contacted-area-stands}
-use Rattle.panel.proofs.Ways.{contact-ways, lift-ways}
+use Rattle.panel.proofs.Ways.{contact-ways, lift-ways, second-ways}
 use Rattle.panel.proofs.Invariant.{reachable-sound}
-use Rattle.demands.specs.Calls.{Moment, Call, lend, byte, bytes, mark, ask, contact, lift, after, afterAll, numberGiven, handedOver, AllTyped}
+use Rattle.demands.specs.Calls.{Moment, Call, lend, byte, bytes, mark, second, ask, contact, lift, after, afterAll, numberGiven, handedOver, AllTyped}
 use Rattle.demands.specs.Demand2.{leaving, afterWrite, afterRead, afterStore, afterFetch, afterAdd, afterBadCheck, afterCommand, AskLeaves, hands-nothing, hands-bad-check, refuses-command, does-command, curveWordAt, NamesCurveWord, by-adding, by-exchange, NamesCount, by-numbers, by-clear, Some, here, later}
 use Rattle.demands.specs.History.{recorded, recordedBy, historyBy}
 use Rattle.demands.specs.Reports.{readBehind}
@@ -109,6 +109,9 @@ ask-curves now reached = go (asking-leaves now reached)
 pub lifted-counts : (now : Moment) → lifting (now .panel) .panel .counts ≡ now .panel .counts
 lifted-counts now = lift-ways (now .panel) (λ l. l .panel .counts ≡ now .panel .counts) refl refl refl
 
+pub second-counts : (now : Moment) → fedSecond (now .panel) .panel .counts ≡ now .panel .counts
+second-counts now = second-ways (now .panel) (λ f. f .panel .counts ≡ now .panel .counts) refl (λ quiet. refl)
+
 pub contacted-counts : (now : Moment) (c : Contact) → contacting (now .panel) c (now .lent) .contacted .panel .counts ≡ now .panel .counts
 contacted-counts now c = contact-ways (now .panel) c (now .lent) (λ r. r .contacted .panel .counts ≡ now .panel .counts) (λ answer. refl) (λ good. refl)
 
@@ -165,6 +168,7 @@ module _ (now : Moment) (reached : Reachable (now .panel)) (n : ℕ) (inside : n
   call-names-count (byte b) = inl refl
   call-names-count (bytes bs) = inl refl
   call-names-count mark = inl refl
+  call-names-count second = inl (ap (λ (k : Counts). countOf k n) (second-counts now))
   call-names-count ask = asked-count (ask-curves now reached)
   call-names-count (contact c) = inl (ap (λ (k : Counts). countOf k n) (contacted-counts now c))
   call-names-count lift = inl (ap (λ (k : Counts). countOf k n) (lifted-counts now))
@@ -181,6 +185,7 @@ module _ (now : Moment) (reached : Reachable (now .panel)) (n : ℕ) (inside : n
   call-names-curve-word i few (byte b) = inl refl
   call-names-curve-word i few (bytes bs) = inl refl
   call-names-curve-word i few mark = inl refl
+  call-names-curve-word i few second = inl refl
   call-names-curve-word i few ask = asked-curve-word i few (ask-curves now reached)
   call-names-curve-word i few (contact c) = inl (ap (λ (l : List ℕ). curveWordAt l n i) (contacted-area-stands (now .panel) c (now .lent)))
   call-names-curve-word i few lift = inl refl

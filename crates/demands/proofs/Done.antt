@@ -9,7 +9,7 @@ use lib.Dec.{ltb}
 use Rattle.wire.specs.Numbers.{firstSaid}
 use Rattle.wire.proofs.Truths.{and-left, and-right}
 use Rattle.touch.specs.declared.Setup.{Setup}
-use Rattle.demands.specs.Calls.{Moment, Call, lend, byte, bytes, mark, ask, contact, lift}
+use Rattle.demands.specs.Calls.{Moment, Call, lend, byte, bytes, mark, second, ask, contact, lift}
 use Rattle.demands.specs.Demand1.{Condition, firstNumber, noneHolds, printed, printedStart, printedWriter}
 use Rattle.demands.specs.Done.{DoneExactly}
 
@@ -50,6 +50,7 @@ printed-above now (lend lent) = refl
 printed-above now (byte b) = refl
 printed-above now (bytes bs) = refl
 printed-above now mark = refl
+printed-above now second = refl
 printed-above now ask = refl
 printed-above now (contact c) = refl
 printed-above now lift = refl

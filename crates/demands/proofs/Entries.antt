@@ -30,7 +30,7 @@ use Rattle.panel.specs.Contacts.{Contact, Contacting, contacting}
 use Rattle.panel.specs.Reachable.{Reachable}
 use Rattle.panel.proofs.Ways.{touchedBy}
 use Rattle.panel.proofs.Refusals.{refused-contact-changes-nothing}
-use Rattle.demands.specs.Calls.{Moment, Call, lend, byte, bytes, mark, ask, contact, lift, after, afterAll, numberGiven, handedOver, AllTyped}
+use Rattle.demands.specs.Calls.{Moment, Call, lend, byte, bytes, mark, second, ask, contact, lift, after, afterAll, numberGiven, handedOver, AllTyped}
 use Rattle.demands.specs.Demand2.{leaving, afterWrite, afterRead, afterStore, afterFetch, afterAdd, afterBadCheck, afterContact, afterCommand, AskLeaves, hands-nothing, hands-bad-check, refuses-command, does-command, Some, here, later}
 use Rattle.demands.specs.Entries.{ListEntry, entryAt, NamesEntry, by-noting, by-sending, by-other-list, OnlyValues, bytesWritten, Tells, tells-nothing, tells-entry}
 use Rattle.demands.proofs.Answers.{momentTouched}
@@ -254,6 +254,7 @@ module _ (now : Moment) (i : ℕ) where
   call-names-entry reached (byte b) = inl refl
   call-names-entry reached (bytes bs) = inl refl
   call-names-entry reached mark = inl refl
+  call-names-entry reached second = inl refl
   call-names-entry reached ask = asked-entry (ask-notes now reached)
   call-names-entry reached (contact c) = contacted-entry c
   call-names-entry reached lift = inl refl

@@ -22,9 +22,9 @@ use Rattle.panel.specs.Inputs.{fedByte, fedMark, fedBytes}
 use Rattle.panel.specs.Reporting.{handing, handingOver}
 use Rattle.panel.specs.Sound.{lineOf}
 use Rattle.panel.specs.Reachable.{Reachable}
-use Rattle.panel.proofs.Ways.{contact-ways, lift-ways, report-ways}
+use Rattle.panel.proofs.Ways.{contact-ways, lift-ways, second-ways, report-ways}
 use Rattle.panel.proofs.Invariant.{reachable-sound}
-use Rattle.demands.specs.Calls.{Moment, Call, lend, byte, bytes, mark, ask, contact, lift, begun, after, afterAll, handedOverAll, AllTyped}
+use Rattle.demands.specs.Calls.{Moment, Call, lend, byte, bytes, mark, second, ask, contact, lift, begun, after, afterAll, handedOverAll, AllTyped}
 use Rattle.demands.specs.Reports.{reportWaits}
 use Rattle.demands.specs.Given.{givenAll}
 use Rattle.demands.proofs.Calls.{calls-reached}
@@ -69,6 +69,7 @@ setup-stays now (lend lent) = refl
 setup-stays now (byte b) = refl
 setup-stays now (bytes bs) = refl
 setup-stays now mark = refl
+setup-stays now second = second-ways (now .panel) (λ f. f .panel .setup ≡ now .panel .setup) refl (λ quiet. refl)
 setup-stays now ask =
     report-ways (now .panel) (now .lent) (λ r. r .reported .panel .setup ≡ now .panel .setup) (λ h payload. refl) (λ command is. refl)
     (λ list command count is. refl)

@@ -10,7 +10,7 @@ use Rattle.reading.proofs.ByteLists.{bytes-nil, bytes-cons}
 use Rattle.line.specs.declared.Answer.{Answer}
 use Rattle.line.specs.declared.Answer.the-variants.{Done, Waits}
 use Rattle.panel.specs.Inputs.{fedByte, fedMark, fedBytes}
-use Rattle.demands.specs.Calls.{Moment, Call, lend, byte, bytes, mark, ask, contact, lift, after, Typed, AllTyped}
+use Rattle.demands.specs.Calls.{Moment, Call, lend, byte, bytes, mark, second, ask, contact, lift, after, Typed, AllTyped}
 use Rattle.demands.specs.Given.{unlessRefused, given, givenAll}
 
 -- what typed calls give are bytes
@@ -47,6 +47,7 @@ given-bytes now (lend lent) typed = tt
 given-bytes now (byte b) typed = unless-byte (fedByte (now .panel) b .answer) b typed
 given-bytes now (bytes bs) typed = are-mapped (fedBytes (now .panel) bs .used) bs typed
 given-bytes now mark typed = unless-mark (fedMark (now .panel) .answer)
+given-bytes now second typed = tt
 given-bytes now ask typed = tt
 given-bytes now (contact c) typed = tt
 given-bytes now lift typed = tt

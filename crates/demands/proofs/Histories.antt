@@ -1,18 +1,13 @@
 -- A channel holds the latest 1,024 numbers of its history, as long as each report is lent the curve area as the one before left it.
-use mathlib.Core.Path.{_≡_, refl, sym, ap, _∙_}
+use mathlib.Core.Path.{_≡_, refl, _∙_}
 use mathlib.Core.Bool.{Bool, true, false, cond, not, _&&_}
-use mathlib.Core.List.{List, [], _∷_, _++_}
+use mathlib.Core.List.{List, [], _∷_}
 use Prim.Native.Nat.{ℕ, _<_}
-use native.Mathlib.Omega.{arith}
-use lib.Dec.{eqb}
-use lib.ListN.{length, drop}
+use lib.ListN.{drop}
 use Rattle.wire.specs.ByteOrder.{byteAt}
-use Rattle.reading.specs.Place.{Report, acceptedFrame}
 use Rattle.registers.specs.Run.{clearValue}
-use Rattle.curves.specs.declared.Counts.{Counts}
-use Rattle.curves.specs.Area.{channelCount, Drawn, draws, heldBy}
-use Rattle.curves.specs.Rounds.{numbersFor, wrongRounds}
-use Rattle.curves.specs.Adding.{added}
+use Rattle.curves.specs.Area.{channelCount, heldBy}
+use Rattle.curves.specs.Rounds.{wrongRounds}
 use Rattle.curves.specs.Clearing.{cleared, clears}
 use Rattle.curves.specs.History.{Holds}
 use Rattle.curves.proofs.Latest.{length-latest}
@@ -21,19 +16,18 @@ use Rattle.commands.specs.Lent.{Lent}
 use Rattle.touch.specs.declared.Setup.{Setup}
 use Rattle.panel.specs.declared.StartAnswer.the-variants as start
 use Rattle.panel.specs.Start.{newPanel, started}
-use Rattle.panel.specs.Sound.{Sound}
 use Rattle.panel.specs.Reachable.{Reachable, by-start}
 use Rattle.panel.proofs.Lengths.{contacted-area-stands}
 use Rattle.panel.proofs.Invariant.{reachable-sound}
-use Rattle.demands.specs.Calls.{Moment, Call, lend, byte, bytes, mark, ask, contact, lift, begun, after, afterAll, numberGiven, handedOver, AllTyped}
-use Rattle.demands.specs.History.{recorded, recordedBy, historyBy, historyOver, leftBy, areaLeft, AskedWith, LentAsLeft, lendsAnew, noneLendsAnew, Keeps}
+use Rattle.demands.specs.Calls.{Moment, Call, lend, byte, bytes, mark, second, ask, contact, lift, begun, after, afterAll, handedOver, AllTyped}
+use Rattle.demands.specs.History.{recorded, historyBy, historyOver, leftBy, areaLeft, AskedWith, LentAsLeft, lendsAnew, noneLendsAnew, Keeps}
 use Rattle.wire.proofs.Truths.{never}
 use Rattle.commands.specs.declared.Outcome.the-variants.{Done, WrongData}
 use Rattle.commands.specs.Outcome.{isDone, outcome, addCurvesOutcome}
 use Rattle.panel.specs.Inputs.{fedByte, fedMark, fedBytes}
 use Rattle.demands.proofs.Access.{is-done}
 use Rattle.demands.proofs.Calls.{call-reached}
-use Rattle.demands.proofs.Curved.{Curving, stays, clearing, adding, ask-curves, history-done, history-nothing, lifted-counts, contacted-counts}
+use Rattle.demands.proofs.Curved.{Curving, stays, clearing, adding, ask-curves, history-done, history-nothing, lifted-counts, second-counts, contacted-counts}
 use Rattle.demands.proofs.FrameAsked.{handed-asks}
 use Rattle.demands.proofs.Sizes.{started-new}
 
@@ -76,6 +70,7 @@ module _ (n : ℕ) (inside : n < channelCount) where
   call-holds now reached (byte b) left history with holds = rw (history-nothing now (byte b) refl n history) holds
   call-holds now reached (bytes bs) left history with holds = rw (history-nothing now (bytes bs) refl n history) holds
   call-holds now reached mark left history with holds = rw (history-nothing now mark refl n history) holds
+  call-holds now reached second left history with holds = rw (second-counts now, history-nothing now second refl n history) holds
   call-holds now reached ask left history with holds = asked-holds now reached history (rw with holds) (ask-curves now reached)
   call-holds now reached (contact c) left history with holds = rw (contacted-counts now c, history-nothing now (contact c) refl n history) holds
   call-holds now reached lift left history with holds = rw (lifted-counts now, history-nothing now lift refl n history) holds
@@ -112,6 +107,7 @@ area-carried now (lend lent) kept = never (cc)
 area-carried now (byte b) kept = (tt, refl)
 area-carried now (bytes bs) kept = (tt, refl)
 area-carried now mark kept = (tt, refl)
+area-carried now second kept = (tt, refl)
 area-carried now ask kept = (refl, refl)
 area-carried now (contact c) kept = (tt, contacted-area-stands (now .panel) c (now .lent))
 area-carried now lift kept = (tt, refl)

@@ -13,7 +13,7 @@ use Rattle.reading.proofs.Stable.{never, true-is-not-false}
 use Rattle.panel.specs.declared.Handed.{Handed}
 use Rattle.panel.specs.declared.Handed.the-variants as handed
 use Rattle.panel.specs.Reporting.{reporting}
-use Rattle.demands.specs.Calls.{Moment, Call, lend, byte, bytes, mark, ask, contact, lift, after, reportHanded, handedOver}
+use Rattle.demands.specs.Calls.{Moment, Call, lend, byte, bytes, mark, second, ask, contact, lift, after, reportHanded, handedOver}
 use Rattle.demands.specs.Reports.{reportWaits}
 use Rattle.demands.specs.Given.{given, givenAll}
 use Rattle.demands.specs.IdleBuilds.{hasMark, hasSome, hasAccepted, LinePlace, betweenStretches, moved, movedBy, handsOverAt}
@@ -73,6 +73,7 @@ one-counted now (lend lent) = refl
 one-counted now (byte b) = refl
 one-counted now (bytes bs) = refl
 one-counted now mark = refl
+one-counted now second = refl
 one-counted now ask =
     let done = reporting (now .panel) (now .lent) .reported in
     one-handed (done .handed) (done .payload)

@@ -24,7 +24,7 @@ use Rattle.watch.proofs.Dues.{due-as-before, written-not-due, not-due-stays}
 use Rattle.commands.specs.Lent.{Lent}
 use Rattle.panel.specs.Contacts.{Contact}
 use Rattle.panel.specs.Reachable.{Reachable}
-use Rattle.demands.specs.Calls.{Moment, Call, lend, byte, bytes, mark, ask, contact, lift, after, afterAll, numberGiven, handedOver, AllTyped}
+use Rattle.demands.specs.Calls.{Moment, Call, lend, byte, bytes, mark, second, ask, contact, lift, after, afterAll, numberGiven, handedOver, AllTyped}
 use Rattle.demands.specs.Demand2.{leaving, afterStore, Some, here, later}
 use Rattle.demands.specs.Entries.{ListEntry, Tells, tells-nothing, tells-entry, LeavesEntry, AllLeaveEntry, SendsEntry, sends-first, StaysQuiet}
 use Rattle.demands.proofs.Access.{writes-words}
@@ -126,6 +126,7 @@ module _ (i : ℕ) (now : Moment) where
   call-quiet reached (byte b) leaves quiet = quiet
   call-quiet reached (bytes bs) leaves quiet = quiet
   call-quiet reached mark leaves quiet = quiet
+  call-quiet reached second leaves quiet = quiet
   call-quiet reached ask leaves quiet = ask-quiet quiet (ask-notes now reached)
   call-quiet reached (contact c) leaves quiet = contact-quiet c leaves quiet
   call-quiet reached lift leaves quiet = quiet

@@ -4,14 +4,14 @@ use mathlib.Core.Logic.{_⊎_, inl, inr, ⊎-elim}
 use mathlib.Core.Bool.{Bool, true, false}
 use mathlib.Core.List.{List, [], _∷_}
 use Prim.Native.Nat.{ℕ, _+_, _≤_, _<_}
-use borrow.Author.Tests.{eqb-true, eqb-false}
-use lib.Dec.{eqb}
+use borrow.Author.Tests.{eqb-true, eqb-false, leb-true, leb-false}
+use lib.Dec.{eqb, leb}
 use lib.ListN.{length, take, drop}
 use Rattle.wire.specs.ByteOrder.{byteAt, wordAt}
 use Rattle.wire.specs.Addresses.{registerCount}
 use Rattle.reading.specs.Place.{acceptedFrame}
 use Rattle.line.specs.declared.Report.the-variants as line
-use Rattle.line.specs.Methods.{asked}
+use Rattle.line.specs.Methods.{numberOfAnswer, asked}
 use Rattle.registers.specs.Table.{registerAt}
 use Rattle.words.specs.Words.{wordAtAddress, wordsOf}
 use Rattle.commands.specs.declared.Outcome.{Outcome}
@@ -25,15 +25,16 @@ use Rattle.contact.proofs.Named as Touch
 use Rattle.panel.specs.declared.Panel.{Panel}
 use Rattle.panel.specs.Numbers.{reportNumber, contactNumber, liftNumber}
 use Rattle.panel.specs.State.{padOf, panelRegister, fixedFor}
-use Rattle.panel.specs.Inputs.{fedByte, fedMark, fedBytes}
+use Rattle.panel.specs.Inputs.{fedByte, fedMark, fedSecond, fedBytes}
 use Rattle.panel.specs.Reporting.{acknowledged, accepting, Reporting, handing, reporting, handingOver}
 use Rattle.panel.specs.Watching.{telling}
 use Rattle.panel.specs.Contacts.{contacting, lifting, Contact}
 use Rattle.panel.specs.Reachable.{Reachable}
-use Rattle.panel.proofs.Ways.{contact-ways, lift-ways, report-ways}
+use Rattle.panel.proofs.Named.{second-only-clock}
+use Rattle.panel.proofs.Ways.{contact-ways, lift-ways, second-ways, report-ways}
 use Rattle.panel.proofs.Invariant.{always-256-registers}
-use Rattle.demands.specs.Calls.{Moment, Call, lend, byte, bytes, mark, ask, contact, lift, after, afterAll, numberGiven, reportHanded, handedOver, AllTyped}
-use Rattle.demands.specs.Demand2.{NamesWord, by-store, by-acting, by-dragging, by-lending, NamesRegister, by-write, by-status, by-place, by-page, by-lifting, Some, here, later}
+use Rattle.demands.specs.Calls.{Moment, Call, lend, byte, bytes, mark, second, ask, contact, lift, after, afterAll, numberGiven, reportHanded, handedOver, AllTyped}
+use Rattle.demands.specs.Demand2.{NamesWord, by-store, by-acting, by-dragging, by-lending, NamesRegister, by-write, by-status, by-place, by-page, by-second, by-lifting, Some, here, later}
 use Rattle.demands.proofs.Calls.{call-reached}
 use Rattle.demands.proofs.TouchedRegisters as Registers
 use Rattle.commands.specs.Lent.{Lent, withRoom}
@@ -137,6 +138,7 @@ call-names-word now (lend lent) k = lent-word now lent k
 call-names-word now (byte b) k = inl refl
 call-names-word now (bytes bs) k = inl refl
 call-names-word now mark k = inl refl
+call-names-word now second k = inl refl
 call-names-word now ask k =
     ⊎-elim inl
     (λ stored. inr (by-store (stored .content) (stored .handing .handed) (stored .handing .done) (stored .from) (stored .below)))
@@ -215,6 +217,21 @@ lifted-register now whole address =
     status-or-stays true is = inr (refl, eqb-true address 0x06 is)
     status-or-stays false is = inl (Touch.lift-only-status (padOf (now .panel)) whole address (eqb-false address 0x06 is))
 
+-- a register over a second
+second-register : (now : Moment) → length (now .panel .registers .bytes) ≡ registerCount → (address : ℕ)
+    → (panelRegister (fedSecond (now .panel) .panel) address ≡ panelRegister (now .panel) address) ⊎ NamesRegister now address second
+unfolding numberGiven numberOfAnswer
+second-register now whole address = go (leb 0x20 address) refl (leb address 0x26) refl
+  where
+    go : (a : Bool) → leb 0x20 address ≡ a → (b : Bool) → leb address 0x26 ≡ b
+        → (panelRegister (fedSecond (now .panel) .panel) address ≡ panelRegister (now .panel) address) ⊎ NamesRegister now address second
+    go true s true t =
+        ⊎-elim inl (λ done. inr (by-second done (leb-true 0x20 address s) (leb-true address 0x26 t)))
+        (second-ways (now .panel) (λ f. (panelRegister (f .panel) address ≡ panelRegister (now .panel) address) ⊎ (numberOfAnswer (f .answer) ≡ 0)) (inl refl)
+        (λ quiet. inr refl))
+    go true s false t = inl (second-only-clock (now .panel) whole address (inr (leb-false address 0x26 t)))
+    go false s b t = inl (second-only-clock (now .panel) whole address (inl (leb-false 0x20 address s)))
+
 -- a register over any call: it stays, or the call names it
 pub call-names-register : (now : Moment) → length (now .panel .registers .bytes) ≡ registerCount → (call : Call) (address : ℕ)
     → (panelRegister (after now call .panel) address ≡ panelRegister (now .panel) address) ⊎ NamesRegister now address call
@@ -223,6 +240,7 @@ call-names-register now whole (lend lent) address = inl refl
 call-names-register now whole (byte b) address = inl refl
 call-names-register now whole (bytes bs) address = inl refl
 call-names-register now whole mark address = inl refl
+call-names-register now whole second address = second-register now whole address
 call-names-register now whole ask address =
     ⊎-elim inl
     (λ stored. inr (by-write (stored .content) (stored .handing .handed) (stored .handing .done) (stored .from) (stored .below)))

@@ -2,7 +2,6 @@
 use mathlib.Core.Path.{_≡_, refl, ap, _∙_}
 use mathlib.Core.Bool.{Bool, true, false, cond, not, _&&_}
 use mathlib.Core.List.{List, [], _∷_}
-use Prim.Native.Nat.{ℕ}
 use lib.ListN.{length}
 use Rattle.frame.specs.Frame.{mostPayload}
 use Rattle.line.specs.declared.Report.the-variants as line
@@ -23,8 +22,8 @@ use Rattle.panel.specs.Numbers.{startNumber, reportNumber, contactNumber, liftN
 use Rattle.panel.specs.Start.{started, noPanel}
 use Rattle.panel.specs.Reporting.{enoughLent, wellLent, reports, refused, refusal, handingOver, handing, reporting}
 use Rattle.panel.specs.Contacts.{Contact, Contacting, silent, contactJudged, told, touchNotLent, contacting, lifting}
-use Rattle.panel.proofs.Refusals.{refused-byte-changes-nothing, refused-mark-changes-nothing, refused-bytes-change-nothing, nothing-changes-nothing}
-use Rattle.demands.specs.Calls.{Moment, Call, lend, byte, bytes, mark, ask, contact, lift, withPanel, after, afterAll, numberGiven, reportHanded, handedOver, handedOverAll}
+use Rattle.panel.proofs.Refusals.{refused-byte-changes-nothing, refused-mark-changes-nothing, refused-second-changes-nothing, refused-bytes-change-nothing, nothing-changes-nothing}
+use Rattle.demands.specs.Calls.{Moment, Call, lend, byte, bytes, mark, second, ask, contact, lift, withPanel, after, afterAll, numberGiven, reportHanded, handedOver, handedOverAll}
 use Rattle.demands.specs.Given.{unlessRefused, given, givenAll}
 use Rattle.demands.proofs.Answers.{refusal-hands-none}
 use Rattle.demands.specs.NoPanel.{lentBy, lentLast, refusedWith, Inert}
@@ -80,6 +79,7 @@ call-stays lent (lend other) = refl
 call-stays lent (byte b) = ap (λ (f : Fed). withPanel (noneWith lent) (f .panel)) (refused-byte-changes-nothing noPanel none-busy b)
 call-stays lent (bytes bs) = ap (λ (f : FedBytes). withPanel (noneWith lent) (f .panel)) (refused-bytes-change-nothing noPanel none-busy bs)
 call-stays lent mark = ap (λ (f : Fed). withPanel (noneWith lent) (f .panel)) (refused-mark-changes-nothing noPanel none-busy)
+call-stays lent second = ap (λ (f : Fed). withPanel (noneWith lent) (f .panel)) (refused-second-changes-nothing noPanel none-busy)
 call-stays lent ask =
     let all = nothing-changes-nothing noPanel lent none-reports in
     rw (all .0, all .1)
@@ -92,6 +92,7 @@ call-takes-nothing lent (lend other) = refl
 call-takes-nothing lent (byte b) = rw (refused-byte-changes-nothing noPanel none-busy b)
 call-takes-nothing lent (bytes bs) = rw (refused-bytes-change-nothing noPanel none-busy bs)
 call-takes-nothing lent mark = rw (refused-mark-changes-nothing noPanel none-busy)
+call-takes-nothing lent second = refl
 call-takes-nothing lent ask = refl
 call-takes-nothing lent (contact c) = refl
 call-takes-nothing lent lift = refl
@@ -102,6 +103,7 @@ call-hands-nothing lent (lend other) = refl
 call-hands-nothing lent (byte b) = refl
 call-hands-nothing lent (bytes bs) = refl
 call-hands-nothing lent mark = refl
+call-hands-nothing lent second = refl
 call-hands-nothing lent ask = go (wellLent lent)
   where
     go : (w : Bool)
@@ -132,6 +134,7 @@ call-refused lent (lend other) = refl
 call-refused lent (byte b) = rw (refused-byte-changes-nothing noPanel none-busy b)
 call-refused lent (bytes bs) = rw (refused-bytes-change-nothing noPanel none-busy bs)
 call-refused lent mark = rw (refused-mark-changes-nothing noPanel none-busy)
+call-refused lent second = rw (refused-second-changes-nothing noPanel none-busy)
 call-refused lent ask = ask-number lent (enoughLent lent) (wrongList (lent .watched))
 call-refused lent (contact c) =
     ap (λ (d : Contacting). contactNumber (d .contacted .answer)) (contact-none c lent)

@@ -20,18 +20,20 @@ use Rattle.line.specs.declared.Answer.the-variants as line-answer
 use Rattle.line.specs.Methods as Line
 use Rattle.line.specs.Methods.{busy, givenByte, givenMark, givenBytes, gave, plus, gives}
 use Rattle.registers.specs.Touched.{isDown}
+use Rattle.registers.specs.Clocked.{secondPassed}
 use Rattle.contact.specs.Contact.{lifted}
 use Rattle.panel.specs.declared.Panel.{Panel}
+use Rattle.panel.specs.declared.Fed.{Fed}
 use Rattle.panel.specs.declared.LiftAnswer.the-variants as lift-answer
 use Rattle.panel.specs.Numbers.{liftNumber}
-use Rattle.panel.specs.Inputs.{fedByte, fedMark, fedBytes}
-use Rattle.panel.specs.State.{padOf, withPad}
+use Rattle.panel.specs.Inputs.{fedByte, fedMark, fedSecond, fedBytes}
+use Rattle.panel.specs.State.{padOf, withPad, withRegisters}
 use Rattle.panel.specs.Contacts.{lifting}
 use Rattle.panel.specs.Sound.{Sound}
 use Rattle.panel.specs.Reachable.{Reachable, by-byte}
 use Rattle.panel.proofs.Ways.{lifts}
 use Rattle.panel.proofs.Invariant.{reachable-sound}
-use Rattle.demands.specs.Calls.{Moment, Call, lend, byte, bytes, mark, ask, contact, lift, numberGiven, Typed}
+use Rattle.demands.specs.Calls.{Moment, Call, lend, byte, bytes, mark, second, ask, contact, lift, numberGiven, Typed}
 use Rattle.demands.specs.Demand1.{firstNumber, oneComesWhileWaiting, roomTooSmall, printed, printedWriter}
 use Rattle.demands.proofs.Waits.{busy-waits}
 use Rattle.demands.proofs.AskNumbers.{ask-number}
@@ -51,6 +53,16 @@ byte-number now sound b = rw (← busy-waits (now .panel) sound) (fed-number (bu
 pub mark-number : (now : Moment) → Sound (now .panel) → numberGiven now mark ≡ firstNumber (printed now mark)
 unfolding numberGiven printed fedMark givenMark firstSaid
 mark-number now sound = rw (← busy-waits (now .panel) sound) (fed-number (busy (now .panel .reader)) (now .panel .reader) _)
+
+-- 02, §6: "1 for a second while a report waits"
+pub second-number : (now : Moment) → Sound (now .panel) → numberGiven now second ≡ firstNumber (printed now second)
+unfolding numberGiven printed fedSecond firstSaid Line.numberOfAnswer
+second-number now sound = rw (← busy-waits (now .panel) sound) (go (busy (now .panel .reader)))
+  where
+    go : (waits : Bool) → Line.numberOfAnswer (cond {A = Fed} waits (record { answer = line-answer.Waits; panel = now .panel })
+        (record { answer = line-answer.Done; panel = withRegisters (now .panel) (secondPassed (now .panel .registers)) }) .answer) ≡ cond waits 1 0
+    go true = refl
+    go false = refl
 
 -- bytes one after the other: all are taken, or one comes while a report waits
 pub one-more : (used n : ℕ) → eqb (1 + used) (suc n) ≡ eqb used n
@@ -106,6 +118,7 @@ call-as-printed now reached (lend lent) typed = refl
 call-as-printed now reached (byte b) typed = byte-number now (reachable-sound (now .panel) reached) b
 call-as-printed now reached (bytes bs) typed = bytes-number now reached bs typed
 call-as-printed now reached mark typed = mark-number now (reachable-sound (now .panel) reached)
+call-as-printed now reached second typed = second-number now (reachable-sound (now .panel) reached)
 call-as-printed now reached ask typed = ask-number now (reachable-sound (now .panel) reached)
 call-as-printed now reached (contact c) typed = contact-number now (reachable-sound (now .panel) reached) c
 call-as-printed now reached lift typed = lift-number now (reachable-sound (now .panel) reached)

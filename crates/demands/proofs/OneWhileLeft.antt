@@ -17,7 +17,7 @@ use Rattle.panel.specs.Inputs.{fedByte}
 use Rattle.panel.specs.Sound.{Sound}
 use Rattle.panel.specs.Reachable.{Reachable, by-start}
 use Rattle.panel.proofs.Invariant.{reachable-sound}
-use Rattle.demands.specs.Calls.{Moment, Call, byte, mark, contact, lift, begun, after, afterAll, numberGiven, Typed, AllTyped}
+use Rattle.demands.specs.Calls.{Moment, Call, byte, mark, second, contact, lift, begun, after, afterAll, numberGiven, Typed, AllTyped}
 use Rattle.demands.specs.Reports.{reportWaits}
 use Rattle.demands.specs.AsRead.{AsRead}
 use Rattle.demands.specs.Demand1.{Condition, firstNumber, wordsNotLent, roomTooSmall, oneComesWhileWaiting, notWholeRecords, oneWrong, offScreen, printed}
@@ -25,7 +25,7 @@ use Rattle.demands.specs.Done.{Exactly}
 use Rattle.demands.specs.Left.{OneIsLeft, OneComesWhileLeft, AnsweredOne, OneWhileLeft}
 use Rattle.demands.proofs.Calls.{after-then, calls-reached}
 use Rattle.demands.proofs.AsRead.{always-as-read}
-use Rattle.demands.proofs.Numbers.{byte-number, mark-number, lift-number, bytes-number}
+use Rattle.demands.proofs.Numbers.{byte-number, mark-number, second-number, lift-number, bytes-number}
 use Rattle.demands.proofs.TableNumbers.{contact-number}
 use Rattle.demands.proofs.Left.{noneIsOne, one-first, chained, waits-left}
 
@@ -112,6 +112,7 @@ module _ (setup : Setup) (now : Moment) (reachable : Reachable (now .panel)) (al
       record {
         of-byte = λ b. one-while-left calls typed (byte b) [] refl (byte-number last sound b);
         of-mark = one-while-left calls typed mark [] refl (mark-number last sound);
+        of-second = one-while-left calls typed second [] refl (second-number last sound);
         of-lift = one-while-left calls typed lift ((10 when not (isDown (last .panel .registers))) ∷ []) refl (lift-number last sound);
         of-contact = λ c lent.
             one-while-left calls typed (contact c)

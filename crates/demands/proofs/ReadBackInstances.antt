@@ -15,14 +15,14 @@ use Rattle.demands.proofs.Demand2.{what-80-wrote-81-replies, what-82-wr
 use Rattle.demands.proofs.Story.{new-arises}
 
 -- a new panel that has been given a frame
-abbrev fed : List ℕ → Moment
+abbrev pub fed : List ℕ → Moment
 fed frame = after new (bytes frame)
 
-fed-arises : (frame : List ℕ) → allBytes frame ≡ true → Arises (fed frame)
+pub fed-arises : (frame : List ℕ) → allBytes frame ≡ true → Arises (fed frame)
 unfolding Typed
 fed-arises frame are = by-call new (bytes frame) (tested-bytes frame are) new-arises
 
-bytes-typed : (frame : List ℕ) → allBytes frame ≡ true → AllTyped (bytes frame ∷ [])
+pub bytes-typed : (frame : List ℕ) → allBytes frame ≡ true → AllTyped (bytes frame ∷ [])
 unfolding AllTyped Typed
 bytes-typed frame are = (tested-bytes frame are, tt)
 
@@ -40,7 +40,7 @@ no-word : (now : Moment) (k : ℕ) (frame : List ℕ) → Some (λ then call. Na
 no-word now k frame (here _ _ _ named) = bytes-name-no-word named
 no-word now k frame (later _ _ _ some) = none-does some
 
-no-register : (now : Moment) (k : ℕ) (frame : List ℕ) → Some (λ then call. NamesRegister then k call) now (bytes frame ∷ []) → ⊥
+pub no-register : (now : Moment) (k : ℕ) (frame : List ℕ) → Some (λ then call. NamesRegister then k call) now (bytes frame ∷ []) → ⊥
 no-register now k frame (here _ _ _ named) = bytes-name-no-register named
 no-register now k frame (later _ _ _ some) = none-does some
 

@@ -26,12 +26,12 @@ use Rattle.line.specs.Reached.{Reached, reportAs, payloadAs}
 use Rattle.line.proofs.Padding.{take-padded}
 use Rattle.line.proofs.Carried.{waiting-is, byte-carried, mark-carried, ask-carried, reached-byte, reached-mark, reached-report}
 use Rattle.panel.specs.declared.Panel.{Panel}
-use Rattle.panel.specs.Inputs.{fedByte, fedMark, fedBytes}
+use Rattle.panel.specs.Inputs.{fedByte, fedMark, fedSecond, fedBytes}
 use Rattle.panel.specs.Reporting as Reporting
 use Rattle.panel.specs.Reporting.{reporting}
 use Rattle.panel.specs.Contacts.{contacting, lifting, Contact}
-use Rattle.panel.proofs.Ways.{contact-ways, lift-ways}
-use Rattle.demands.specs.Calls.{Moment, Call, lend, byte, bytes, mark, ask, contact, lift, after, afterAll, reportHanded, handedOver, handedOverAll, Typed, AllTyped}
+use Rattle.panel.proofs.Ways.{contact-ways, lift-ways, second-ways}
+use Rattle.demands.specs.Calls.{Moment, Call, lend, byte, bytes, mark, second, ask, contact, lift, after, afterAll, reportHanded, handedOver, handedOverAll, Typed, AllTyped}
 use Rattle.demands.specs.Given.{unlessRefused, given, givenAll}
 use Rattle.commands.specs.Lent.{Lent}
 use Rattle.demands.proofs.Answers.{reportedBy, refusal-hands-none}
@@ -198,6 +198,10 @@ contact-keeps-reader panel c lent = contact-ways panel c lent (λ r. r .contacte
 pub lift-keeps-reader : (panel : Panel) → lifting panel .panel .reader ≡ panel .reader
 lift-keeps-reader panel = lift-ways panel (λ l. l .panel .reader ≡ panel .reader) refl refl refl
 
+-- 02, §6: a second is no mark: the reader stays as it is
+pub second-keeps-reader : (panel : Panel) → fedSecond panel .panel .reader ≡ panel .reader
+second-keeps-reader panel = second-ways panel (λ f. f .panel .reader ≡ panel .reader) refl (λ quiet. refl)
+
 -- a call
 carries-call : (line : Declared.Line) (kept : Kept) (now : Moment) (call : Call) → Typed call → Reached line kept → now .panel .reader ≡ readerOf line kept
     → Carries line kept (given now call) (handedOver now call) (after now call .panel .reader)
@@ -206,6 +210,8 @@ carries-call line kept now (lend lent) typed reached reads = still line kept rea
 carries-call line kept now (byte b) typed reached reads = rw reads (carries-byte line kept reached b typed)
 carries-call line kept now (bytes bs) typed reached reads = rw reads (carries-bytes line bs kept reached typed)
 carries-call line kept now mark typed reached reads = rw reads (carries-mark line kept reached)
+carries-call line kept now second typed reached reads =
+    still line kept reached (after now second .panel .reader) (second-keeps-reader (now .panel) ∙ reads)
 carries-call line kept now ask typed reached reads = carries-ask line (now .panel) kept reached (now .lent) reads
 carries-call line kept now (contact c) typed reached reads =
     still line kept reached (after now (contact c) .panel .reader) (contact-keeps-reader (now .panel) c (now .lent) ∙ reads)

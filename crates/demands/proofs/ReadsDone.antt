@@ -1,10 +1,10 @@
 -- A read of a part of a run that was written is not refused: of registers never, of words where the reply fits a frame.
 use mathlib.Core.Path.{_≡_, refl, sym, ap, _∙_}
-use mathlib.Core.Bool.{Bool, true, false, not}
+use mathlib.Core.Bool.{Bool, true, false}
 use mathlib.Core.List.{List, [], _∷_, _++_}
 use Prim.Native.Nat.{ℕ, zero, suc, _+_, _*_, _≤_}
 use native.Mathlib.Omega.{arith}
-use borrow.Author.Tests.{le-ltb, leb-true, leb-false, eqb-true, eqb-false, not-false}
+use borrow.Author.Tests.{le-ltb, leb-true, leb-false, eqb-true, eqb-false}
 use lib.Dec.{eqb, leb}
 use lib.ListN.{length, drop}
 use Rattle.wire.specs.ByteOrder.{highFirst, byteAt, wordAt}
@@ -13,9 +13,9 @@ use Rattle.frame.proofs.Writers.{length-most}
 use Rattle.reading.specs.Place.{acceptedFrame}
 use Rattle.wire.proofs.Truths.{never, and-left, and-right}
 use Rattle.wire.specs.Addresses.{registerCount, wordCount}
-use Rattle.registers.specs.Table.{writable}
-use Rattle.registers.specs.Run.{allWritable, halfPage, unwritableRun}
-use Rattle.registers.proofs.Allowed.{neither}
+use Rattle.registers.specs.Table.{isClock, writable}
+use Rattle.registers.specs.Run.{allWritable, unwritableRun}
+use Rattle.registers.proofs.Allowed.{run-is-writable}
 use Rattle.words.specs.Words.{wordsOf}
 use Rattle.commands.specs.Outcome as Outcome
 use Rattle.commands.specs.Outcome.{replyTooLong, readRegistersOutcome, readWordsOutcome, outcome}
@@ -29,7 +29,7 @@ use Rattle.demands.proofs.Access.{is-done}
 
 -- 06, the touch status, is not writable: a run from before it that may be written ends before it
 before-status : (n address : ℕ) → allWritable address n ≡ true → address ≤ 0x06 → address + n ≤ 0x06
-unfolding allWritable writable
+unfolding allWritable writable isClock
 before-status zero address all from = omega arith
 before-status (suc n) address all from =
     go (eqb address 0x06) refl (before-status n (suc address) (and-right (writable address) (allWritable (suc address) n) all))
@@ -45,14 +45,10 @@ before-status (suc n) address all from =
 
 -- so a run that may be written, lying before 06 or behind it, is so short that an 0x81 of it is not refused with 7
 short-run : (n address : ℕ) → unwritableRun address n ≡ false → address + n ≤ registerCount → n ≤ 249
-unfolding unwritableRun
 short-run n address may fits = go (leb address 0x06) refl
   where
-    all : allWritable address n ≡ true
-    all = not-false (allWritable address n) (neither (not (allWritable address n)) (halfPage address n) may .0)
-
     go : (b : Bool) → leb address 0x06 ≡ b → n ≤ 249
-    go true is = omega (arith, before-status n address all (leb-true address 0x06 is))
+    go true is = omega (arith, before-status n address (run-is-writable address n may) (leb-true address 0x06 is))
     go false is = omega (arith, leb-false address 0x06 is)
 
 check-short : (checking : Bool) → checkLength checking ≤ 2

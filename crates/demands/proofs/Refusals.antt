@@ -37,8 +37,9 @@ use Rattle.panel.specs.Contacts.{contacting, lifting, Contact}
 use Rattle.panel.specs.Sound.{Sound}
 use Rattle.panel.specs.Reachable.{Reachable, by-byte}
 use Rattle.panel.proofs.Refusals.{badly-lent-changes-nothing, refused-contact-changes-nothing, refused-lift-changes-nothing}
+use Rattle.panel.proofs.Ways.{second-ways}
 use Rattle.panel.proofs.Invariant.{reachable-sound}
-use Rattle.demands.specs.Calls.{Moment, Call, lend, byte, bytes, mark, ask, contact, lift, withPanel, after, afterAll, numberGiven, reportHanded, handedOver, Typed}
+use Rattle.demands.specs.Calls.{Moment, Call, lend, byte, bytes, mark, second, ask, contact, lift, withPanel, after, afterAll, numberGiven, reportHanded, handedOver, Typed}
 use Rattle.demands.specs.Reports.{reportWaits, readBehind, acknowledgementOf}
 use Rattle.demands.specs.Demand1.{RefusalLeaves, as-it-stood, only-handed-over, as-those-taken}
 use Rattle.demands.specs.Demand2.{leaving}
@@ -160,6 +161,14 @@ mark-refused now above =
     let left = fed-refused now (busy (now .panel .reader)) _ above in
     as-it-stood mark (inl (left .0)) (left .1)
 
+second-refused : (now : Moment) → 0 < numberGiven now second → RefusalLeaves now second
+unfolding numberGiven after Line.numberOfAnswer
+second-refused now above =
+    let left =
+    second-ways (now .panel) (λ f. 0 < Line.numberOfAnswer (f .answer) → (Line.numberOfAnswer (f .answer) ≡ 1) × (withPanel now (f .panel) ≡ now))
+    (λ above. (refl, refl)) (λ quiet above. absurd (omega arith)) above in
+    as-it-stood second (inl (left .0)) (left .1)
+
 -- a contact and a lift
 contact-numbers : (a : ContactAnswer) → 0 < contactNumber a → (contactNumber a ≡ 1) ⊎ (8 ≤ contactNumber a)
 unfolding contactNumber
@@ -253,6 +262,7 @@ call-refused now reached (lend lent) typed above = absurd (omega arith)
 call-refused now reached (byte b) typed above = byte-refused now b above
 call-refused now reached (bytes bs) typed above = bytes-refused now reached bs typed above
 call-refused now reached mark typed above = mark-refused now above
+call-refused now reached second typed above = second-refused now above
 call-refused now reached ask typed above = ask-refused now (reachable-sound (now .panel) reached) above
 call-refused now reached (contact c) typed above = contact-refused now c above
 call-refused now reached lift typed above = lift-refused now above

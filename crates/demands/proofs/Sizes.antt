@@ -25,10 +25,10 @@ use Rattle.panel.specs.Start.{refuses, newPanel, startJudged, started}
 use Rattle.panel.specs.Inputs.{fedByte, fedMark, fedBytes}
 use Rattle.panel.specs.Reporting.{acknowledged, accepting, drawing, handing, handingOver}
 use Rattle.panel.specs.Sound.{Sound}
-use Rattle.panel.proofs.Ways.{contact-ways, lift-ways, report-ways}
+use Rattle.panel.proofs.Ways.{contact-ways, lift-ways, second-ways, report-ways}
 use Rattle.panel.proofs.Invariant.{reachable-sound}
 use Rattle.panel.specs.Watching.{telling}
-use Rattle.demands.specs.Calls.{Moment, Call, lend, byte, bytes, mark, ask, contact, lift, after, Halfwords, Typed, Arises, from-start, by-call}
+use Rattle.demands.specs.Calls.{Moment, Call, lend, byte, bytes, mark, second, ask, contact, lift, after, Halfwords, Typed, Arises, from-start, by-call}
 use Rattle.demands.proofs.Calls.{arises-reachable}
 use Rattle.demands.proofs.Contents.{payload-bytes}
 use Rattle.wire.proofs.Below.{byte-some, below-take}
@@ -38,7 +38,7 @@ use Rattle.commands.specs.Lent.{withRoom}
 use Rattle.commands.specs.Perform.{performance}
 use Rattle.panel.proofs.Lengths.{contacted-area-stands}
 use Rattle.panel.specs.Contacts.{Contact}
-use Rattle.demands.proofs.Storing.{start-bytes, status-bytes, touched-bytes, touched-words, performed-bytes, performed-words}
+use Rattle.demands.proofs.Storing.{start-bytes, status-bytes, second-bytes, touched-bytes, touched-words, performed-bytes, performed-words}
 
 -- over calls
 record Sized (now : Moment) : Type 0 where
@@ -96,12 +96,22 @@ lifted-sized now sized =
       curves = sized .curves;
     }
 
+second-sized : (now : Moment) → Sized now → Sized (after now second)
+unfolding after
+second-sized now sized =
+    record {
+      registers = second-ways (now .panel) (λ f. Bytes (f .panel .registers .bytes)) (sized .registers) (λ quiet. second-bytes (now .panel .registers) (sized .registers));
+      words = sized .words;
+      curves = sized .curves;
+    }
+
 call-sized : (now : Moment) → Sound (now .panel) → (call : Call) → Typed call → Sized now → Sized (after now call)
 unfolding after Typed fedByte fedBytes fedMark
 call-sized now sound (lend lent) typed sized = record { registers = sized .registers; words = typed .words; curves = typed .curves }
 call-sized now sound (byte b) typed sized = record { registers = sized .registers; words = sized .words; curves = sized .curves }
 call-sized now sound (bytes bs) typed sized = record { registers = sized .registers; words = sized .words; curves = sized .curves }
 call-sized now sound mark typed sized = record { registers = sized .registers; words = sized .words; curves = sized .curves }
+call-sized now sound second typed sized = second-sized now sized
 call-sized now sound ask typed sized = asked-sized now sound sized
 call-sized now sound (contact c) typed sized = contacted-sized now c (typed .0) (typed .1 .0) (typed .1 .1) sized
 call-sized now sound lift typed sized = lifted-sized now sized

@@ -1,6 +1,6 @@
 -- What writes, contacts and a start store: bytes in registers, 16-bit numbers in words.
 use mathlib.Core.Path.{_≡_, refl}
-use mathlib.Core.Bool.{Bool, true, false, cond}
+use mathlib.Core.Bool.{Bool, true, false, cond, _||_}
 use mathlib.Core.List.{List, [], _∷_, _++_}
 use Prim.Native.Nat.{ℕ, zero, suc, _+_, _*_, _<_}
 use native.Mathlib.Nat.{mod-lt}
@@ -14,7 +14,13 @@ use Rattle.wire.specs.ByteOrder.{word, byteAt, wordAt, highByte, lowByte, highF
 use Rattle.wire.specs.Room.{laidAt}
 use Rattle.registers.specs.declared.Registers.{Registers}
 use Rattle.wire.specs.Addresses.{registerCount}
-use Rattle.registers.specs.Table.{holding, clearRegister, startRegisters, registerAt}
+use Rattle.clock.specs.declared.Moment as Clock
+use Rattle.clock.specs.Passing.{nextSecond}
+use Rattle.clock.specs.Shown.{shown, dateIn}
+use Rattle.clock.proofs.TwoDigits.{digits-below}
+use Rattle.clock.proofs.Weekdays.{weekday-below}
+use Rattle.registers.specs.Table.{holding, clearRegister, setRegister, weekdayRegister, startRegisters, registerAt}
+use Rattle.registers.specs.Clocked.{momentOf, withMoment, secondPassed}
 use Rattle.registers.specs.Touched.{pageOf, withPage, isDown, withStatus, withPlace}
 use Rattle.words.specs.Words.{wordAtAddress, wordSet, wordsOf, wordsWritten}
 use Rattle.words.proofs.Carried.{wordsOf-16-bit}
@@ -42,7 +48,7 @@ use Rattle.contact.specs.Contact.{showing, catching, acting, pressed, dragging,
 use Rattle.demands.specs.Calls.{Halfwords}
 use Rattle.wire.proofs.Below.{byte-some, word-some, below-take, below-drop, below-append, below-set, below-laid, below-zeros}
 use Rattle.touch.specs.Act.{actedBy, actedOf, draggedOf}
-use Rattle.registers.specs.Run.{readAs, readsAs, registersAfter}
+use Rattle.registers.specs.Run.{byteFor, weekdayFor, readAs, readEach, readsAs, registersAfter}
 use Rattle.registers.proofs.Runs.{started as start-sets}
 use Rattle.commands.specs.declared.Fixed.{Fixed}
 use Rattle.commands.specs.Lent.{Lent}
@@ -61,14 +67,18 @@ start-bytes h1 h2 checking acknowledging one two =
     let checks = set enable 0x12 (cond checking 0x10 0x00) in
     let first = set checks 0x13 h1 in
     let second = set first 0x1A h2 in
+    let told = set second 0x1C (cond acknowledging 0x08 0x00) in
+    let month = set told 0x21 0x01 in
+    let day = set month 0x22 0x01 in
     let a = sets zeros 0x00 0x10 (below-zeros 256 byte-some registerCount) (omega arith) in
     let b = sets version 0x01 0x3F a (omega arith) in
     let c = sets light 0x0B 0xFF b (omega arith) in
     let d = sets enable 0x12 (cond checking 0x10 0x00) c (either checking 0x10 (omega arith)) in
     let e = sets checks 0x13 h1 d one in
     let f = sets first 0x1A h2 e two in
+    let g = sets second 0x1C (cond acknowledging 0x08 0x00) f (either acknowledging 0x08 (omega arith)) in
     λ i. rw (← start-sets h1 h2 (cond checking 0x10 0x00) (cond acknowledging 0x08 0x00) checking acknowledging refl refl)
-    (sets second 0x1C (cond acknowledging 0x08 0x00) f (either acknowledging 0x08 (omega arith)) i)
+    (sets day 0x23 0x06 (sets month 0x22 0x01 (sets told 0x21 0x01 g (omega arith)) (omega arith)) (omega arith) i)
   where
     sets : (xs : List ℕ) (k v : ℕ) → Bytes xs → v < 256 → Bytes (set xs k v)
     sets = below-set 256 byte-some
@@ -78,15 +88,20 @@ start-bytes h1 h2 checking acknowledging one two =
     either false v is = omega arith
 
 -- what a run reads once these bytes are written to it
-reads-bytes : (address : ℕ) (run : List ℕ) → Bytes run → Bytes (readsAs address run)
-unfolding readsAs readAs
-reads-bytes address [] are i = byte-some
-reads-bytes address (b ∷ run) are zero = go (eqb address clearRegister)
+each-bytes : (weekday address : ℕ) (run : List ℕ) → weekday < 256 → Bytes run → Bytes (readEach weekday address run)
+unfolding readEach readAs
+each-bytes weekday address [] few are i = byte-some
+each-bytes weekday address (b ∷ run) few are zero = go (eqb address clearRegister || eqb address setRegister) (eqb address weekdayRegister)
   where
-    go : (c : Bool) → cond c 0x00 b < 256
-    go true = byte-some
-    go false = are 0
-reads-bytes address (b ∷ run) are (suc i) = reads-bytes (suc address) run (λ j. are (suc j)) i
+    go : (c d : Bool) → cond c 0x00 (cond d weekday b) < 256
+    go true d = byte-some
+    go false true = few
+    go false false = are 0
+each-bytes weekday address (b ∷ run) few are (suc i) = each-bytes weekday (suc address) run few (λ j. are (suc j)) i
+
+reads-bytes : (address : ℕ) (run : List ℕ) → Bytes run → Bytes (readsAs address run)
+unfolding readsAs weekdayFor
+reads-bytes address run are = each-bytes (weekdayFor address run) address run (omega (arith, weekday-below (dateIn (byteFor address run 0x20) (byteFor address run 0x21) (byteFor address run 0x22)))) are
 
 -- what a write, a contact and a lift set
 written-bytes : (registers : Registers) (address : ℕ) (run : List ℕ) → Bytes (registers .bytes) → Bytes run → Bytes (registersAfter registers address run .bytes)
@@ -96,6 +111,24 @@ written-bytes registers address run are new = go (leb (address + length run) reg
     go : (b : Bool) → Bytes (cond b (holding (laidAt address (readsAs address run) (registers .bytes))) registers .bytes)
     go true = below-laid 256 byte-some address (readsAs address run) (registers .bytes) (reads-bytes address run new) are
     go false = are
+
+-- what a second sets: digits and a weekday
+shown-bytes : (m : Clock.Moment) → Bytes (shown m)
+unfolding shown
+shown-bytes m zero = digits-below (m .date .year)
+shown-bytes m (suc zero) = digits-below (m .date .month)
+shown-bytes m (suc (suc zero)) = digits-below (m .date .day)
+shown-bytes m (suc (suc (suc zero))) = omega (arith, weekday-below (m .date))
+shown-bytes m (suc (suc (suc (suc zero)))) = digits-below (m .time .hour)
+shown-bytes m (suc (suc (suc (suc (suc zero))))) = digits-below (m .time .minute)
+shown-bytes m (suc (suc (suc (suc (suc (suc zero)))))) = digits-below (m .time .second)
+shown-bytes m (suc (suc (suc (suc (suc (suc (suc i))))))) = byte-some
+
+pub second-bytes : (registers : Registers) → Bytes (registers .bytes) → Bytes (secondPassed registers .bytes)
+unfolding secondPassed withMoment
+second-bytes registers are =
+    let next = nextSecond (momentOf registers) in
+    below-laid 256 byte-some 0x20 (shown next) (registers .bytes) (shown-bytes next) are
 
 high-bytes : (w : ℕ) → w < 65536 → Bytes (highFirst w)
 high-bytes w is zero = omega arith

@@ -1,4 +1,5 @@
--- Sequences of calls of one panel. Demand 1: "No sequence of line bytes, quiet marks, contacts, lifts, tables or lent buffers ..".
+-- Sequences of calls of one panel. Demand 1: "No sequence of line bytes, quiet marks, contacts, lifts, tables or lent buffers ..", and 02, §6: "A new input, one
+-- second".
 use Prim.{Unit}
 use Prim.Native.Nat.{ℕ, _≤_, _<_}
 use mathlib.Core.Path.{_≡_}
@@ -21,7 +22,7 @@ use Rattle.panel.specs.declared.Handed.{Handed}
 use Rattle.panel.specs.declared.Handed.the-variants as handed
 use Rattle.panel.specs.Numbers.{reportNumber, contactNumber, liftNumber}
 use Rattle.panel.specs.Start.{started}
-use Rattle.panel.specs.Inputs.{fedByte, fedMark, fedBytes}
+use Rattle.panel.specs.Inputs.{fedByte, fedMark, fedSecond, fedBytes}
 use Rattle.panel.specs.Reporting.{reporting}
 use Rattle.panel.specs.Contacts.{Contact, contacting, lifting}
 
@@ -30,13 +31,14 @@ pub record Moment : Type 0 where
   pub panel : Panel
   pub lent : Lent
 
--- "sequence of line bytes, quiet marks, contacts, lifts, tables or lent buffers": a line byte, line bytes one after the other, a quiet mark, asking for a report,
--- a contact with the table it is lent, a lift. `lend` is no call of the panel: the caller lends other things from then on.
+-- "sequence of line bytes, quiet marks, contacts, lifts, tables or lent buffers": a line byte, line bytes one after the other, a quiet mark, 02, §6: "one
+-- second", asking for a report, a contact with the table it is lent, a lift. `lend` is no call of the panel: the caller lends other things from then on.
 pub data Call : Type 0 where
   lend : (lent : Lent) → Call
   byte : (b : ℕ) → Call
   bytes : (bs : List ℕ) → Call
   mark : Call
+  second : Call
   ask : Call
   contact : (c : Contact) → Call
   lift : Call
@@ -69,6 +71,7 @@ after now (lend lent) = record { panel = now .panel; lent = lent }
 after now (byte b) = withPanel now (fedByte (now .panel) b .panel)
 after now (bytes bs) = withPanel now (fedBytes (now .panel) bs .panel)
 after now mark = withPanel now (fedMark (now .panel) .panel)
+after now second = withPanel now (fedSecond (now .panel) .panel)
 after now ask =
     let done = reporting (now .panel) (now .lent) in
     record { panel = done .reported .panel; lent = done .lent }
@@ -88,6 +91,7 @@ numberGiven now (lend lent) = 0
 numberGiven now (byte b) = Line.numberOfAnswer (fedByte (now .panel) b .answer)
 numberGiven now (bytes bs) = cond (eqb (fedBytes (now .panel) bs .used) (length bs)) 0 1
 numberGiven now mark = Line.numberOfAnswer (fedMark (now .panel) .answer)
+numberGiven now second = Line.numberOfAnswer (fedSecond (now .panel) .answer)
 numberGiven now ask = reportNumber (reporting (now .panel) (now .lent) .reported .handed)
 numberGiven now (contact c) = contactNumber (contacting (now .panel) c (now .lent) .contacted .answer)
 numberGiven now lift = liftNumber (lifting (now .panel) .answer)
@@ -106,6 +110,7 @@ handedOver now (lend lent) = []
 handedOver now (byte b) = []
 handedOver now (bytes bs) = []
 handedOver now mark = []
+handedOver now second = []
 handedOver now ask =
     let done = reporting (now .panel) (now .lent) .reported in
     reportHanded (done .handed) (done .payload)
@@ -136,6 +141,7 @@ Typed (lend lent) = LentTyped lent
 Typed (byte b) = b < 256
 Typed (bytes bs) = Bytes bs
 Typed mark = Unit
+Typed second = Unit
 Typed ask = Unit
 Typed (contact c) = Bytes (c .table) × ((c .x < 65536) × (c .y < 65536))
 Typed lift = Unit

@@ -5,7 +5,7 @@
 use Prim.Native.Nat.{ℕ, _*_, _%_, _≤_, _<_}
 use mathlib.Core.Path.{_≡_}
 use mathlib.Core.Logic.{_⊎_}
-use mathlib.Core.Bool.{Bool, true, false, cond, not, _&&_, _||_}
+use mathlib.Core.Bool.{Bool, true, false, not, _&&_, _||_}
 use mathlib.Core.List.{List, [], _∷_, _++_, map}
 use lib.Dec.{eqb, ltb}
 use lib.ListN.{length}
@@ -27,7 +27,7 @@ use Rattle.touch.specs.Table.{mostRecords, recordBytes, recordAt, recordsOf}
 use Rattle.touch.specs.Judge.{goodRecord}
 use Rattle.panel.specs.declared.Panel.{Panel}
 use Rattle.panel.specs.Inputs.{fedByte}
-use Rattle.demands.specs.Calls.{Moment, Call, lend, byte, bytes, mark, ask, contact, lift, after, afterAll, numberGiven, handedOver}
+use Rattle.demands.specs.Calls.{Moment, Call, lend, byte, bytes, mark, second, ask, contact, lift, after, afterAll, numberGiven, handedOver}
 use Rattle.demands.specs.Reports.{reportWaits, waitingReport, readBehind, acknowledgementOf}
 
 -- "Given exactly when": a number of the table and whether its condition holds
@@ -90,12 +90,14 @@ unfoldable pub offScreen : Setup → (x y : ℕ) → Bool
 offScreen setup x y = not (ltb x (setup .width) && ltb y (setup .height))
 
 -- "Order: asking for a report 14, then 2 to 7 in turn; byte or mark 1; contact 14, 1, 12, 13, 9, 8; lift 1, 10". 02, §4: "16, two entries in use share a word or
--- one in use has an address not below 0x7000, or the list is longer than 16, right after 14 at contacts and reports", "14 also for reply room at a contact"
+-- one in use has an address not below 0x7000, or the list is longer than 16, right after 14 at contacts and reports", "14 also for reply room at a contact". 02, §6: "1
+-- for a second while a report waits"
 unfoldable pub printed : Moment → Call → List Condition
 printed now (lend lent) = []
 printed now (byte b) = (1 when reportWaits (now .panel)) ∷ []
 printed now (bytes bs) = (1 when oneComesWhileWaiting (now .panel) bs) ∷ []
 printed now mark = (1 when reportWaits (now .panel)) ∷ []
+printed now second = (1 when reportWaits (now .panel)) ∷ []
 printed now ask =
     let setup = now .panel .setup in
     let report = waitingReport (now .panel) in

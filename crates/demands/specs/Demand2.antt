@@ -39,7 +39,7 @@ use Rattle.contact.specs.Contact as Touch
 use Rattle.panel.specs.Contacts.{Contact}
 use Rattle.panel.specs.Watching.{telling}
 use Rattle.panel.specs.State.{headerOf, padOf, withPad, panelCount}
-use Rattle.demands.specs.Calls.{Moment, Call, lend, bytes, ask, contact, lift, after, numberGiven, handedOver}
+use Rattle.demands.specs.Calls.{Moment, Call, lend, bytes, second, ask, contact, lift, after, numberGiven, handedOver}
 use Rattle.demands.specs.Reports.{readBehind, acknowledgementOf}
 
 -- "those the command or touch rule names": the word is named by the call, which is done
@@ -70,6 +70,8 @@ pub data NamesRegister (now : Moment) (address : ℕ) : Call → Type 0 where
   by-page : (c : Contact) (i : ℕ) (r : Record) → numberGiven now (contact c) ≡ 0 → isDown (now .panel .registers) ≡ false
       → found (c .table) (pageOf (now .panel .registers)) (c .x) (c .y) ≡ At i r → noNext r ≡ false → (address ≡ 0x03) ⊎ (address ≡ 0x04)
       → NamesRegister now address (contact c)
+  -- 02, §6: "Demand 2's last sentence then also lets a second change the clock's registers": 20 to 26
+  by-second : numberGiven now second ≡ 0 → 0x20 ≤ address → address ≤ 0x26 → NamesRegister now address second
   -- "Lift: status 02"
   by-lifting : numberGiven now lift ≡ 0 → address ≡ 0x06 → NamesRegister now address lift
 

@@ -85,7 +85,7 @@ pub record ReadAlike (one other : Moment) : Type 0 where
   pub hand-same : (calls : List Call) → handedOverAll one calls ≡ handedOverAll other calls
 
 -- "After a quiet mark and its reports, with checking on or off, reading goes on as from a new panel, and no premise is needed." From any start, whatever
--- was given before the mark, and however it was mixed with asks, contacts and lifts: the panel's reader is that of a new panel, and reading goes on as
+-- was given before the mark, and however it was mixed with asks, seconds, contacts and lifts: the panel's reader is that of a new panel, and reading goes on as
 -- that of a new panel which is lent the same.
 pub record AsNew (setup : Setup) (table : List ℕ) (now : Moment) : Type 0 where
   pub new-reader : now .panel .reader ≡ newPanel setup .reader

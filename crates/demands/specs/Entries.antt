@@ -20,7 +20,7 @@ use Rattle.watch.specs.Sending.{isDue, dueEntries}
 use Rattle.commands.specs.Lent.{Lent}
 use Rattle.panel.specs.State.{headerOf}
 use Rattle.panel.specs.Contacts.{Contact, contacting}
-use Rattle.demands.specs.Calls.{Moment, Call, lend, byte, bytes, mark, ask, contact, lift, after, afterAll, numberGiven, handedOver}
+use Rattle.demands.specs.Calls.{Moment, Call, lend, byte, bytes, mark, second, ask, contact, lift, after, afterAll, numberGiven, handedOver}
 use Rattle.demands.specs.Demand2.{Some, ReadsBack}
 
 -- "each entry a word address, whether it is in use, and the value last sent": one entry, as it stands in the three slices
@@ -159,6 +159,7 @@ LeavesEntry i now (lend lent) =
 LeavesEntry i now (byte b) = Unit
 LeavesEntry i now (bytes bs) = Unit
 LeavesEntry i now mark = Unit
+LeavesEntry i now second = Unit
 LeavesEntry i now ask = Unit
 LeavesEntry i now (contact c) =
     let address = addressAt (now .lent .watched .addresses) i in

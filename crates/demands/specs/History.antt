@@ -14,7 +14,7 @@ use Rattle.curves.specs.Area.{channelWords, partOf, latest}
 use Rattle.curves.specs.Rounds.{numbersFor}
 use Rattle.curves.specs.Clearing.{clears}
 use Rattle.panel.specs.State.{panelCount}
-use Rattle.demands.specs.Calls.{Moment, Call, lend, byte, bytes, mark, ask, contact, lift, after, afterAll, numberGiven, handedOver}
+use Rattle.demands.specs.Calls.{Moment, Call, lend, byte, bytes, mark, second, ask, contact, lift, after, numberGiven, handedOver}
 
 -- what a frame that is done makes of a channel's history: the numbers of an 0x84 for it come behind, "the last clear" ends it; any other leaves it
 unfoldable pub recorded : (n command : ℕ) → (content history : List ℕ) → List ℕ
@@ -47,6 +47,7 @@ leftBy now (lend lent) left = left
 leftBy now (byte b) left = left
 leftBy now (bytes bs) left = left
 leftBy now mark left = left
+leftBy now second left = left
 leftBy now ask left = after now ask .lent .curves
 leftBy now (contact c) left = left
 leftBy now lift left = left
@@ -62,6 +63,7 @@ AskedWith left now (lend lent) = Unit
 AskedWith left now (byte b) = Unit
 AskedWith left now (bytes bs) = Unit
 AskedWith left now mark = Unit
+AskedWith left now second = Unit
 AskedWith left now ask = now .lent .curves ≡ left
 AskedWith left now (contact c) = Unit
 AskedWith left now lift = Unit
@@ -77,6 +79,7 @@ lendsAnew (lend lent) = true
 lendsAnew (byte b) = false
 lendsAnew (bytes bs) = false
 lendsAnew mark = false
+lendsAnew second = false
 lendsAnew ask = false
 lendsAnew (contact c) = false
 lendsAnew lift = false

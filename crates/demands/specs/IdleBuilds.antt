@@ -12,7 +12,7 @@ use Rattle.reading.specs.Line.{Input}
 use Rattle.touch.specs.Setup.{checkingOf}
 use Rattle.panel.specs.State.{headerOf}
 use Rattle.commands.specs.Lent.{withWords}
-use Rattle.demands.specs.Calls.{Moment, Call, lend, byte, bytes, mark, ask, contact, lift, after, numberGiven, handedOver}
+use Rattle.demands.specs.Calls.{Moment, Call, lend, byte, bytes, mark, second, ask, contact, lift, after, numberGiven, handedOver}
 use Rattle.demands.specs.Reports.{reportWaits}
 use Rattle.demands.specs.Given.{given}
 use Rattle.demands.specs.Demand2.{leaving}
@@ -92,6 +92,7 @@ leavesOwn asks now own (lend lent) = after own (lend lent)
 leavesOwn asks now own (byte b) = after own (byte b)
 leavesOwn asks now own (bytes bs) = after own (bytes bs)
 leavesOwn asks now own mark = after own mark
+leavesOwn asks now own second = after own second
 leavesOwn asks now own ask = asks now own
 leavesOwn asks now own (contact c) = after own (contact c)
 leavesOwn asks now own lift = after own lift

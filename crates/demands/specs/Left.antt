@@ -11,7 +11,7 @@ use Rattle.panel.specs.declared.Handed.the-variants as handed
 use Rattle.panel.specs.Start.{started}
 use Rattle.panel.specs.Contacts.{Contact}
 use Rattle.panel.specs.Reporting.{reporting}
-use Rattle.demands.specs.Calls.{Moment, WellLent, TouchLent, Call, byte, bytes, mark, ask, contact, lift, begun, afterAll, numberGiven, handedOver, handedOverAll, AllTyped}
+use Rattle.demands.specs.Calls.{Moment, WellLent, TouchLent, Call, byte, bytes, mark, second, ask, contact, lift, begun, afterAll, numberGiven, handedOver, handedOverAll, AllTyped}
 use Rattle.demands.specs.AsRead.{readingOf}
 use Rattle.demands.specs.Done.{Exactly}
 
@@ -35,10 +35,11 @@ pub record OneComesWhileLeft (setup : Setup) (now : Moment) (calls : List Call) 
   pub while-left : OneIsLeft setup now (calls ++ map byte taken)
 
 -- 1: "an input comes while a report waits", and "While one of them is left, a report waits". "byte or mark 1; contact 14, 1, ..; lift 1, ..": only 14 can
--- come before it, of a contact, and 16, 02, §4: "right after 14"
+-- come before it, of a contact, and 16, 02, §4: "right after 14"; 02, §6: "1 for a second while a report waits"
 pub record AnsweredOne (setup : Setup) (now : Moment) (calls : List Call) : Type 0 where
   pub of-byte : (b : ℕ) → Exactly (numberGiven (afterAll now calls) (byte b) ≡ 1) (OneIsLeft setup now calls)
   pub of-mark : Exactly (numberGiven (afterAll now calls) mark ≡ 1) (OneIsLeft setup now calls)
+  pub of-second : Exactly (numberGiven (afterAll now calls) second ≡ 1) (OneIsLeft setup now calls)
   pub of-lift : Exactly (numberGiven (afterAll now calls) lift ≡ 1) (OneIsLeft setup now calls)
   pub of-contact : (c : Contact) → TouchLent (afterAll now calls .lent)
       → Exactly (numberGiven (afterAll now calls) (contact c) ≡ 1) (OneIsLeft setup now calls)
