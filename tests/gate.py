@@ -83,10 +83,12 @@ class Run(NamedTuple):
 
 RUNS = [
     Run("all right", "2 right, 0 wrong", "tests/test.py: all is well"),
-    Run("a stored file was edited", "1 right, 1 wrong", "tests/model.py against crates/x_cases/stdout: line 2: the independent program prints b'two', "
-        "crates/x_cases/stdout has b'2'", b"one\n2\n"),
-    Run("a stored file is cut", "1 right, 1 wrong", "tests/model.py against crates/x_cases/stdout: line 2: the independent program prints b'two', "
-        "crates/x_cases/stdout has b''", b"one\n"),
+    Run("a stored file was edited", "1 right, 1 wrong", "tests/model.py against crates/x_cases/stdout: line 2: the independent program prints two, "
+        "crates/x_cases/stdout has 2", b"one\n2\n"),
+    Run("a stored file is cut", "1 right, 1 wrong", "tests/model.py against crates/x_cases/stdout: line 2: the independent program prints two, "
+        "crates/x_cases/stdout has (nothing more)", b"one\n"),
+    Run("a stored file has no last line feed", "1 right, 1 wrong", "tests/model.py against crates/x_cases/stdout: line 2: the independent program prints two, "
+        "crates/x_cases/stdout has 'two'", b"one\ntwo"),
     Run("a stored file is missing", "1 right, 1 wrong", "tests/model.py against crates/x_cases/stdout: crates/x_cases/stdout is missing", None),
     Run("a test fails", "1 right, 1 wrong", "tests/test.py: three are wrong", test="exit('three are wrong')"),
     Run("a test dies", "1 right, 1 wrong", "tests/test.py: ValueError: no", test="raise ValueError('no')"),

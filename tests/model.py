@@ -1,10 +1,10 @@
 #!/usr/bin/env python3
-"""A model of document 01, "The build and its rules", written from the document and the requests of 02 that it was changed by (§1, §2, §4, §5); to be read
-beside them, section by section.
+"""A model of document 01, "The build and its rules", written from the document and the requests of 02 that it was changed by (§1, §2, §4, §5, §6); to be
+read beside them, section by section.
 
     model.py < TRACE       prints what the panel program must print for a trace
-    model.py --examples    runs 01's printed trace, its examples a to j and the reads and writes it wants run, what 02 and the manuals say of curves, and
-                           what 02 says of watched words and of the two scale sheets; exit status 0 if all are right
+    model.py --examples    runs 01's printed trace, its examples a to j and the reads and writes it wants run, what 02 and the manuals say of curves
+                           and of the clock, and what 02 says of watched words and of the two scale sheets; exit status 0 if all are right
 
 Each part below bears the name of the section of 01 that it states, and a rule of 02 says so. Numbers are those of 01's table "Numbers given back".
 """
@@ -108,13 +108,82 @@ class Line:
         return self.waiting.pop(0)
 
 
+# ---- Clock (02, §6)
+
+CLOCK = range(0x1F, 0x27)       # the set byte, year, month, day, weekday, hour, minute, second
+SET = 0x5A
+FIRST_WEEKDAY = 6               # 1 January 2000 is a Saturday, and Sunday is 0
+DAY_SECONDS = 24 * 60 * 60
+
+
+def is_leap(year):
+    """The Gregorian calendar: every fourth year, not every hundredth, but every four hundredth."""
+    return year % 4 == 0 and (year % 100 != 0 or year % 400 == 0)
+
+
+def days_in(year, month):
+    return 30 if month in (4, 6, 9, 11) else 31 if month != 2 else 29 if is_leap(year) else 28
+
+
+# Every day that there is, in order: a date exists where it stands here, and its place tells its weekday.
+DAYS = [(year, month, day) for year in range(2000, 2100) for month in range(1, 13) for day in range(1, days_in(year, month) + 1)]
+PLACES = {date: place for place, date in enumerate(DAYS)}
+
+
+def to_bcd(number):
+    return number // 10 * 16 + number % 10
+
+
+def of_bcd(byte):
+    """None where a digit is above 9."""
+    return byte // 16 * 10 + byte % 16 if byte // 16 <= 9 and byte % 16 <= 9 else None
+
+
+class Moment(NamedTuple):
+    year: int
+    month: int
+    day: int
+    weekday: int
+    hour: int
+    minute: int
+    second: int
+
+
+def seconds_of(run):
+    """The seconds from the first moment to the one that eight bytes set; None where they set none. The weekday byte is not looked at."""
+    year, month, day, hour, minute, second = fields = [of_bcd(run[at]) for at in (1, 2, 3, 5, 6, 7)]
+    if run[0] != SET or None in fields or (2000 + year, month, day) not in PLACES or hour > 23 or minute > 59 or second > 59:
+        return None
+    return ((PLACES[2000 + year, month, day] * 24 + hour) * 60 + minute) * 60 + second
+
+
+class Clock:
+    """The seconds that have passed since 00:00:00 on 1 January 2000."""
+
+    def __init__(self):
+        self.seconds = 0
+
+    def advance(self):
+        """The last second of 2099 is followed by the first moment."""
+        self.seconds = (self.seconds + 1) % (len(DAYS) * DAY_SECONDS)
+
+    def moment(self):
+        place, time = divmod(self.seconds, DAY_SECONDS)
+        return Moment(*DAYS[place], (FIRST_WEEKDAY + place) % 7, time // 3600, time // 60 % 60, time % 60)
+
+    def registers(self):
+        """1F to 26."""
+        moment = self.moment()
+        return bytes((0x00, to_bcd(moment.year - 2000), *map(to_bcd, moment[1:])))
+
+
 # ---- Registers
 
 class Registers:
-    WRITABLE = (0x01, 0x02, 0x03, 0x04, 0x05, 0x0B, 0xEB)       # EB by 02, §2; it reads 00
+    WRITABLE = (0x01, 0x02, 0x03, 0x04, 0x05, 0x0B, *CLOCK, 0xEB)       # the clock by 02, §6; EB by 02, §2, and it reads 00
 
     def __init__(self, setup):
-        self.setup = setup
+        self.setup, self.clock = setup, Clock()
         self.backlight, self.buzzer, self.page = 0x3F, 0, 0
         self.flag, self.status, self.x, self.y, self.enable = 0, 0, 0, 0, 0xFF
 
@@ -132,16 +201,19 @@ class Registers:
         value[0x12] = 0x10 if self.setup.checking else 0x00
         value[0x13], value[0x1A] = self.setup.header
         value[0x1C] = 0x08 if self.setup.acknowledging else 0x00
+        value[CLOCK.start:CLOCK.stop] = self.clock.registers()
         return bytes(value)
 
     def store(self, run):
-        """A write that is not refused, each address with its byte. The page comes whole."""
+        """A write that is not refused, each address with its byte. The page comes whole, and so does the clock."""
         self.backlight = run.get(0x01, self.backlight)
         self.buzzer = run.get(0x02, self.buzzer)
         if 0x03 in run:
             self.page = run[0x03] * 256 + run[0x04]
         self.flag = run.get(0x05, self.flag)
         self.enable = run.get(0x0B, self.enable)
+        if CLOCK.start in run:
+            self.clock.seconds = seconds_of(list(run.values()))
 
 
 # ---- Curves (02, §2)
@@ -414,6 +486,16 @@ class Panel:
     def give_mark(self):
         return self.line.give(None)
 
+    def second(self):
+        """02, §6. It is no mark: a frame that is half read goes on behind it."""
+        if self.line.waiting:
+            return 1
+        self.registers.clock.advance()
+        return 0
+
+    def moment(self):
+        return self.registers.clock.moment()
+
     def curve_count(self, n):
         return self.channels.counts[n] if n < CHANNELS else 0
 
@@ -456,10 +538,14 @@ class Panel:
             run = range(address, address + count)
             if any(r not in Registers.WRITABLE for r in run) or (0x03 in run) != (0x04 in run):
                 return 5
+            if run != CLOCK and any(r in CLOCK for r in run):
+                return 5
             value = dict(zip(run, data[1:]))
             if value.get(0x01, 0) > 0x3F or (0x03 in run and value[0x03] * 256 + value[0x04] >= self.setup.pages):
                 return 6
             if 0xEB in run and not 0x55 <= value[0xEB] <= 0x5D:
+                return 6
+            if run == CLOCK and seconds_of(data[1:]) is None:
                 return 6
         if command in (0x81, 0x83):
             length = 1 + len(data) + count * (1 if command == 0x81 else 2) + (2 if self.setup.checking else 0)
@@ -557,7 +643,7 @@ class Panel:
 
 # ---- The trace program
 
-BODIES = {0x00: 9, 0x01: 1, 0x02: 0, 0x03: 4, 0x04: 0, 0x05: 32}
+BODIES = {0x00: 9, 0x01: 1, 0x02: 0, 0x03: 4, 0x04: 0, 0x05: 32, 0x06: 0}      # 06, a second, by 02, §6
 
 
 class TraceEnds(Exception):
@@ -613,8 +699,10 @@ class Trace:
             self.panel.give_mark()
         elif kind == 0x03:
             self.lines.append(f"T {self.panel.contact(self.table, self.words, self.room, WatchList(), word(body, 0), word(body, 2)).number}")
-        else:
+        elif kind == 0x04:
             self.lines.append(f"T {self.panel.lift()}")
+        else:
+            self.panel.second()
         while (handed := self.panel.report(self.words, self.curves, self.room, WatchList())).what != "nothing":
             self.handed(handed)
 
@@ -785,6 +873,70 @@ def watch_examples(on, off):
     yield "watched: 16 before 1", [(16, ""), (16, "")], watched(off, [(0x7000, 1, 0)], beside, bytes.fromhex("5AA503800205"), beside)[0]
 
 
+def clock_output(setup, *steps):
+    """What the trace program prints for steps, without its last line, E. A step is a command and its data, bytes of the line, or a number of seconds."""
+    trace = bytes([0x00, *setup[:3]]) + b"".join(map(two, setup[3:]))
+    for step in steps:
+        line = b"" if isinstance(step, int) else step if isinstance(step, bytes) else frame(setup, *step)
+        trace += b"\x06" * step if isinstance(step, int) else b"".join(bytes((0x01, b)) for b in line)
+    return trace_output(trace).removesuffix("E 0000\n")
+
+
+def set_clock(text, weekday=0x00, first=SET):
+    """An 80 of 1F to 26 for a moment as it is written, `13-11-08 18:56:00`."""
+    date, time = bytes.fromhex(text[:8].replace("-", "")), bytes.fromhex(text[9:].replace(":", ""))
+    return 0x80, bytes((CLOCK.start, first)) + date + bytes([weekday]) + time
+
+
+READ_CLOCK = 0x81, bytes((CLOCK.start, len(CLOCK)))
+
+
+def clock_read(bytes_of_clock):
+    """What is printed for READ_CLOCK, without checking."""
+    return f"F 81 0\nO 5A A5 0B 81 1F 08 {bytes_of_clock}\n"
+
+
+def clock_examples(off):
+    """What 02, §6, and the manuals say of the clock, the dates and weekdays worked out by hand, with checking off."""
+    yield "clock: at the start", clock_read("00 00 01 01 06 00 00 00"), clock_output(off, READ_CLOCK)
+    for who, line, due in (("003", "5AA50A801F5A13110800185600", "00 13 11 08 05 18 56 00"), ("004", "5AA50A801F5A16030900161830", "00 16 03 09 03 16 18 30")):
+        yield f"clock: set as {who} prints it", "F 80 0\n" + clock_read(due), clock_output(off, bytes.fromhex(line), READ_CLOCK)
+    yield "clock: 003's reads", "F 80 0\nF 81 0\nO 5A A5 0A 81 20 07 13 11 08 05 18 56 00\nF 81 0\nO 5A A5 06 81 24 03 18 56 00\n", \
+        clock_output(off, set_clock("13-11-08 18:56:00"), (0x81, b"\x20\x07"), (0x81, b"\x24\x03"))
+    for before, due in (
+            ("13-11-08 18:56:00", "13 11 08 05 18 56 01"), ("13-11-08 18:56:09", "13 11 08 05 18 56 10"), ("13-11-08 18:56:59", "13 11 08 05 18 57 00"),
+            ("13-11-08 18:59:59", "13 11 08 05 19 00 00"), ("13-11-08 23:59:59", "13 11 09 06 00 00 00"), ("13-11-09 23:59:59", "13 11 10 00 00 00 00"),
+            ("13-11-30 23:59:59", "13 12 01 00 00 00 00"), ("13-10-31 23:59:59", "13 11 01 05 00 00 00"), ("13-12-31 23:59:59", "14 01 01 03 00 00 00"),
+            ("00-02-28 23:59:59", "00 02 29 02 00 00 00"), ("00-02-29 23:59:59", "00 03 01 03 00 00 00"), ("01-02-28 23:59:59", "01 03 01 04 00 00 00"),
+            ("96-02-28 23:59:59", "96 02 29 03 00 00 00"), ("99-12-31 23:59:58", "99 12 31 04 23 59 59"), ("99-12-31 23:59:59", "00 01 01 06 00 00 00")):
+        yield f"clock: the second behind {before}", "F 80 0\n" + clock_read(f"00 {due}"), clock_output(off, set_clock(before, 0x07), 1, READ_CLOCK)
+    yield "clock: a minute, and a day, from the start", clock_read("00 00 01 01 06 00 01 00") + clock_read("00 00 01 02 00 00 00 00"), \
+        clock_output(off, 60, READ_CLOCK, 86400 - 60, READ_CLOCK)
+    for weekday in (0x00, 0x05, 0x06, 0x0A, 0x99, 0xFF):
+        yield f"clock: weekday {weekday:02X} is ignored", "F 80 0\n" + clock_read("00 13 11 08 05 18 56 00"), \
+            clock_output(off, set_clock("13-11-08 18:56:00", weekday), READ_CLOCK)
+    at_start = clock_read("00 00 01 01 06 00 00 00")
+    wrong_dates = "13-00-08", "13-13-08", "13-11-00", "13-04-31", "13-11-31", "13-12-32", "01-02-29", "00-02-30", "1A-11-08", "A0-11-08", "13-0A-08", "13-11-0A"
+    wrong_times = "24:00:00", "18:60:00", "18:56:60", "0A:56:00", "18:0A:00", "18:56:0A", "18:56:F0"
+    for text in (*(f"{date} 18:56:00" for date in wrong_dates), *(f"13-11-08 {time}" for time in wrong_times)):
+        yield f"clock: there is no {text}", "F 80 6\n" + at_start, clock_output(off, set_clock(text), READ_CLOCK)
+    for first in (0x00, 0x5B, 0xA5):
+        yield f"clock: first byte {first:02X}", "F 80 6\n" + at_start, clock_output(off, set_clock("13-11-08 18:56:00", first=first), READ_CLOCK)
+    wrong = set_clock("13-11-31 18:56:00", first=0x00)[1][1:]
+    for what, address, run in (("1F alone", 0x1F, wrong[:1]), ("all but 1F", 0x20, wrong[1:]), ("all but 26", 0x1F, wrong[:-1]), ("23 alone", 0x23, wrong[4:5]),
+                               ("with 1E", 0x1E, b"\0" + wrong), ("with 27", 0x1F, wrong + b"\0"), ("with both", 0x1E, b"\0" + wrong + b"\0")):
+        yield f"clock: {what}, 5 before 6", "F 80 5\n" + at_start, clock_output(off, (0x80, bytes([address]) + run), READ_CLOCK)
+    half = frame(off, *READ_CLOCK)
+    yield "clock: a second inside a frame", clock_read("00 00 01 01 06 00 00 01"), clock_output(off, half[:4], 1, half[4:])
+    yield "a second starts a panel, and no record follows it", ("X 11\n", "X 15\n"), (
+        clock_output(off._replace(pages=0), 1), trace_output(bytes([0x00, *off[:3]]) + b"".join(map(two, off[3:])) + b"\x06\x05" + bytes(32)))
+    yield "kinds 07 and above", ["X 15\n"] * 249, [trace_output(b"\x00\x5A\xA5\0\0\x02\x03\x20\x01\xE0\x06" + bytes([kind])) for kind in range(7, 256)]
+    panel = Panel(off)
+    for b in half:
+        panel.give_byte(b)
+    yield "clock: 1 while a report waits", (1, Moment(2000, 1, 1, 6, 0, 0, 0)), (panel.second(), panel.moment())
+
+
 def examples():
     """Each: what, what 01 says (c and d as 02, §1, changes them) or 02, what the model says."""
     on, off, acking = (Setup(0x5A, 0xA5, flags, 2, 800, 480) for flags in (1, 0, 3))
@@ -806,6 +958,7 @@ def examples():
     yield from curve_examples(off)
     yield from watch_examples(on, off)
     yield from sheet_examples()
+    yield from clock_examples(off)
 
 
 def check_examples():

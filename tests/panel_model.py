@@ -5,12 +5,14 @@
     panel_model.py --input      the script it reads (crates/panel_cases/stdin)
     panel_model.py --reached    how often each number was given, and to what
 
-Each fails where something on REQUIRED was never reached. `watch_cases.py` has the cases of watched words, `panel_script.py` the calls; `tests/random panel`
-draws other sessions.
+Each fails where something on REQUIRED was never reached. `watch_cases.py` has the cases of watched words, `clock_calls.py` those of the clock, `panel_script.py`
+the calls; `tests/random panel` draws other sessions.
 """
 import random
 import sys
 
+import clock_calls
+import clock_reach
 import model
 import scale_sheets
 import watch_cases
@@ -60,7 +62,7 @@ def lengths(s):
 
 def register_writes(s):
     s.title("write registers: each address, one byte and two")
-    for address in [*range(0x20), 0x4F, 0xEA, 0xEB, 0xEC, 0xFE, 0xFF]:
+    for address in [*range(0x29), 0x4F, 0xEA, 0xEB, 0xEC, 0xFE, 0xFF]:
         s.send(0x80, [address, 0x07])
         s.send(0x80, [address, 0x00, 0x06])
     s.all()
@@ -690,7 +692,7 @@ def exchanged(s):
 
 
 GROUPS = (limits, starts, commands, lent, waiting, refused_contacts, acting, sliding, sheet_kept, catching, reading, filling, all_full, each_cleared,
-          every_mode, exchanged, *watch_cases.GROUPS)
+          every_mode, exchanged, *watch_cases.GROUPS, *clock_calls.GROUPS)
 
 # What the cases must reach, and sessions drawn at random too, where there are many.
 REQUIRED = (
@@ -706,6 +708,7 @@ REQUIRED = (
     "contact 14 before 16", "ask 14 before 16",
     *(f"start 0: flags {flags}" for flags in range(8)), *(f"start 11: flag bit {n} alone above 2" for n in range(3, 8)),
     *scale_sheets.REQUIRED,
+    "second 0", "second 1: an accepted frame waits", "second 1: a bad check waits", *clock_reach.REQUIRED,
 )
 
 
@@ -794,9 +797,10 @@ def some_data(r, command):
         return r.choice((
             [0x05, r.choice((0, 0x5A))], [0x0B, r.choice((0, 1, 1, 1))], [0x03, 0, r.choice((0, 0, 1, 1, 2, 3))], [0x01, r.randrange(0x44)],
             [0x01, r.randrange(0x44), r.randrange(256), 0, r.randrange(4), r.choice((0, 0x5A))],
-            [r.randrange(0x0D)] + [r.randrange(256) for _ in range(r.randrange(6))], [0xFF, 1, 1], some_clear(r), some_clear(r)))
+            [r.randrange(0x0D)] + [r.randrange(256) for _ in range(r.randrange(6))], [0xFF, 1, 1], some_clear(r), some_clear(r),
+            clock_calls.some_write(r)))
     if command == 0x81:
-        return [r.choice((0, 3, 5, 0xEB, r.randrange(256))), r.choice((0, 1, 2, 6, 13, r.randrange(256)))] + r.choice(([],) * 9 + ([0],))
+        return [r.choice((0, 3, 5, 0x1F, 0xEB, r.randrange(256))), r.choice((0, 1, 2, 6, 8, 13, r.randrange(256)))] + r.choice(([],) * 9 + ([0],))
     if command == 0x84:
         return some_curve_data(r)
     address = two(r.choice((0x10, 0x11, 0x0F, 0x6FFE, 0x6FFF, 0x7000, r.randrange(65536))))
@@ -936,6 +940,10 @@ def draw_session(s, r):
             watch_cases.lend_some(s, r)
         if r.random() < 0.1:
             draw_stroke(s, r)
+        if r.random() < 0.1:
+            s.second()
+        if r.random() < 0.05:
+            clock_calls.draw_clock(s, r)
         draw_call(s, r, r.random())
     s.all()
     s.ask_all()

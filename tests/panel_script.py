@@ -1,6 +1,7 @@
 """Calls of a panel as the program panel_cases reads them, the lines that tests/model.py answers, and counts of what was reached; and the records of tables."""
 import collections
 
+import clock_reach
 import model
 import scale_sheets
 from model import CHANNELS, KEPT, RECORD, Setup, WatchList, two
@@ -20,6 +21,7 @@ class Script:
         self.addresses, self.uses, self.values = ([0] * ALL_ENTRIES for _ in range(3))
         self.n_listed = 0, 0, 0     # how much of the watch list's three slices is lent
         self.unseen = scale_sheets.Unseen()
+        self.clock_unseen, self.inside = clock_reach.Unseen(), clock_reach.Inside()
 
     def call(self, letter, arguments, line=None):
         self.input += letter.encode() + bytes(arguments)
@@ -51,6 +53,19 @@ class Script:
     def count_seen(self, addresses):
         """What sliders have met whose words are looked at."""
         self.reached.update(self.unseen.looked_at(addresses, self.words))
+
+    def count_clock_seen(self, addresses):
+        """What the clock has met, where these registers are looked at."""
+        self.reached.update(self.clock_unseen.looked_at(addresses, self.clock()))
+
+    def count_clock(self, handed):
+        """What a command that was accepted did to the clock, or showed of it."""
+        command, data = handed.report.command, handed.report.data
+        if command == 0x80 and clock_reach.touches(data):
+            self.clock_unseen.met(clock_reach.write_met(data, handed.number), is_set=handed.number == 0)
+        elif command == 0x81 and handed.replied:
+            self.count_clock_seen(range(data[0], data[0] + data[1]))
+        self.reached.update(self.inside.accepted(model.frame(self.panel.setup, command, data)))
 
     def count_sent(self, was_down, page, caught, x, y, due):
         """What a contact that was done sent, of the places that were due then."""
@@ -111,6 +126,10 @@ class Script:
         """The list as it is lent."""
         return WatchList(*(numbers[:n] for numbers, n in zip((self.addresses, self.uses, self.values), self.n_listed)))
 
+    def clock(self):
+        """What 1F to 26 read."""
+        return self.panel.registers.clock.registers()
+
     def due(self, values=None):
         """The places in use whose word differs from the value last sent, those of now or others; also where the list is refused."""
         entries = zip(self.addresses, self.uses, self.values if values is None else values)
@@ -139,21 +158,28 @@ class Script:
         if table is not None:
             self.lend_table(table)
         number, wrong, panel = model.start(setup, self.table)
-        self.panel = panel or self.panel
+        if panel:
+            self.panel, self.clock_unseen, self.inside = panel, clock_reach.Unseen(), clock_reach.Inside()
         self.count("start", number)
         self.count(f"start {number}:", flags_told(setup.flags))
         self.call("S", bytes((setup.h1, setup.h2, setup.flags)) + two(setup.pages) + two(setup.width) + two(setup.height),
                   f"S {number}" + (f" {wrong}" if number == 13 else ""))
 
     def byte(self, b):
-        number = self.panel.give_byte(b)
+        number = self.given_byte(b)
         self.count("byte", number)
         self.count_waiting()
         self.call("B", [b], f"B {number}")
 
+    def given_byte(self, b):
+        number = self.panel.give_byte(b)
+        if number == 0:
+            self.inside.byte()
+        return number
+
     def bytes(self, given):
         used = 0
-        while used < len(given) and self.panel.give_byte(given[used]) == 0:
+        while used < len(given) and self.given_byte(given[used]) == 0:
             used += 1
         self.count_waiting()
         self.call("G", two(len(given)) + bytes(given), f"G {used}")
@@ -161,6 +187,8 @@ class Script:
 
     def mark(self):
         number = self.panel.give_mark()
+        if number == 0:
+            self.inside.mark()
         self.count("mark", number)
         self.count_waiting()
         self.call("M", b"", f"M {number}")
@@ -179,6 +207,7 @@ class Script:
             line = f"F {h.report.command:02x} {h.number} data{spelled(h.report.data)} acknowledgement{acknowledgement} reply{reply}"
             self.count(f"command {h.report.command:02X}" if h.number != 2 else "command", h.number)
             self.count_noted(h, due)
+            self.count_clock(h)
             if h.number == 0:
                 self.count_curves(h, counts)
         elif h.what == "B":
@@ -214,6 +243,19 @@ class Script:
         record = f" {given.record}" if given.number == 13 else ""
         self.call("C", two(x) + two(y), f"C {given.number}{record} written {given.written}{spelled(room[:given.written])}{self.left()}")
 
+    def second(self):
+        met, waiting = list(clock_reach.second_met(self.clock(), self.panel.caught)), self.panel.line.waiting
+        number = self.panel.second()
+        if number == 0:
+            self.clock_unseen.met(met)
+            self.inside.second()
+        self.count("second", "0" if number == 0 else f"1: {'an accepted frame' if waiting[0].accepted else 'a bad check'} waits")
+        self.call("P", b"", f"P {number}")
+
+    def moment(self):
+        self.call("I", b"", " ".join(("I", *map(str, self.panel.moment()))))
+        self.count_clock_seen(clock_reach.SHOWN)
+
     def lift(self):
         number = self.panel.lift()
         self.count("lift", number)
@@ -236,6 +278,7 @@ class Script:
         r = self.panel.registers
         self.call("D", b"", f"D{spelled(r.all())} page {r.page:04x} backlight {r.backlight:02x} buzzer {r.buzzer:02x} words {sum_of(self.words)}")
         self.count_seen(self.unseen.addresses())
+        self.count_clock_seen(clock_reach.SHOWN)
 
     # Calls that belong together
 
@@ -248,6 +291,10 @@ class Script:
         """Asks for the one report alone, where there are many such frames."""
         self.send(command, data, ask=False)
         self.ask()
+
+    def seconds(self, count):
+        for _ in range(count):
+            self.second()
 
     def curve_all(self):
         for channel in range(CHANNELS):

@@ -4,6 +4,8 @@ Programs are built for x86-64. On another machine they run under the emulator of
 the one that tools/native builds.
 """
 import functools
+import io
+import itertools
 import pathlib
 import platform
 import subprocess
@@ -17,6 +19,7 @@ BUILT = TOP / "target" / "bin" / "panel_trace"
 NATIVE = TOP / "target" / "native" / "panel_trace"
 X86_64 = 0x3E       # the machine's number in a program's ELF header
 SECONDS = 60
+LONGEST = 300       # characters of a line that are shown
 
 
 @functools.lru_cache
@@ -99,3 +102,18 @@ def run(words, trace):
     except subprocess.TimeoutExpired as late:
         return (late.stdout or b"") + f"(not done after {SECONDS} s)\n".encode()
     return done.stdout if done.returncode >= 0 else done.stdout + f"(ended by signal {-done.returncode})\n".encode()
+
+
+def fit(line):
+    """A line as it can be shown, whatever a broken program wrote; without its line feed, or quoted where it has none. None is a line that there is not."""
+    if line is None:
+        return "(nothing more)"
+    text = line.decode("latin-1")
+    plain = text.removesuffix("\n")
+    return (plain if plain != text and plain.isascii() and plain.isprintable() else ascii(text))[:LONGEST]
+
+
+def first_difference(due, printed):
+    """Of two outputs that are not the same: the number of the first line that differs, from 1, and what each of them has there."""
+    pairs = enumerate(itertools.zip_longest(io.BytesIO(due), io.BytesIO(printed)), 1)
+    return next((number, fit(here), fit(there)) for number, (here, there) in pairs if here != there)

@@ -43,7 +43,7 @@ class Call(NamedTuple):
 
 
 CALLS = [
-    Call(("write",), 0, given=b"lift\nquiet\n", printed=b"\x04\x02"),
+    Call(("write",), 0, given=b"lift\nquiet\nsecond\n", printed=b"\x04\x02\x06"),
     Call(("write",), 0, given=b"", printed=b""),
     # Nothing is written unless all of the text is right.
     Call(("write",), 1, b"trace: standard input, line 2: lift: '1': allowed is nothing", b"lift\nlift 1\n"),

@@ -11,6 +11,7 @@ that tests/compare draws.
 import random
 import sys
 
+import clock_calls
 import limit_records
 import model
 import panel_model
@@ -44,7 +45,16 @@ class Cases(Session):
         self.send(0x81, [address, 1])
 
     def all(self):
-        self.send(0x81, [0x00, 0x20])
+        self.send(0x81, [0x00, 0x28])
+
+    def bytes(self, given):
+        self.line(given)
+
+    def mark(self):
+        self.quiet()
+
+    def ask_all(self):
+        """The program asks after each event."""
 
     def curve(self, channel):
         """Nothing in a trace shows a curve."""
@@ -124,6 +134,13 @@ def full_curves(s):
     s.all()
 
 
+def clock(s):
+    for group in clock_calls.SHOWN:
+        group(s)
+    s.seconds(100)
+    s.all()
+
+
 def noisy_line(s):
     good = model.frame(s.setup, 0x83, [0, 0x24, 1])
     for front in (b"\x5A", b"\x5A\xA5", b"\x5A\xA5\x02", b"\x5A\xA5\x40", b"\x5A\xA5\xFF", b"\x5A\xA5\x03\x00", good[:-1], good[:3]):
@@ -145,7 +162,7 @@ def acknowledgements(s):
 
 def session():
     s = Cases(random.Random(1), SETUP, TABLE)
-    for group in (commands, keys_and_steps, sliders, next_pages, catches, full_curves, noisy_line, acknowledgements):
+    for group in (commands, keys_and_steps, sliders, next_pages, catches, full_curves, clock, noisy_line, acknowledgements):
         group(s)
     s.show(10)
     return bytes(s.trace)

@@ -1,12 +1,13 @@
 """Whole traces drawn at random, each from a seed: sessions of frames, noise and touches, and traces that are wrong in every way 01 names."""
 import random
 
+import clock_calls
 import limit_records
 import model
 from model import MOST_RECORDS, RECORD, Setup, two
 from panel_model import place_in, some_clear, some_curve_data, some_data, some_frame, some_point, some_record, widest_slider
 from panel_script import END
-from trace_text import BYTE_KIND, CONTACT_KIND, LIFT_KIND, QUIET_KIND, RECORD_KIND, SETUP_KIND, joined, on_line, setup_bytes, split, spoiled
+from trace_text import BYTE_KIND, CONTACT_KIND, LIFT_KIND, QUIET_KIND, RECORD_KIND, SECOND_KIND, SETUP_KIND, joined, on_line, setup_bytes, split, spoiled
 
 HEADERS = ((0x5A, 0xA5), (0x5A, 0xA5), (0xFF, 0xFF), (0x5A, 0x5A), (0x80, 0x03), (0x00, 0x00), (0x82, 0x82))
 # The screen and pages that panel_model's records and points are drawn for.
@@ -102,6 +103,13 @@ class Session:
     def lift(self):
         self.event(LIFT_KIND)
 
+    def second(self):
+        self.event(SECOND_KIND)
+
+    def seconds(self, count):
+        for _ in range(count):
+            self.second()
+
     def send(self, command, data):
         self.line(model.frame(self.setup, command, bytes(data)))
 
@@ -174,6 +182,21 @@ class Session:
         mode = self.r.choice((0x01, 0x08, 0x80))
         for _ in range(model.KEPT // 125 + self.r.randrange(1, 4)):
             self.send(0x84, bytes([mode]) + self.r.randbytes(250))
+
+    def clock(self):
+        """The clock is written, good or refused, seconds pass, and it is read."""
+        for _ in range(self.r.randrange(1, 4)):
+            self.send(0x80, clock_calls.some_write(self.r))
+            self.seconds(self.r.randrange(4))
+            self.parted_read()
+
+    def parted_read(self):
+        """A read of the clock, often with seconds inside its frame."""
+        frame = model.frame(self.setup, 0x81, bytes(clock_calls.some_read(self.r)))
+        at = self.r.choice((0, 0, len(frame), self.r.randint(1, len(frame) - 1)))
+        self.line(frame[:at])
+        self.seconds(self.r.randrange(3))
+        self.line(frame[at:])
 
     def limit_read(self):
         """As long as a reply may be, and longer; up to the end, and past it."""
@@ -279,6 +302,8 @@ class Session:
             lambda: self.contact(self.setup.width, 0),
             self.contact_while_off,
             self.quiet,
+            self.second,
+            self.clock,
         ))()
 
     def contact_while_off(self):
@@ -290,16 +315,22 @@ class Session:
         """Reads what touches and writes have left."""
         self.send(0x83, [0, 0x10, 3])
         self.send(0x83, [0x6F, 0xFF, 1])
-        self.send(0x81, [0x00, 0x1D])
+        self.send(0x81, [0x00, 0x27])
 
     def run(self):
+        self.seconds(self.r.choice((0, 0, 0, 1, 2)))
         self.draw({self.frames: 6, self.noisy: 3, self.false_front: 3, self.frames_inside: 3, self.cut_frame: 2, self.echo: 2, self.longest_frame: 1,
-                   self.curves: 3, self.full_curve: 0.3, self.limit_read: 1, self.quiet: 1, self.touch: 5, self.press: 4, self.drag: 5, self.stroke: 4,
-                   self.change_page: 2, self.contact_while_off: 1, self.look_back: 2}, self.r.randrange(5, 30))
+                   self.curves: 3, self.full_curve: 0.3, self.clock: 2, self.second: 2, self.limit_read: 1, self.quiet: 1, self.touch: 5, self.press: 4,
+                   self.drag: 5, self.stroke: 4, self.change_page: 2, self.contact_while_off: 1, self.look_back: 2}, self.r.randrange(5, 30))
         return self.ended()
 
     def run_sliders(self):
         self.draw({self.stroke: 10, self.drag: 2, self.frames: 1, self.press: 1, self.look_back: 1}, self.r.randrange(20, 40))
+        return self.ended()
+
+    def run_clock(self):
+        self.draw({self.clock: 12, self.parted_read: 4, self.second: 2, self.drag: 2, self.frames: 1, self.quiet: 1, self.look_back: 1},
+                  self.r.randrange(20, 40))
         return self.ended()
 
     def draw(self, pieces, count):
@@ -321,7 +352,7 @@ def session(r, setup=None):
 # ---- Traces that are wrong, or at a limit
 
 def some_event(r):
-    return r.choice((on_line([r.randrange(256)]), bytes([QUIET_KIND]), bytes([CONTACT_KIND, 0, 1, 0, 1]), bytes([LIFT_KIND])))
+    return r.choice((on_line([r.randrange(256)]), bytes([QUIET_KIND]), bytes([CONTACT_KIND, 0, 1, 0, 1]), bytes([LIFT_KIND]), bytes([SECOND_KIND])))
 
 
 def cut_record(r, records):
@@ -336,7 +367,7 @@ def cut_record(r, records):
 
 
 def unknown_kind(r, records):
-    return with_inserted(r, records, bytes([r.choice((0x06, 0x07, 0x0A, 0x80, 0xFF, r.randrange(6, 256)))]), 0)
+    return with_inserted(r, records, bytes([r.choice((0x07, 0x08, 0x0A, 0x80, 0xFF, r.randrange(7, 256)))]), 0)
 
 
 def second_setup(r, records):
@@ -345,7 +376,10 @@ def second_setup(r, records):
 
 def record_after_event(r, records):
     first_event = next(at for at, (kind, _) in enumerate(records) if kind not in (SETUP_KIND, RECORD_KIND))
-    return with_inserted(r, records, bytes([RECORD_KIND]) + good_record(r, model.setup_of(records[0][1])), first_event + 1)
+    record = bytes([RECORD_KIND]) + good_record(r, model.setup_of(records[0][1]))
+    if r.random() < 0.5:
+        return joined(records[:first_event]) + bytes([SECOND_KIND]) + record + joined(records[first_event:])
+    return with_inserted(r, records, record, first_event + 1)
 
 
 def event_before_setup(r, records):
@@ -377,17 +411,22 @@ def wrong_trace(r, nth):
     return WAYS[nth % len(WAYS)](r, list(split(session(r) + some_event(r))))
 
 
+def beginning(r, nth):
+    """What a start is made at, or not: nothing, a second or any event, in turns."""
+    return (b"", bytes([SECOND_KIND]), some_event(r) + r.choice((b"", some_event(r))))[nth % 3]
+
+
 def refused_setup(r, nth):
     """Whatever the table is: 11 comes before 12 and 13."""
     table = r.choice((b"", good_records(r, some_setup(r), 2), bytes(RECORD), bytes(RECORD) * 129))
-    return opening(wrong_setup(r, nth), table) + r.choice((b"", some_event(r), some_event(r) + some_event(r)))
+    return opening(wrong_setup(r, nth), table) + beginning(r, nth)
 
 
 def refused_table(r, nth):
     before = b"".join(r.choices(limit_records.RIGHT, k=r.choice((0, 1, 4, 127))))
     wrong = limit_records.WRONG[nth % len(limit_records.WRONG)]
     behind = b"" if len(before) == 127 * RECORD else r.choice((b"", bytes(RECORD), END))
-    return opening(limit_records.SETUP, before + wrong + behind) + r.choice((b"", some_event(r)))
+    return opening(limit_records.SETUP, before + wrong + behind) + beginning(r, nth)
 
 
 def limit_table(r, nth):
@@ -402,13 +441,19 @@ def slider_session(r, nth):
     return Session(r, setup, widest_slider(r) + good_records(r, setup, 8, is_slider)).run_sliders()
 
 
+def clock_session(r, nth):
+    """Mostly the clock."""
+    setup = some_setup(r)
+    return Session(r, setup, good_records(r, setup, 4)).run_clock()
+
+
 def long_table(r, nth):
     """127 to 130 records, good or wrong or ended early; then, where the table is taken, a session."""
     setup, count = some_setup(r), (128, 129, 127, 130)[nth % 4]
     table = (good_records(r, setup, 4) * 33)[:count * RECORD]
     table = r.choice((table, table, END + table[RECORD:], table[:-RECORD] + bytes(RECORD)))
     if count > MOST_RECORDS or model.judge_table(setup, table)[0]:
-        return opening(setup, table) + r.choice((b"", some_event(r)))
+        return opening(setup, table) + beginning(r, nth // 2)
     return Session(r, setup, table).run()
 
 
@@ -462,7 +507,7 @@ def long_session(r, nth):
 
 # Each seed takes its turn in this list, so that a few hundred seeds meet everything.
 TURNS = (wrong_trace, refused_setup, refused_table, long_table, cut_anywhere, without_events, limit_session, smallest, wrong_trace, refused_table,
-         limit_table, refused_table, refused_table, long_session) + (plain_session,) * 9 + (slider_session,) * 2
+         limit_table, refused_table, refused_table, long_session) + (plain_session,) * 9 + (slider_session,) * 2 + (clock_session,) * 2
 
 
 def drawn(seed):

@@ -39,7 +39,8 @@ RIGHT = [
         "accepted: 83, read words: done", "reply to 83, read words: address 7000, count 0, no data",
         "stopped, 15: the trace is wrong: a cut or unknown record, none or two setups, a touch record behind an event"]),
     (USUAL, "F 80 0\nF 80 5\nB 83\nF FF 2\nX 15\n", [
-        "accepted: 80, write registers: done", "accepted: 80, write registers: refused, 5: a register that may not be written, or one half of the page",
+        "accepted: 80, write registers: done", "accepted: 80, write registers: refused, 5: a register that may not be written, one half of the page, or a part of "
+        "the clock, 1F to 26, or more than it",
         "bad check: 83, read words: nothing is done", "accepted: FF: refused, 2: no such command: there are 80 to 84",
         f"stopped, 15: {numbers.MEANINGS[15]}"]),
     (USUAL, "F 84 0\nO 5A A5 02 84 FF 22 F0\nF 84 3\nO 5A A5 02 84 FF 22 F0\nB 84\nO 5A A5 02 84 00 62 B0\nF 80 6\nO 5A A5 02 80 FF 20 30\nE 0000\n", [
@@ -47,8 +48,21 @@ RIGHT = [
         "accepted: 84, add to curves: refused, 3: too little or too much data for the command, half a word, or for curves no channel or no whole rounds",
         "acknowledgement of 84: accepted (FF); check right",
         "bad check: 84, add to curves: nothing is done", "acknowledgement of 84: bad check (00); check right",
-        "accepted: 80, write registers: refused, 6: a backlight above 3F, a page that there is not, or for EB another value than 55 to 5D",
+        "accepted: 80, write registers: refused, 6: a backlight above 3F, a page that there is not, for EB another value than 55 to 5D, or for the clock "
+        "a first byte other than 5A or a moment that there is not",
         "acknowledgement of 80: accepted (FF); check right", "end: page 0 is shown"]),
+    (PLAIN, "F 80 0\nF 81 0\nO 5A A5 0A 81 20 07 13 11 08 05 18 56 00\nF 81 0\nO 5A A5 06 81 24 03 18 56 00\n"
+            "F 81 0\nO 5A A5 0D 81 1E 0A 00 00 00 01 01 06 00 00 00 00\nF 81 0\nO 5A A5 09 81 20 06 13 11 08 05 18 56\n"
+            "F 81 0\nO 5A A5 07 81 24 04 18 56 00 00\nF 83 0\nO 5A A5 06 83 24 03 01 FF FF\nE 0000\n", [
+        "accepted: 80, write registers: done",
+        "accepted: 81, read registers: done",
+        "reply to 81, read registers: address 20, count 7, data 13 11 08 05 18 56 00, the clock: 2013-11-08 18:56:00, a Friday",
+        "accepted: 81, read registers: done", "reply to 81, read registers: address 24, count 3, data 18 56 00, the time: 18:56:00",
+        "accepted: 81, read registers: done",
+        "reply to 81, read registers: address 1E, count 10, data 00 00 00 01 01 06 00 00 00 00, the clock: 2000-01-01 00:00:00, a Saturday",
+        "accepted: 81, read registers: done", "reply to 81, read registers: address 20, count 6, data 13 11 08 05 18 56",
+        "accepted: 81, read registers: done", "reply to 81, read registers: address 24, count 4, data 18 56 00 00, the time: 18:56:00",
+        "accepted: 83, read words: done", "reply to 83, read words: address 2403, count 1, data FFFF", "end: page 0 is shown"]),
     (USUAL, "X 13 2\n", ["stopped, 13: a touch record is wrong: record 2, counted from 0"]),
     (FIRST, "X 13 0\n", ["stopped, 13: a touch record is wrong: record 0, counted from 0: step page=0 area=10,10..100,50 word=0x0010 "
                          "mode=word up stop by=5 least=0 greatest=100"]),
@@ -103,6 +117,10 @@ STRANGE = [
     (PLAIN, "F 81 0\nO 5A A5 06 81 00 01 10 28 44\nE 0000\n", 1, "not the program's: 81 00 01 10 28 44 is no reply to 81"),
     (PLAIN, "F 81 0\nO 5A A5 05 81 FF 02 00 00\nE 0000\n", 1, "not the program's: address FF and count 2 go past the end"),
     (PLAIN, "F 83 0\nO 5A A5 06 83 70 00 01 00 00\nE 0000\n", 1, "not the program's: address 7000 and count 1 go past the end"),
+    (PLAIN, "F 81 0\nO 5A A5 0A 81 20 07 13 11 08 04 18 56 00\nE 0000\n", 1, "not the program's: register 23 has weekday 04, and the date's is 05"),
+    (PLAIN, "F 81 0\nO 5A A5 0A 81 20 07 01 02 29 04 18 56 00\nE 0000\n", 1, "not the program's: there is no such moment in registers 20 to 26"),
+    (PLAIN, "F 81 0\nO 5A A5 0A 81 20 07 13 11 08 05 1A 56 00\nE 0000\n", 1, "not the program's: there is no such moment in registers 20 to 26"),
+    (PLAIN, "F 81 0\nO 5A A5 06 81 24 03 24 00 00\nE 0000\n", 1, "not the program's: there is no such time in registers 24 to 26"),
     (PLAIN, "B 81\nE 0000\n", 0, "not the program's: without checking there is no bad check"),
     (USUAL, "F 83 0\nO 5A A5 06 81 00 01 10 28 44\nE 0000\n", 1, "not the program's: 81 00 01 10 is no reply to 83, read words"),
     (USUAL, "F 81 0\nE 0000\n", 1, "not whole: reply of 81 should stand above; end: page 0 is shown"),

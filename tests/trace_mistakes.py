@@ -29,6 +29,8 @@ MISTAKES = [
     (SETUP + "contact 1", "line 2: contact: 1 values: allowed are two, X and Y, each a number"),
     (SETUP + "contact 1 65536", "line 2: contact: '65536': " + WORD),
     (SETUP + "quiet 1", "line 2: quiet: '1': allowed is nothing behind"),
+    (SETUP + "second 5", "line 2: second: '5': allowed is nothing behind"),
+    (SETUP + "seconds", "line 2: 'seconds' is no statement: allowed is setup, key, step, slider, record, contact, quiet, lift, second, line"),
     ("lift \x85\u202e\u00e4", r"line 1: lift: '\u202eä': allowed is nothing behind"),
     ("lift " + "1" * 1000, f"line 1: lift: '{'1' * 40}...': allowed is nothing behind"),
     # Fields
@@ -94,6 +96,7 @@ SLIDER_BYTES = "05 0000 0000 0000 0009 0009 FF00 FF00 FE03 FE 0010 00 0000 0000 
 MEANT = [
     ("\ufeffquiet\r\nlift\r\n", "02 04"),
     ("lift\t# twice\r\n\tlift", "04 04"),
+    ("second\nrepeat 3 second # a comment\nquiet\nsecond", "06 06 06 06 02 06"),
     ("lift # first\u2028lift\n", "04"),
     (SLIDER + " begin=0x9C40 end=-1", SLIDER_BYTES + "9C40 FFFF"),
     (SLIDER + " begin=0x8000 end=0x7FFF", SLIDER_BYTES + "8000 7FFF"),
@@ -138,6 +141,15 @@ frame 81 00 01
 frame badly 81 00 01
 line 5A A5 05 81 00 01 E0 29 5A A5 02 81 00 5A A5 03
 line 81 00
+frame 80 1F 5A 13 11 08 00 18 56 00    # sets the clock to 2013-11-08 18:56:00, a Friday
+frame 80 1F 5A 99 12 31 FF 23 59 59    # sets the clock to 2099-12-31 23:59:59, a Thursday
+frame 80 1F 5A 01 02 29 00 00 00 00    # no such moment: refused with 6
+frame 80 1F 5A 13 0A 08 00 18 56 00    # no such moment: refused with 6
+frame badly 80 1F 5A 13 11 08 00 18 56 00
+frame 80 1F 5B 13 11 08 00 18 56 00
+frame 80 1F 5A 13 11 08 00 18 56
+frame 80 20 13 11 08 00 18 56 00
+frame 82 1F 5A 13 11 08 00 18 56 00
 key page=0 area=0,0..9,9 word=0x7000 mode=high code=0x00FF
 key page=65535 area=65535,0..9,9 next=65279 word=0xFFFF mode=3 code=0x0000
 key page=0 area=0,0..9,9 next=0xFF01 word=0x0000 mode=255 code=0x0000
@@ -163,7 +175,11 @@ setup header=5A 5A flags=FC pages=2 width=800 height=480
 line 5A
 frame 81 00 01
 lift
-bytes 06 04 04 04 04 04 04 04 04 04 04 04 04 04 04 04
+second
+second
+line 5A
+second
+bytes 07 04 04 04 04 04 04 04 04 04 04 04 04 04 04 04
 bytes 04
 """
 

@@ -39,6 +39,10 @@ def some_read(r):
     return on_line(frame(SETUP, b"\x83" + r.randbytes(3)))
 
 
+def some_setting(r):
+    return on_line(frame(SETUP, b"\x80\x1F\x5A" + bytes(model.to_bcd(r.randrange(1, 24)) for _ in range(7))))
+
+
 def some_contact(r):
     return b"\x03" + struct.pack(">HH", r.randrange(800), r.randrange(480))
 
@@ -59,6 +63,9 @@ def kinds(r):
     yield "lifts", OPENING + b"\x04" * SIZE
     yield "line bytes and lifts in turn", OPENING + b"".join(b"\x01%c\x04" % byte for byte in r.randbytes(SIZE // 3))
     yield "two line bytes and a mark in turn", filled(lambda: on_line(r.randbytes(2)) + b"\x02")
+    yield "seconds", OPENING + b"\x06" * SIZE
+    yield "settings of the clock", filled(lambda: some_setting(r))
+    yield "line bytes and seconds in turn", OPENING + b"".join(b"\x01%c\x06" % byte for byte in r.randbytes(SIZE // 3))
     yield "lifts and marks in turn", OPENING + b"\x04\x02" * (SIZE // 2)
     yield "contacts and lifts in turn", filled(lambda: some_contact(r) + b"\x04")
     yield "contacts on and off the screen and lifts in turn", filled(lambda: b"\x03" + r.randbytes(4) + b"\x04")

@@ -1,11 +1,12 @@
 """The model of 01's trace program, watched: it counts what a trace reaches, so that a comparison can tell what it has tried."""
 import collections
 
+import clock_reach
 import model
 import scale_sheets
 from panel_script import contact_did, flags_told, slider_met, slider_that_stored
 from trace_draw import BUFFER, WAYS, drawn
-from trace_text import BYTE_KIND, CONTACT_KIND, LIFT_KIND, QUIET_KIND
+from trace_text import BYTE_KIND, CONTACT_KIND, LIFT_KIND, QUIET_KIND, RECORD_KIND, SECOND_KIND, SETUP_KIND, split
 
 ACKNOWLEDGEMENT = 7
 LONGEST = ACKNOWLEDGEMENT + 258
@@ -18,6 +19,7 @@ class Watched(model.Trace):
         self.sent, self.given = set(), b""      # the acknowledgements, and what has come of the stretch, its last bytes
         self.history = [0] * model.CHANNELS     # of each channel, how many numbers have come since its last clear
         self.unseen = scale_sheets.Unseen()     # what sliders met counts once an 83 shows it
+        self.clock_unseen, self.inside = clock_reach.Unseen(), clock_reach.Inside()     # what the clock met, once an 81 shows it
 
     def count(self, what):
         self.reached[what] += 1
@@ -40,6 +42,10 @@ class Watched(model.Trace):
         if len(self.table) == model.MOST_RECORDS * model.RECORD:
             self.count("started: 128 records")
 
+    def clock(self):
+        """What 1F to 26 read."""
+        return self.panel.registers.clock.registers()
+
     def event(self, kind, body):
         self.came(kind, body)
         was_down, self.page, self.caught, before = self.panel.is_down, self.panel.registers.page, self.panel.caught, len(self.lines)
@@ -55,8 +61,13 @@ class Watched(model.Trace):
     def came(self, kind, body):
         if kind == QUIET_KIND:
             self.given = b""
+            self.inside.mark()
+        elif kind == SECOND_KIND:
+            self.clock_unseen.met(clock_reach.second_met(self.clock(), self.panel.caught))
+            self.inside.second()
         elif kind == BYTE_KIND:
             self.given = (self.given + body)[-LONGEST:]
+            self.inside.byte()
             if self.given[-ACKNOWLEDGEMENT:] in self.sent:
                 self.count("an acknowledgement of ours comes back")
 
@@ -88,9 +99,10 @@ class Watched(model.Trace):
         accepted, command, number = handed.what == "F", handed.report.command, handed.number
         name = f"{command:02X}" if number != 2 else "any other"
         self.count(f"command {name} {number}" if accepted else "bad check")
-        self.behind_echo(handed)
+        self.at_the_end_of_a_frame(handed)
         if accepted:
             self.curves_met(command, handed.report.data, number)
+            self.clock_met(command, handed.report.data, number)
         if command == 0x83 and handed.replied:
             address, count = model.word(handed.report.data, 0), handed.report.data[2]
             self.reached.update(self.unseen.looked_at(range(address, address + count), self.words))
@@ -134,12 +146,20 @@ class Watched(model.Trace):
                 self.count("EB done: a channel had numbers")
             self.history = [0 if value in (0x55, 0x56 + n) else count for n, count in enumerate(self.history)]
 
-    def behind_echo(self, handed):
-        """A frame that is accepted right where an acknowledgement of ours has come back."""
-        if handed.what == "F":
-            frame = model.frame(self.setup, handed.report.command, handed.report.data)
-            if self.given.endswith(frame) and self.given[:-len(frame)][-ACKNOWLEDGEMENT:] in self.sent:
+    def clock_met(self, command, data, number):
+        """The clock written or read, and each refused."""
+        if command == 0x80 and clock_reach.touches(data):
+            self.clock_unseen.met(clock_reach.write_met(data, number), is_set=number == 0)
+        elif command == 0x81 and number == 0:
+            self.reached.update(self.clock_unseen.looked_at(range(data[0], data[0] + data[1]), self.clock()))
+
+    def at_the_end_of_a_frame(self, handed):
+        """A frame that is accepted with its last byte: right where an acknowledgement of ours has come back, or with a second inside it."""
+        frame = model.frame(self.setup, handed.report.command, handed.report.data)
+        if handed.what == "F" and self.given.endswith(frame):
+            if self.given[:-len(frame)][-ACKNOWLEDGEMENT:] in self.sent:
                 self.count("frame right behind an acknowledgement of ours")
+            self.reached.update(self.inside.accepted(frame))
 
     def frame_name(self, handed):
         if handed.what == "B":
@@ -178,12 +198,19 @@ def watched(trace):
     return t.output(), t.reached
 
 
+def first_event(trace):
+    """The kind of the first record that is neither a setup nor a touch record; None where there is none, or something wrong before it."""
+    return next((kind for kind, _ in split(trace) if kind not in (SETUP_KIND, RECORD_KIND)), None)
+
+
 def watched_seed(seed):
     """A drawn trace, what the model prints, and what was reached."""
     trace, name = drawn(seed)
     output, reached = watched(trace)
     if output.endswith("X 15\n"):
         reached[f"X 15: {name}"] += 1
+    if first_event(trace) == SECOND_KIND:
+        reached[f"first event a second: {output[:4] if output[0] == 'X' else 'started'}"] += 1
     if len(trace) > BUFFER:
         reached["input past 64 KiB"] += 1
     if len(output) > BUFFER:
@@ -218,5 +245,5 @@ REQUIRED = [
     *(f"catch kept: {what}" for what in (
         "dragged in its area", "dragged off its area", "contact off the screen", "touch off", "quiet mark", "bad check", "register write",
         "refused register write", "refused frame", "register read", "word read", "word write", "curve frame")),
-    *scale_sheets.REQUIRED,
+    *scale_sheets.REQUIRED, *clock_reach.REQUIRED, *(f"first event a second: {what}" for what in ("started", "X 11", "X 12", "X 13", "X 15")),
 ]

@@ -1,5 +1,5 @@
-/* The trace program of 01, with the trend curves and the scale sheets of 02, as one would write it in plain C: state in place, a lookup for hex,
-   reads and writes of 64 KiB. It prints what the proved program prints, and is what bench/trace/run measures that against. The reader of the line
+/* The trace program of 01, with the trend curves, the scale sheets and the clock of 02, as one would write it in plain C: state in place, a lookup for
+   hex, reads and writes of 64 KiB. It prints what the proved program prints, and is what bench/trace/run measures that against. The reader of the line
    is bench/line/plain.h. No headers: the kit's clang has none. */
 #include "../line/plain.h"
 
@@ -13,7 +13,8 @@ int memcmp(const void *, const void *, unsigned long);
 
 enum { WORDS = 28672, CHANNELS = 8, CHANNEL = 1024, RECORD = 32, MOST_RECORDS = 128, CHUNK = 1 << 16 };
 enum { KEY = 0xFE05, STEP = 0xFE02, SLIDER = 0xFE03 };
-enum { BACKLIGHT = 1, BUZZER = 2, PAGE = 3, FLAG = 5, STATUS = 6, PLACE = 7, ENABLE = 0x0B, CLEAR = 0xEB };
+enum { BACKLIGHT = 1, BUZZER = 2, PAGE = 3, FLAG = 5, STATUS = 6, PLACE = 7, ENABLE = 0x0B, CLOCK = 0x1F, CLEAR = 0xEB };
+enum { YEAR = CLOCK + 1, MONTH, DAY, WEEKDAY, HOUR, MINUTE, SECOND, CLOCK_END };
 
 static struct { u8 h1, h2, flags; unsigned pages, width, height; } setup;
 static int checking, acknowledging, revised, has_setup, has_started, has_caught;
@@ -101,15 +102,62 @@ static void acknowledge(u8 command, u8 verdict) {
     put_frame(f, n);
 }
 
+/* ---- Clock: the registers are all that is kept of it */
+
+static unsigned number_of(u8 digits) { return (digits >> 4) * 10u + (digits & 15); }
+static int is_number(u8 digits, unsigned least, unsigned greatest) {
+    return digits >> 4 <= 9 && (digits & 15) <= 9 && number_of(digits) >= least && number_of(digits) <= greatest;
+}
+
+/* The year's two digits are enough: of 2000 to 2099 every fourth is a leap year. */
+static unsigned days_of(u8 year, u8 month) {
+    static const u8 DAYS[12] = {31, 28, 31, 30, 31, 30, 31, 31, 30, 31, 30, 31};
+    return DAYS[number_of(month) - 1] + (month == 0x02 && number_of(year) % 4 == 0);
+}
+
+/* Sakamoto's rule, Sunday 0. */
+static u8 weekday_of(unsigned year, unsigned month, unsigned day) {
+    static const u8 MOVED[12] = {0, 3, 2, 5, 0, 3, 5, 1, 4, 6, 2, 4};
+    if (month < 3) year--;
+    return (u8)((year + year / 4 - year / 100 + year / 400 + MOVED[month - 1] + day) % 7);
+}
+
+static unsigned judge_setting(const u8 *data) {
+    u8 year = data[YEAR - CLOCK], month = data[MONTH - CLOCK];
+    if (data[0] != 0x5A || !is_number(year, 0, 99) || !is_number(month, 1, 12) || !is_number(data[DAY - CLOCK], 1, days_of(year, month))) return 6;
+    return is_number(data[HOUR - CLOCK], 0, 23) && is_number(data[MINUTE - CLOCK], 0, 59) && is_number(data[SECOND - CLOCK], 0, 59) ? 0 : 6;
+}
+
+static void set_clock(void) {
+    registers[CLOCK] = 0;
+    registers[WEEKDAY] = weekday_of(2000 + number_of(registers[YEAR]), number_of(registers[MONTH]), number_of(registers[DAY]));
+}
+
+/* One more, and 1 where that was past the greatest and is the least again. */
+static int carried(unsigned field, unsigned least, unsigned greatest) {
+    unsigned n = number_of(registers[field]) + 1, over = n > greatest;
+    if (over) n = least;
+    registers[field] = (u8)(n / 10 << 4 | n % 10);
+    return over;
+}
+
+static void second(void) {
+    unsigned days = days_of(registers[YEAR], registers[MONTH]);
+    if (!carried(SECOND, 0, 59) || !carried(MINUTE, 0, 59) || !carried(HOUR, 0, 23)) return;
+    if (carried(DAY, 1, days) && carried(MONTH, 1, 12)) carried(YEAR, 0, 99);
+    set_clock();
+}
+
 /* ---- Commands */
 
-static int is_writable(unsigned r) { return (r >= BACKLIGHT && r <= FLAG) || r == ENABLE || r == CLEAR; }
+static int is_writable(unsigned r) { return (r >= BACKLIGHT && r <= FLAG) || r == ENABLE || r == CLEAR || (r >= CLOCK && r < CLOCK_END); }
 
 static unsigned judge_register_write(unsigned address, const u8 *data, unsigned n) {
     int high = address <= PAGE && PAGE < address + n, low = address <= PAGE + 1 && PAGE + 1 < address + n;
     for (unsigned i = 0; i < n; i++)
         if (!is_writable(address + i)) return 5;
     if (high != low) return 5;
+    if (address < CLOCK_END && address + n > CLOCK) return address != CLOCK || n != CLOCK_END - CLOCK ? 5 : judge_setting(data);
     if (address <= BACKLIGHT && BACKLIGHT < address + n && data[BACKLIGHT - address] > 0x3F) return 6;
     if (high && word_at(data, PAGE - address) >= setup.pages) return 6;
     if (address <= CLEAR && CLEAR < address + n && (data[CLEAR - address] < 0x55 || data[CLEAR - address] > 0x5D)) return 6;
@@ -142,6 +190,7 @@ static unsigned judge_command(u8 command, const u8 *data, unsigned n) {
 
 static void write_registers(const u8 *data, unsigned n) {
     memcpy(registers + data[0], data + 1, n - 1);
+    if (data[0] == CLOCK) set_clock();
     if (data[0] <= PAGE && PAGE < data[0] + n - 1) has_caught = 0;
     if (data[0] > CLEAR || CLEAR >= data[0] + n - 1) return;
     for (unsigned channel = 0; channel < CHANNELS; channel++)
@@ -348,6 +397,8 @@ static void set_registers(void) {
     registers[0x13] = setup.h1;
     registers[0x1A] = setup.h2;
     registers[0x1C] = acknowledging ? 0x08 : 0;
+    registers[MONTH] = registers[DAY] = 1;
+    registers[WEEKDAY] = 6;
 }
 
 static int start(void) {
@@ -386,11 +437,12 @@ static int take(u8 kind, const u8 *body) {
     if (kind == 2) plain_mark(&reader);
     if (kind == 3) put_touched(contact(word_at(body, 0), word_at(body, 2)));
     if (kind == 4) put_touched(lift());
+    if (kind == 6) second();
     ask_all();
     return 1;
 }
 
-static const u8 BODIES[6] = {9, 1, 0, 4, 0, 32};
+static const u8 BODIES[7] = {9, 1, 0, 4, 0, 32, 0};
 
 static int run(void) {
     static u8 in[CHUNK], body[RECORD];
@@ -400,7 +452,7 @@ static int run(void) {
     while ((n = read(0, in, CHUNK)) > 0) {
         for (long i = 0; i < n; i++) {
             if (kind < 0) {
-                if (in[i] > 5 || has_setup != (in[i] != 0) || (in[i] == 5 && has_started)) return fail(15);
+                if (in[i] > 6 || has_setup != (in[i] != 0) || (in[i] == 5 && has_started)) return fail(15);
                 kind = in[i];
                 have = 0;
             } else {

@@ -1,10 +1,11 @@
-// Starting a panel, giving it bytes and marks, and the calls at which nothing is lent.
+// Starting a panel, giving it bytes, marks and seconds, and the calls at which nothing is lent.
 use crate::Bench;
 use crate::answers;
 use crate::lending;
 use crate::listing;
 use crate::say;
 use crate::script;
+use crate::showing;
 use crate::touching;
 use panel::Panel;
 use panel::StartAnswer;
@@ -83,6 +84,19 @@ fn give_mark(bench: Bench) -> Bench {
     }
 }
 
+fn give_second(bench: Bench) -> Bench {
+    let panel = bench.panel;
+    let fed = panel.give_second();
+    let a = fed.answer;
+    let next = fed.panel;
+    say::text(b"P ");
+    answers::say_input(a);
+    Bench {
+        panel: next,
+        ..bench
+    }
+}
+
 // Calls at which nothing is lent.
 pub fn plain(bench: Bench, letter: u8) -> Bench {
     match letter {
@@ -92,7 +106,9 @@ pub fn plain(bench: Bench, letter: u8) -> Bench {
         b'B' => give_byte(bench),
         b'G' => give_bytes(bench),
         b'M' => give_mark(bench),
+        b'P' => give_second(bench),
         b'U' => touching::lift(bench),
+        b'I' => showing::show_moment(bench),
         _ => bench,
     }
 }

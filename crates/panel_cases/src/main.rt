@@ -15,12 +15,14 @@
 //   B byte                          gives a byte
 //   G count (2), bytes              gives bytes
 //   M                               gives a mark
+//   P                               a second passes
 //   ?                               asks for a report: command, number, data, acknowledgement and reply, then what was left
 //   C x (2), y (2)                  a contact: its number, how much was written and the bytes, then what was left
 //   U                               a lift
 //   R address (1)                   a register
 //   V address (2)                   a word
 //   D                               all registers, the display board's three numbers, and a sum over all words
+//   I                               the moment of the clock: year, month, day, weekday, hour, minute and second, decimal
 //   N channel (1)                   how many numbers a channel has, as many words of its part, and a sum over the whole curve area
 // What was left is a sum over the whole room, and the values last sent that were lent. The program ends at the end of the script.
 use curves::CURVE_WORDS;

@@ -9,6 +9,11 @@ pub fn number(n: usize) {
     io::print_decimal(STDOUT_FILENO, n as u64);
 }
 
+pub fn small(n: u8) {
+    text(b" ");
+    number(wire::count(n));
+}
+
 pub fn byte(b: u8) {
     text(b" ");
     io::print_hex(STDOUT_FILENO, b as u64, 2);

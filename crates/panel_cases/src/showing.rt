@@ -53,6 +53,24 @@ fn show_all(bench: Bench, words: &[u16]) -> Bench {
     bench
 }
 
+// The moment of the clock, in numbers: year, month, day, weekday, hour, minute, second.
+pub fn show_moment(bench: Bench) -> Bench {
+    let panel = bench.panel;
+    let moment = panel.moment();
+    let date = moment.date;
+    let time = moment.time;
+    say::text(b"I ");
+    say::number(2000 + wire::count(date.year));
+    say::small(date.month);
+    say::small(date.day);
+    say::small(date.weekday());
+    say::small(time.hour);
+    say::small(time.minute);
+    say::small(time.second);
+    say::text(b"\n");
+    bench
+}
+
 // The first n words of a channel's part, where the area has them.
 fn say_channel(channel: u8, n: usize, curves: &[u16]) {
     let from = channel as usize * CHANNEL_WORDS;
