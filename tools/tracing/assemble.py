@@ -107,17 +107,17 @@ class Assembler:
         return frame
 
 
-# ---- Marks, lifts, contacts and single bytes
+# ---- Marks, lifts, seconds, contacts and single bytes
 
 # A trace of 10 MB may have millions of them one behind the other. Where they are spelled as `show` spells them, a whole run is read at once.
 # The line feed in front is that of the line before, and makes the search fast.
-PLAIN_RUN = re.compile("\n((?:(?:lift|quiet|line [0-9A-F]{2}|contact [0-9]{1,5} [0-9]{1,5})\n){8,})")
+PLAIN_RUN = re.compile("\n((?:(?:lift|quiet|second|line [0-9A-F]{2}|contact [0-9]{1,5} [0-9]{1,5})\n){8,})")
 
 
 @functools.cache
 def spelled_words():
     """Each word of such a run, a line byte behind its name, with its bytes."""
-    kinds = {"lift": layout.LIFT_KIND, "quiet": layout.QUIET_KIND, "contact": layout.CONTACT_KIND}
+    kinds = {"lift": layout.LIFT_KIND, "quiet": layout.QUIET_KIND, "second": layout.SECOND_KIND, "contact": layout.CONTACT_KIND}
     words = {word: bytes([kind]) for word, kind in kinds.items()}
     words |= {f"line{byte:02X}": bytes([layout.BYTE_KIND, byte]) for byte in range(256)}
     return words | {str(n): n.to_bytes(2, "big") for n in range(1 << 16)}

@@ -9,7 +9,8 @@ usage: tools/trace write [TEXT] > TRACE
 HELP = USAGE + """
 
   write      assembles a trace; nothing is written unless all of the text is right
-  show       prints a trace as text; `write` turns the text into the same bytes again, whatever they are
+  show       prints a trace as text, with the moment beside a frame that sets the clock; `write` turns the text into the same bytes
+             again, whatever they are
   explain    prints what the panel program printed, and beside each line what it means
   help       prints this
 
@@ -48,6 +49,7 @@ command.
   quiet                       a quiet mark
   contact 11 11               X and Y, each 0 to 65535
   lift
+  second                      a second passes
   bytes BB BB ..              bytes of the trace as they stand, for traces that are wrong
   repeat 3 STATEMENT          a statement, 1 to 16777216 times; the whole trace has at most 268435456 bytes
 

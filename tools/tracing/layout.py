@@ -5,9 +5,9 @@ from typing import NamedTuple
 
 from .checks import check_value
 
-SETUP_KIND, BYTE_KIND, QUIET_KIND, CONTACT_KIND, LIFT_KIND, RECORD_KIND = range(6)
+SETUP_KIND, BYTE_KIND, QUIET_KIND, CONTACT_KIND, LIFT_KIND, RECORD_KIND, SECOND_KIND = range(7)
 RECORD = 32
-BODIES = {SETUP_KIND: 9, BYTE_KIND: 1, QUIET_KIND: 0, CONTACT_KIND: 4, LIFT_KIND: 0, RECORD_KIND: RECORD}
+BODIES = {SETUP_KIND: 9, BYTE_KIND: 1, QUIET_KIND: 0, CONTACT_KIND: 4, LIFT_KIND: 0, RECORD_KIND: RECORD, SECOND_KIND: 0}
 RUN = re.compile(b"|".join(rb"((?:%s.{%d}){1,4096})" % (re.escape(bytes([kind])), length) for kind, length in BODIES.items()) + b"|(.)", re.DOTALL)
 SETUP = struct.Struct(">BBBHHH")
 FLAG_WORDS = ("checking", "acknowledging", "revised")       # what a setup's flags choose, from bit 0 on

@@ -1,5 +1,5 @@
 """A frame that the program wrote, taken apart: an acknowledgement, or a reply with address, count and data."""
-from . import numbers
+from . import clock, numbers
 from .layout import spelled, two_checks
 
 
@@ -59,4 +59,13 @@ def reply_text(content, command):
     address, count, data = parts
     if int(address, 16) + count > ENDS[command]:
         raise NotOurs(f"address {address} and count {count} go past the end, which is refused with 4")
-    return f"reply to {numbers.command_text(command)}: address {address}, count {count}, " + (f"data {data}" if data else "no data")
+    return f"reply to {numbers.command_text(command)}: address {address}, count {count}, " + (f"data {data}" if data else "no data") + clock_said(content)
+
+
+def clock_said(content):
+    """What a read of the clock's registers says, behind the data."""
+    try:
+        said = clock.reading_text(content[1], content[3:]) if content[0] == 0x81 else ""
+    except ValueError as reason:
+        raise NotOurs(reason) from None
+    return f", {said}" if said else ""

@@ -7,13 +7,14 @@ import functools
 import re
 import struct
 
+from . import clock
 from .checks import Checks, check_value
-from .layout import BODIES, BYTE_KIND, CONTACT_KIND, FLAG_WORDS, LIFT_KIND, QUIET_KIND, RECORD_KIND, SETUP_KIND, bodies, setup_of, spelled
+from .layout import BODIES, BYTE_KIND, CONTACT_KIND, FLAG_WORDS, LIFT_KIND, QUIET_KIND, RECORD_KIND, SECOND_KIND, SETUP_KIND, bodies, setup_of, spelled
 from .records import record_text
 
 LINE_WIDTH = 16
 SHORT = 64
-PLAIN = {QUIET_KIND: "quiet\n", LIFT_KIND: "lift\n"}
+PLAIN = {QUIET_KIND: "quiet\n", LIFT_KIND: "lift\n", SECOND_KIND: "second\n"}
 FLAGS = ["".join(f" {name}" for bit, name in enumerate(FLAG_WORDS) if flags >> bit & 1) if flags < 1 << len(FLAG_WORDS) else f" flags={flags:02X}"
          for flags in range(256)]
 HOW = {0x0000: "", 0x4000: "badly "}      # by what is turned over of the check value
@@ -39,7 +40,7 @@ def contact_text(body):
 
 @functools.lru_cache(1 << 10)
 def plain_lines(run):
-    """Marks and lifts; short runs of them are often the same."""
+    """Marks, lifts and seconds; short runs of them are often the same."""
     return run.decode().translate(PLAIN)
 
 
@@ -54,6 +55,12 @@ def byte_lines(name, given):
 def checks_of(line):
     """The check value of a piece; in a short stretch nothing is gained by working out all of them at once."""
     return Checks(line).of if len(line) > SHORT else lambda begin, end: check_value(line[begin:end])
+
+
+def frame_text(how, content):
+    """A frame that sets the clock has beside it to what."""
+    said = content[0] == 0x80 and not how and clock.setting_text(content[1:])
+    return f"frame {how}{spelled(content)}{f'    # {said}' if said else ''}\n"
 
 
 def frames(setup, line):
@@ -72,7 +79,7 @@ def frames(setup, line):
         if how is None:
             p = line.find(header, p + 1)
         else:
-            yield p, end, f"frame {how}{spelled(line[p + 3:end - ending])}\n"
+            yield p, end, frame_text(how, line[p + 3:end - ending])
             p = line.find(header, end)
 
 
@@ -112,7 +119,7 @@ def named(patterns):
     return b"|".join(rb"(?P<%s>%s)" % (name.encode(), pattern) for name, pattern in patterns.items())
 
 
-# Line bytes, or none, and behind them marks and lifts, or a contact.
+# Line bytes, or none, and behind them marks, lifts and seconds, or a contact.
 LINE, PLAIN_RUN, CONTACT = one_of(BYTE_KIND) + b"*+", b"[%s]{1,4096}" % re.escape(bytes(PLAIN)), one_of(CONTACT_KIND)
 TURN = re.compile(b"(%s)(?:(%s)|(%s))" % (LINE, PLAIN_RUN, CONTACT), re.DOTALL)
 

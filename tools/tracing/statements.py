@@ -1,7 +1,7 @@
 """The statements of a text that stand for themselves: the words behind the name, into the bytes of the trace."""
 import struct
 
-from .layout import CONTACT_KIND, FLAG_WORDS, LIFT_KIND, QUIET_KIND, RECORD, RECORD_KIND, SETUP_KIND, Setup, on_line, setup_bytes
+from .layout import CONTACT_KIND, FLAG_WORDS, LIFT_KIND, QUIET_KIND, RECORD, RECORD_KIND, SECOND_KIND, SETUP_KIND, Setup, on_line, setup_bytes
 from .records import KEY, NO_PAGE, PARTS, SLIDER, STEP, key_rest, record, slider_rest, step_rest
 from .values import AREA, FLAG, HEADER, MODE, NEXT, SIGNED, TWO_DIGITS, WORD, Fields, Mistake, quoted, some_bytes
 
@@ -86,4 +86,4 @@ def line(words):
 
 
 STATEMENTS = {"setup": setup, "key": key, "step": step, "slider": slider, "record": plain_record, "contact": contact,
-              "quiet": alone(QUIET_KIND), "lift": alone(LIFT_KIND), "line": line, "bytes": some_bytes}
+              "quiet": alone(QUIET_KIND), "lift": alone(LIFT_KIND), "second": alone(SECOND_KIND), "line": line, "bytes": some_bytes}
