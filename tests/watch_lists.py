@@ -123,11 +123,10 @@ def troubles(cases):
     for kind in (every_length, every_address, every_two, every_due, every_run):
         calls = Calls()
         kind(calls)
-        printed = program.run(cases, bytes(calls.script)).decode("latin-1").splitlines()
-        at = next((n for n, (due, came) in enumerate(itertools.zip_longest(calls.lines, printed)) if due != came), None)
-        if at is not None:
-            shown = [repr(lines[at]) if at < len(lines) else "nothing more" for lines in (calls.lines, printed)]
-            yield f"{kind.__name__}: line {at + 1} must be {shown[0]}, the program prints {shown[1]}"
+        due, printed = "".join(line + "\n" for line in calls.lines).encode(), program.run(cases, bytes(calls.script))
+        if printed != due:
+            number, wanted, came = program.first_difference(due, printed)
+            yield f"{kind.__name__}: line {number} must be {wanted}, and is {came}"
 
 
 def main(path=None):

@@ -7,6 +7,7 @@ use Prim.{tt}
 use Prim.Native.Nat.{ℕ, zero, suc, _+_, _-_, _/_, _%_, _≤_, _<_}
 use native.Mathlib.Omega.{arith}
 use lib.ListN.{length, getD, drop}
+use lib.Seq.{drop-drop}
 use borrow.Author.Tests.{le-leb, le-ltb}
 use Rattle.wire.proofs.Truths.{never, and-left}
 use Rattle.wire.specs.ByteOrder.{byteAt}
@@ -213,10 +214,6 @@ exactly-6 : {n : ℕ} (w : Bool) → n ≡ cond w 6 0 → Exactly (n ≡ 6) (w �
 exactly-6 true e = record { only-when = λ is. refl; wherever = λ is. e }
 exactly-6 false e = record { only-when = λ is. absurd (omega arith); wherever = λ is. never (cc) }
 
-drop-twice : (xs : List ℕ) → drop 1 (drop 1 xs) ≡ drop 2 xs
-drop-twice [] = refl
-drop-twice (x ∷ xs) = refl
-
 module _ (now : Moment) (reached : Reachable (now .panel)) (content : List ℕ) (writes : handedOver now ask ≡ acceptedFrame 0x80 content ∷ []) where
   -- what an 0x80 is answered
   write-answer : numberGiven now ask ≡ numberOfOutcome (writeRegistersOutcome (now .panel .setup .pages) content)
@@ -286,7 +283,7 @@ module _ (now : Moment) (reached : Reachable (now .panel)) (content : List ℕ) 
     pub setting-sets : Stands (after now ask .panel .registers) (momentIn (drop 2 content))
     unfolding registersLeft
     setting-sets =
-        rw (left-registers, ← drop-twice content)
+        rw (left-registers, ← drop-drop 1 1 content)
         (setting-stands (now .panel .registers) (always-256-registers (now .panel) reached) (byteAt content 0) (drop 1 content) (passed-write .fits) sets
         (setting-right (byteAt content 0) (drop 1 content) (now .panel .setup .pages) (passed-write .right) sets))
 

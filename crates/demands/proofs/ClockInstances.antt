@@ -139,6 +139,11 @@ pub a-minute-behind : SecondsPass new (afterAll new (seconds 60)) 60
 unfolding computingCalls
 a-minute-behind = n-seconds-later new new-arises refl 60
 
+-- within a day the weekday stays
+pub friday-stays : panelRegister (after (set settingOf003) second .panel) weekdayRegister ≡ 5
+unfolding computingCalls allBytes
+friday-stays = weekday-moves-on-at-midnight (set settingOf003) (set-arises settingOf003 refl) refl .within-a-day refl
+
 -- a midnight: Friday is followed by Saturday, whatever weekday was sent
 pub saturday-follows : panelRegister (after (set settingAtNight) second .panel) weekdayRegister ≡ 6
 unfolding computingCalls allBytes

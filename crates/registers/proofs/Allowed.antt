@@ -1,11 +1,10 @@
 -- 01, "Registers", the columns "Meaning" and "Writable": what a write that is not refused with 5 or 6 leaves.
 use mathlib.Core.Path.{_≡_, refl, sym, ap, _∙_}
-use mathlib.Core.Logic.{_⊎_, inl, inr}
 use mathlib.Core.Bool.{Bool, true, false, _&&_, _||_, not}
 use mathlib.Core.List.{List}
 use Prim.Native.Nat.{ℕ, zero, suc, _+_, _-_, _≤_, _<_}
 use native.Mathlib.Omega.{arith}
-use borrow.Author.Tests.{leb-true, leb-false, ltb-true, ltb-false, le-leb, eqb-true, eqb-false, not-false}
+use borrow.Author.Tests.{leb-false, le-leb, eqb-true, eqb-false, not-false}
 use lib.Dec.{eqb, leb, ltb}
 use lib.ListN.{length, getD}
 use Rattle.wire.specs.ByteOrder.{word}
@@ -14,6 +13,7 @@ use Rattle.registers.specs.declared.Registers.{Registers}
 use Rattle.registers.specs.Table.{registerAt, clearRegister, setRegister, weekdayRegister, writable}
 use Rattle.registers.specs.Run.{covers, allWritable, halfPage, partOfClock, unwritableRun, byteFor, clearing, wrongClock, wrongValue, weekdayFor, readAs, readsAs, registersAfter}
 use Rattle.registers.specs.Touched.{pageOf}
+use Rattle.registers.proofs.Covered.{in-run, out-of-run}
 use Rattle.registers.proofs.ReadsAs.{length-readsAs, clear-reads, other-reads}
 use Rattle.registers.proofs.Written.{written-at, others-stay}
 use Rattle.registers.proofs.Touched.{same-page}
@@ -32,21 +32,6 @@ both false b is = no (sym is)
 right-not : (a b : Bool) → a ≡ true → (a && b) ≡ false → b ≡ false
 right-not true b is not = not
 right-not false b is not = no (sym is)
-
--- a run covers a register or leaves it out
-in-run : (address n register : ℕ) → covers address n register ≡ true → (address ≤ register) × (register < address + n)
-unfolding covers
-in-run address n register is =
-    let two = both (leb address register) (ltb register (address + n)) is in
-    (leb-true address register (two .0), ltb-true register (address + n) (two .1))
-
-out-of-run : (address n register : ℕ) → covers address n register ≡ false → (register < address) ⊎ (address + n ≤ register)
-unfolding covers
-out-of-run address n register is = go (leb address register) refl is
-  where
-    go : (b : Bool) → leb address register ≡ b → (b && ltb register (address + n)) ≡ false → (register < address) ⊎ (address + n ≤ register)
-    go true t is = inr (ltb-false register (address + n) is)
-    go false t is = inl (leb-false address register t)
 
 -- a run that is not refused with 5 is writable
 pub run-is-writable : (address n : ℕ) → unwritableRun address n ≡ false → allWritable address n ≡ true

@@ -11,6 +11,7 @@ use lib.ListN.{length}
 use Rattle.wire.proofs.Truths.{never, and-left, and-right, or-left, or-right}
 use Rattle.registers.specs.Table.{clearRegister, setRegister, isClock, writable}
 use Rattle.registers.specs.Clocked.{HasClockRegister}
+use Rattle.registers.proofs.Covered.{in-run, out-of-run}
 use Rattle.registers.specs.Run.{covers, allWritable, halfPage, setsClock, touchesClock, partOfClock, unwritableRun, wrongSetting, wrongClock, wrongValue}
 
 -- a run that is not empty and touches none of them lies before or behind them
@@ -62,24 +63,21 @@ clock-touched address n register is from below =
 
 -- 02, §6, "a write touching some": exactly where one of the run's registers is one of the clock's
 pub touches-exactly : (address n : ℕ) → (touchesClock address n ≡ true) ↔ HasClockRegister address n
-touches-exactly address n = (clock-had address n, λ found. touched found)
-  where
-    touched : HasClockRegister address n → touchesClock address n ≡ true
-    touched found =
-        let has : (leb address (found .register) && ltb (found .register) (address + n)) ≡ true = unfold covers in found .has in
-        clock-touched address n (found .register) (found .is-clock)
-        (leb-true address (found .register) (and-left (leb address (found .register)) (ltb (found .register) (address + n)) has))
-        (ltb-true (found .register) (address + n) (and-right (leb address (found .register)) (ltb (found .register) (address + n)) has))
+touches-exactly address n = (
+  clock-had address n,
+  λ found.
+      let inside = in-run address n (found .register) (found .has) in
+      clock-touched address n (found .register) (found .is-clock) (inside .0) (inside .1),
+)
 
 -- so a run that touches none has none
 pub clock-outside : (address n register : ℕ) → isClock register ≡ true → touchesClock address n ≡ false → (register < address) ⊎ (address + n ≤ register)
-clock-outside address n register is none = go (leb address register) refl (ltb register (address + n)) refl
+clock-outside address n register is none = go (covers address n register) refl
   where
-    go : (a : Bool) → leb address register ≡ a → (b : Bool) → ltb register (address + n) ≡ b → (register < address) ⊎ (address + n ≤ register)
-    go true t true u =
-        never (let e : true ≡ false = sym (clock-touched address n register is (leb-true address register t) (ltb-true register (address + n) u)) ∙ none in cc)
-    go true t false u = inr (ltb-false register (address + n) u)
-    go false t b u = inl (leb-false address register t)
+    go : (b : Bool) → covers address n register ≡ b → (register < address) ⊎ (address + n ≤ register)
+    go true has =
+        never (let e : true ≡ false = sym (touches-exactly address n .1 (record { register = register; is-clock = is; has = has })) ∙ none in cc)
+    go false has = out-of-run address n register has
 
 -- the run that sets the clock
 pub setting-run : (address n : ℕ) → setsClock address n ≡ true → (address ≡ setRegister) × (n ≡ 8)

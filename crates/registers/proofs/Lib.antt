@@ -1,3 +1,4 @@
+pub mod Covered
 pub mod Runs
 pub mod ReadsAs
 pub mod Copying
