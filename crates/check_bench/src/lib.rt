@@ -1,4 +1,6 @@
 // The check value under a C name, for bench/check_value.
+#![tactic(auto)]
+
 ghost use Rattle.std.specs.Prelude.{◌≡◌};
 ghost use Rattle.check_value.specs.CheckValue.{check_value};
 

@@ -1,5 +1,7 @@
 // Prints the check value of lists of 0 to 300 bytes, of four kinds: all 00, all FF, counting, pseudo-random.
 // What it must print was worked out by an independent program, tests/check_value.py.
+#![tactic(auto)]
+
 ghost use Rattle.std.specs.Prelude.{◌<◌};
 
 use libc::STDOUT_FILENO;

@@ -1,5 +1,7 @@
 // The check value of 01, "Frame", worked out from its formula, as 02, §3, asks. There is no table here, and none in what the compiler makes of
 // it: tests/no_tables.py looks.
+#![tactic(auto)]
+
 ghost use Rattle.std.specs.Prelude.{◌≡◌, ◌*◌};
 ghost use Rattle.check_value.specs.CheckValue.{byte_step, check_from, check_value};
 ghost use Rattle.check_value.specs.Formula.{parity};

@@ -1,4 +1,5 @@
 // The clock of 02, §6: a moment as numbers, the Gregorian calendar, the next second, and a moment as the bytes that show it. It knows no registers.
+#![tactic(auto)]
 
 mod calendar; // leap years, months, days counted, weekdays
 mod digits; // two decimal digits in a byte, and back
@@ -11,7 +12,7 @@ pub use showing::{date_in, is_wrong, moment_in, shown, time_in};
 // How many bytes show a moment; `shown` in specs/ lists them.
 pub const SHOWN_BYTES: usize = 7;
 
-#[derive(Drop)]
+#[derive(Clone, Copy)]
 pub struct Date {
     // Since 2000.
     pub year: u8,
@@ -20,14 +21,14 @@ pub struct Date {
     pub day: u8,
 }
 
-#[derive(Drop)]
+#[derive(Clone, Copy)]
 pub struct Time {
     pub hour: u8,
     pub minute: u8,
     pub second: u8,
 }
 
-#[derive(Drop)]
+#[derive(Clone, Copy)]
 pub struct Moment {
     pub date: Date,
     pub time: Time,

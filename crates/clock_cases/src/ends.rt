@@ -5,7 +5,7 @@ use crate::{say, sums};
 use clock::{Date, Moment, Time};
 
 // From two seconds before midnight to one behind it.
-#[derive(Drop)]
+#[derive(Clone, Copy)]
 struct End {
     first: Moment,
     second: Moment,

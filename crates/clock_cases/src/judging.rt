@@ -5,7 +5,7 @@ use crate::{say, sums};
 use clock::{Moment, SHOWN_BYTES};
 
 // How many values of a byte are wrong, and the check value of all the answers.
-#[derive(Drop)]
+#[derive(Clone, Copy)]
 struct Answers {
     wrong: usize,
     value: u64,

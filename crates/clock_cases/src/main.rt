@@ -11,6 +11,8 @@
 //                           how many values of that byte make the seven show no moment, and the check value of all 256 answers
 //   no midnight: 00 01 01 06 23 59 59, 00 01 02 00 05 00 00
 //                           the second behind the last of a day is not the first of one; there is no such line
+#![tactic(auto)]
+
 use clock::Date;
 use walking::Walk;
 

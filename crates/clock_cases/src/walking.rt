@@ -9,7 +9,7 @@ use clock::{Date, Moment, Time};
 const MANY_DAYS: usize = 400;
 
 // The day that was come to, how many days were gone through, and their check value.
-#[derive(Drop)]
+#[derive(Clone, Copy)]
 pub struct Walk {
     pub date: Date,
     pub days: usize,

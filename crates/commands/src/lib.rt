@@ -1,4 +1,6 @@
 // Commands 0x80 to 0x83 of 01, and 0x84 of 02, §2: each is judged by its numbers in order, then done.
+#![tactic(auto)]
+
 use frame::Header;
 
 mod on_curves; // 0x84
@@ -12,7 +14,7 @@ pub use on_registers::registers_left;
 pub use performing::perform;
 
 // What setup fixes for every command.
-#[derive(Drop)]
+#[derive(Clone, Copy)]
 pub struct Fixed {
     pub header: Header,
     pub checking: bool,
@@ -20,7 +22,7 @@ pub struct Fixed {
 }
 
 // What a command is answered with; number_of_outcome in specs/ gives 01's number for each.
-#[derive(Drop)]
+#[derive(Clone, Copy)]
 pub enum Outcome {
     Done,
     UnknownCommand,
@@ -32,7 +34,7 @@ pub enum Outcome {
 }
 
 // What a command answers, what it wants done to the panel, and how long a reply it has laid.
-#[derive(Drop)]
+#[derive(Clone, Copy)]
 pub struct Performed {
     pub outcome: Outcome,
     // Its bytes are to be written into the registers.

@@ -1,4 +1,6 @@
 // 01, "Contact and lift": what a contact that is not refused, and a lift, do to registers, words and the catch.
+#![tactic(auto)]
+
 ghost use Rattle.std.specs.Prelude.{◌≡◌};
 ghost use Rattle.contact.specs.Contact.{touching, showing, catching, acting, pressed, dragging, held_down, touched, lifted};
 
@@ -7,14 +9,14 @@ use touch::{Found, Record, Setup};
 use words::WordAddress;
 
 // A slider that is being dragged, as a copy of its record.
-#[derive(Drop)]
+#[derive(Clone, Copy)]
 pub enum Catch {
     Free,
     Caught(Record),
 }
 
 // What a touch reads and sets, beside the words.
-#[derive(Drop)]
+#[derive(Clone, Copy)]
 pub struct Pad {
     pub registers: Registers,
     pub catch: Catch,

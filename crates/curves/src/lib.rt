@@ -1,4 +1,6 @@
 // The trend curves of 02, §2: eight channels over a lent area of 8,192 words, and how many numbers each has.
+#![tactic(auto)]
+
 mod adding; // what the data of 0x84 does to the channels
 mod channel; // what one channel's part becomes
 mod counting; // the counts, read and cleared
@@ -16,7 +18,7 @@ pub const CHANNEL_WORDS: usize = 1024;
 pub const CURVE_WORDS: usize = 8192;
 
 // How many numbers each channel has. A count past 1,024 means that all words of the channel's part are its numbers.
-#[derive(Drop)]
+#[derive(Clone, Copy)]
 pub struct Counts {
     pub each: [u16; CHANNEL_COUNT],
 }

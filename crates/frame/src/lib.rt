@@ -1,4 +1,6 @@
 // Frames of 01, "Frame": the public frame writer, and the inner writers that lay frames into a part of a lent room.
+#![tactic(auto)]
+
 ghost use Rattle.std.specs.Prelude.{◌≡◌, [], ◌∷◌, ◌++◌, ◌+◌, ◌≤◌, length, take};
 ghost use Rattle.wire.specs.Room.{over, lays};
 ghost use Rattle.frame.specs.Frame.{header_bytes, check_length, check_bytes, enclosed, most_payload, most_data};
@@ -6,14 +8,14 @@ ghost use Rattle.frame.specs.Acknowledgement.{verdict};
 ghost use Rattle.frame.specs.Writer.{written_said, writer_said, answers, writing, frame_laid, acknowledgement_laid, closed_laid};
 
 // The header set up for the line.
-#[derive(Drop)]
+#[derive(Clone, Copy)]
 pub struct Header {
     pub h1: u8,
     pub h2: u8,
 }
 
 // What the frame writer answers.
-#[derive(Drop)]
+#[derive(Clone, Copy)]
 pub enum Written {
     // Done: the frame's length.
     Frame(usize),
@@ -102,7 +104,8 @@ fn put_body(checking: bool, command: u8, payload: &[u8], body: &mut [u8]) -> usi
     ensures { (result ≡ 1 + length payload.now + check_length checking) × (body.new ≡ over ((command ∷ payload.now) ++ check_bytes checking (command ∷ payload.now)) body.old) }
 {
     put_first(command, body);
-    let n = bytes::copy(payload, &mut body[1..]);
+    let n = payload.len();
+    body[1..1 + n].copy_from_slice(payload);
     put_check(checking, 1 + n, body)
 }
 

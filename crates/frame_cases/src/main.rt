@@ -1,5 +1,7 @@
 // Prints what the frame writer answers, and the check value of the whole room it leaves, around each limit of data and room, with
 // checking on and off, for three header pairs. What it must print was worked out by an independent program, tests/frame_model.py.
+#![tactic(auto)]
+
 use frame::{Header, Written};
 use libc::STDOUT_FILENO;
 

@@ -1,4 +1,6 @@
 // 01, "The trace program": the items of a trace, "one byte of kind, then a body whose length the kind fixes", and what may come when.
+#![tactic(auto)]
+
 use touch::{MOST_RECORDS, RECORD_BYTES};
 
 mod item;
@@ -18,7 +20,7 @@ pub const ITEM_BYTES: usize = RECORD_BYTES + 1;
 pub const KEPT_RECORDS: usize = MOST_RECORDS + 1;
 
 // How far the input has come: nothing yet; setup and records; events; after an X.
-#[derive(Drop)]
+#[derive(Clone, Copy)]
 pub enum Stage {
     Bare,
     Ready,

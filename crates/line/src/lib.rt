@@ -1,5 +1,6 @@
 // The line reader of 01, "Reading the line": bytes and quiet marks are given, reports are asked for.
 // A reader is a value: a method takes it and hands back the next one.
+#![tactic(auto)]
 
 // Reader: new, none, is_waiting, give_byte, give_bytes, give_mark.
 mod inputs;
@@ -18,14 +19,14 @@ use frame::{Header, LONGEST_FRAME, MOST_PAYLOAD};
 use place::Look;
 
 // What is fixed at setup.
-#[derive(Drop)]
+#[derive(Clone, Copy)]
 pub struct Line {
     pub header: Header,
     pub checking: bool,
 }
 
 // The bytes held stand at the front of the array; `closed` says whether a mark has closed their stretch, `head` what stands at the first.
-#[derive(Drop)]
+#[derive(Clone, Copy)]
 pub struct Reader {
     line: Line,
     held: [u8; LONGEST_FRAME],
@@ -35,35 +36,35 @@ pub struct Reader {
 }
 
 // What an input is answered.
-#[derive(Drop)]
+#[derive(Clone, Copy)]
 pub enum Answer {
     Done,
     // A report waits: the input was not taken.
     Waits,
 }
 
-#[derive(Drop)]
+#[derive(Clone, Copy)]
 pub struct Given {
     pub answer: Answer,
     pub reader: Reader,
 }
 
 // How many of the bytes were taken.
-#[derive(Drop)]
+#[derive(Clone, Copy)]
 pub struct Gave {
     pub used: usize,
     pub reader: Reader,
 }
 
 // What an ask is answered. The data of an accepted frame stands beside it.
-#[derive(Drop)]
+#[derive(Clone, Copy)]
 pub enum Report {
     Accepted { command: u8, len: usize },
     BadCheck(u8),
     Nothing,
 }
 
-#[derive(Drop)]
+#[derive(Clone, Copy)]
 pub struct Asked {
     pub report: Report,
     pub payload: [u8; MOST_PAYLOAD],
@@ -73,14 +74,14 @@ pub struct Asked {
 // The structs below are what the modules hand each other.
 
 // How many bytes are left once all that is passed over has been, and what stands at the first of them.
-#[derive(Drop)]
+#[derive(Clone, Copy)]
 struct Rest {
     len: usize,
     head: Look,
 }
 
 // The same, and how many bytes must be held before more is decided.
-#[derive(Drop)]
+#[derive(Clone, Copy)]
 struct Step {
     len: usize,
     head: Look,
@@ -88,7 +89,7 @@ struct Step {
 }
 
 // What an ask answers and leaves, but for its arrays.
-#[derive(Drop)]
+#[derive(Clone, Copy)]
 struct Handover {
     report: Report,
     len: usize,
@@ -97,7 +98,7 @@ struct Handover {
 }
 
 // How many bytes were taken, how many are held then, and what stands at the first of them.
-#[derive(Drop)]
+#[derive(Clone, Copy)]
 struct Fed {
     used: usize,
     len: usize,

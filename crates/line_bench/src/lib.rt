@@ -1,4 +1,6 @@
 // The line reader for bench/line: a whole buffer given, all reports asked for, and a sum over them that shows that the work was done.
+#![tactic(auto)]
+
 ghost use Rattle.std.specs.Prelude.{◌≡◌, min};
 ghost use Rattle.line_bench.specs.Sum.{wrapped, bench_sum};
 ghost use Rattle.line_bench.specs.Inner.{weight_told};

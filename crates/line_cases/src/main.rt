@@ -6,18 +6,20 @@
 //   [ hex bytes ]: given at once; printed is how many were taken
 //   | a quiet mark, as a byte
 //   ? reports are asked for until there is none: F command and data, B command
+#![tactic(auto)]
+
 use frame::{Header, LONGEST_FRAME, MOST_PAYLOAD};
 use line::{Answer, Reader, Report};
 
 // What the bytes that come are for.
-#[derive(Drop)]
+#[derive(Clone, Copy)]
 enum Mode {
     Single,
     Setup,
     Chunk,
 }
 
-#[derive(Drop)]
+#[derive(Clone, Copy)]
 struct Cases {
     reader: Reader,
     mode: Mode,

@@ -1,4 +1,6 @@
 // The panel of 01: start, byte, mark, second, report, contact, lift. A panel is a value: a method takes it and hands back the next one.
+#![tactic(auto)]
+
 use commands::{Outcome, Performed};
 use contact::Catch;
 use curves::Counts;
@@ -14,7 +16,7 @@ mod starting; // starting a panel
 mod touching; // contact and lift
 mod watching; // the watched words
 
-#[derive(Drop)]
+#[derive(Clone, Copy)]
 pub struct Panel {
     setup: Setup,
     registers: Registers,
@@ -23,7 +25,7 @@ pub struct Panel {
     reader: Reader,
 }
 
-#[derive(Drop)]
+#[derive(Clone, Copy)]
 pub enum StartAnswer {
     Started,
     WrongSetup,
@@ -33,27 +35,27 @@ pub enum StartAnswer {
 }
 
 // Where the start is refused there is no panel: what stands beside the answer takes nothing and hands nothing over.
-#[derive(Drop)]
+#[derive(Clone, Copy)]
 pub struct Start {
     pub answer: StartAnswer,
     pub panel: Panel,
 }
 
-#[derive(Drop)]
+#[derive(Clone, Copy)]
 pub struct Fed {
     pub answer: Answer,
     pub panel: Panel,
 }
 
 // How many of the bytes were taken.
-#[derive(Drop)]
+#[derive(Clone, Copy)]
 pub struct FedBytes {
     pub used: usize,
     pub panel: Panel,
 }
 
 // What asking for a report hands over.
-#[derive(Drop)]
+#[derive(Clone, Copy)]
 pub enum Handed {
     // Words, curve area or room are not what they must be; the report still waits.
     NotLent,
@@ -74,14 +76,14 @@ pub enum Handed {
 }
 
 // The data of an accepted frame stands beside the report, zeros behind it.
-#[derive(Drop)]
+#[derive(Clone, Copy)]
 pub struct Reported {
     pub handed: Handed,
     pub payload: [u8; MOST_PAYLOAD],
     pub panel: Panel,
 }
 
-#[derive(Drop)]
+#[derive(Clone, Copy)]
 pub enum ContactAnswer {
     Done,
     NotLent,
@@ -95,7 +97,7 @@ pub enum ContactAnswer {
     OffScreen,
 }
 
-#[derive(Drop)]
+#[derive(Clone, Copy)]
 pub struct Contacted {
     pub answer: ContactAnswer,
     // How long an unasked reply was written.
@@ -103,21 +105,21 @@ pub struct Contacted {
     pub panel: Panel,
 }
 
-#[derive(Drop)]
+#[derive(Clone, Copy)]
 pub enum LiftAnswer {
     Done,
     Waits,
     IsUp,
 }
 
-#[derive(Drop)]
+#[derive(Clone, Copy)]
 pub struct Lifted {
     pub answer: LiftAnswer,
     pub panel: Panel,
 }
 
 // What an accepted frame has done, and how long its acknowledgement is.
-#[derive(Drop)]
+#[derive(Clone, Copy)]
 struct Effected {
     performed: Performed,
     acknowledged: usize,
@@ -125,7 +127,7 @@ struct Effected {
 
 // What is handed over; whether the frame's data is to be written into the registers; whether the catch is to be dropped; whether the data is to be
 // added to the curves; whether its words are to be noted in the watch list.
-#[derive(Drop)]
+#[derive(Clone, Copy)]
 struct HandedOver {
     handed: Handed,
     writes: bool,

@@ -1,5 +1,7 @@
 // The panel for bench/panel: a stream of line bytes given 4,096 at a time, all reports asked for, and a sum over them that shows that
 // the work was done.
+#![tactic(auto)]
+
 ghost use Rattle.std.specs.Prelude.{◌≡◌, min, slice_index};
 ghost use Rattle.watch.specs.Watched.{none_watched};
 ghost use Rattle.commands.specs.Lent.{lending};

@@ -25,6 +25,8 @@
 //   I                               the moment of the clock: year, month, day, weekday, hour, minute and second, decimal
 //   N channel (1)                   how many numbers a channel has, as many words of its part, and a sum over the whole curve area
 // What was left is a sum over the whole room, and the values last sent that were lent. The program ends at the end of the script.
+#![tactic(auto)]
+
 use curves::CURVE_WORDS;
 use frame::LEAST_ROOM;
 use panel::Panel;
@@ -53,7 +55,7 @@ const ROOM: usize = 300;
 const LISTED: usize = 20;
 
 // The panel, and how much of each array is lent.
-#[derive(Drop)]
+#[derive(Clone, Copy)]
 struct Bench {
     panel: Panel,
     table: usize,

@@ -1,6 +1,8 @@
 // The trace program: reads a trace from standard input to its end and writes the lines that 01 prints for it. What a line says is the
 // library's; here words, curve area, table and room for text stand, and bytes go in and out. Where a call of the system fails, one line on standard
 // error says so and the program ends: no E and no X for a trace that was not read to its end or whose lines did not all go out.
+#![tactic(auto)]
+
 ghost use Rattle.std.specs.Prelude.{◌≤◌, ◌≡◌, true, length, take, replicate};
 ghost use Rattle.wire.specs.Addresses.{word_count};
 ghost use Rattle.curves.specs.Area.{curve_words};
@@ -21,7 +23,7 @@ mod output;
 mod trying;
 
 // What filling a room with the lines of an input leaves: how much of the input was taken, and how many bytes of text stand in the room.
-#[derive(Drop)]
+#[derive(Clone, Copy)]
 struct Filled {
     trace: Trace,
     used: usize,
@@ -29,14 +31,14 @@ struct Filled {
 }
 
 // A trace behind an input, and whether every call of the system was done; where not, standard error says so.
-#[derive(Drop)]
+#[derive(Clone, Copy)]
 struct Passed {
     trace: Trace,
     well: bool,
 }
 
 // What a read gave: whether it was done, and how many bytes, 0 at the end of the input.
-#[derive(Drop)]
+#[derive(Clone, Copy)]
 struct Got {
     well: bool,
     count: usize,

@@ -1,5 +1,7 @@
 // What stands at one place of a stretch, and where going on from place to place stops: 01, "Reading the line", its four bullets.
 // Each function looks at the front of a lent part of the stretch.
+#![tactic(auto)]
+
 ghost use Rattle.std.specs.Prelude.{◌≡◌, ◌∷◌, [], ◌-◌, length};
 ghost use Rattle.frame.specs.Frame.{header_bytes, right_check};
 ghost use Rattle.reading.specs.Place.{cut_short, decided_by_check, after_header, behind, look};
@@ -10,7 +12,7 @@ ghost use Rattle.place.specs.Looks.{rules_of, shown, stop_of};
 use frame::Header;
 
 // What stands at a place.
-#[derive(Drop)]
+#[derive(Clone, Copy)]
 pub enum Look {
     // No frame begins here: go on at the next place.
     Pass,
@@ -23,7 +25,7 @@ pub enum Look {
 }
 
 // Where going on stops, and what stands there.
-#[derive(Drop)]
+#[derive(Clone, Copy)]
 pub struct Stop {
     pub at: usize,
     pub look: Look,

@@ -1,4 +1,6 @@
 // The 256 register bytes of 01, "Registers", addressed by byte: what they are, their starts, and what each reads.
+#![tactic(auto)]
+
 ghost use Rattle.std.specs.Prelude.{◌≡◌, cond, ◌+◌, ltb};
 ghost use Rattle.wire.specs.Addresses.{register_count};
 ghost use Rattle.registers.specs.Table.{start_registers, register_at};
@@ -30,11 +32,11 @@ const WEEKDAY_REGISTER: usize = 0x23;
 const LAST_CLOCK_REGISTER: usize = 0x26;
 
 // An address of a register. It cannot stand where a word's address is meant, nor the other way round.
-#[derive(Drop)]
+#[derive(Clone, Copy)]
 pub struct RegisterAddress(pub u8);
 
 // The bytes are lent to what only reads registers.
-#[derive(Drop)]
+#[derive(Clone, Copy)]
 pub struct Registers {
     pub bytes: [u8; REGISTER_COUNT],
 }

@@ -1,4 +1,6 @@
 // What a key, a step and a slider store in a word: 01, "Setup and touch table", in whole numbers. No record and no table.
+#![tactic(auto)]
+
 ghost use Rattle.std.specs.Prelude.{◌≡◌, ◌-◌, ◌≤◌, ◌<◌};
 ghost use Rattle.std.specs.Int.Signed.{le_z};
 ghost use Rattle.stores.specs.Store.{signed, word_of, value_in, placed, key_stores};
@@ -127,7 +129,7 @@ pub fn step_stores(
 // ---- Slider
 
 // The scale sheet that a slider keeps to, which says how it rounds.
-#[derive(Drop)]
+#[derive(Clone, Copy)]
 pub enum Sheet {
     // Down.
     Old,

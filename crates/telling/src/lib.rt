@@ -1,4 +1,6 @@
 // What 01's trace program prints of an event or a report of a panel: the panel goes on, and its lines are written into a lent room.
+#![tactic(auto)]
+
 ghost use Rattle.std.specs.Prelude.{◌≡◌, List, ℕ};
 ghost use Rattle.telling.specs.Told.{leaves_panel, printed_in};
 ghost use Rattle.telling.specs.Events.{event, asked_once};
@@ -16,7 +18,7 @@ mod reports;
 pub const LEAST_TEXT: usize = 1024;
 
 // The panel as it goes on, and how many bytes of text were written.
-#[derive(Drop)]
+#[derive(Clone, Copy)]
 pub struct PanelPrinted {
     pub panel: Panel,
     pub count: usize,

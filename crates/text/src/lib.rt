@@ -1,10 +1,12 @@
 // The lines that 01's trace program prints, laid as bytes over the front of a lent room.
+#![tactic(auto)]
+
 ghost use Rattle.std.specs.Prelude.{◌≡◌, [], ◌∷◌, ◌++◌, ◌+◌, ◌*◌, ◌/◌, ◌%◌, ◌≤◌, ◌<◌, leb, length};
 ghost use Rattle.wire.specs.Room.{over, lays, laid};
 ghost use Rattle.text.specs.Text.{line_feed, hex_digit, decimal, spaced, line_text, written_text};
 
 // A line of the trace but for the frames written.
-#[derive(Drop)]
+#[derive(Clone, Copy)]
 pub enum Line {
     // An accepted command, and the number it is answered with.
     Frame { command: u8, number: u8 },

@@ -1,5 +1,6 @@
 // 01, "Setup and touch table": what a setup may say, how a touch record stands in its bytes, which tables are good, which record
 // a point finds, and what a key, a step or a slider stores. No panel.
+#![tactic(auto)]
 
 mod acting;
 mod finding;
@@ -21,7 +22,7 @@ pub const RECORD_BYTES: usize = 32;
 // "A record with page FFFF ends it"
 const END_PAGE: u16 = 0xFFFF;
 
-#[derive(Drop)]
+#[derive(Clone, Copy)]
 pub struct Setup {
     pub h1: u8,
     pub h2: u8,
@@ -32,7 +33,7 @@ pub struct Setup {
 }
 
 // From the first point to the last, edges included.
-#[derive(Drop)]
+#[derive(Clone, Copy)]
 pub struct Area {
     pub xs: u16,
     pub ys: u16,
@@ -40,7 +41,7 @@ pub struct Area {
     pub ye: u16,
 }
 
-#[derive(Drop)]
+#[derive(Clone, Copy)]
 pub struct StepFields {
     pub direction: u8,
     pub ending: u8,
@@ -50,7 +51,7 @@ pub struct StepFields {
     pub once: u8,
 }
 
-#[derive(Drop)]
+#[derive(Clone, Copy)]
 pub struct SliderFields {
     pub again: Area,
     pub begin: u16,
@@ -58,7 +59,7 @@ pub struct SliderFields {
 }
 
 // What the code of a record makes it, with the fields of that kind.
-#[derive(Drop)]
+#[derive(Clone, Copy)]
 pub enum Kind {
     Key(u16),
     Step(StepFields),
@@ -66,7 +67,7 @@ pub enum Kind {
     Other,
 }
 
-#[derive(Drop)]
+#[derive(Clone, Copy)]
 pub struct Record {
     pub page: u16,
     pub area: Area,
@@ -77,7 +78,7 @@ pub struct Record {
     pub mode: u8,
 }
 
-#[derive(Drop)]
+#[derive(Clone, Copy)]
 pub enum Verdict {
     Good,
     NotRecords,
@@ -85,7 +86,7 @@ pub enum Verdict {
     Wrong(usize),
 }
 
-#[derive(Drop)]
+#[derive(Clone, Copy)]
 pub enum Found {
     Nothing,
     // The number of the record, from 0, and the record.

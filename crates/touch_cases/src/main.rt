@@ -1,6 +1,8 @@
 // Runs cases from standard input through `touch`, and writes a line for each: the case's label and what the library answers.
 // A case is its kind (1 byte), the length of its label (1) and of its table (2), a setup (9), page, x, y and an old word (2 each),
 // then label and table. Numbers of two bytes go high byte first. The program ends at a cut case or a table over 8,192 bytes.
+#![tactic(auto)]
+
 use libc::{STDIN_FILENO, STDOUT_FILENO};
 use touch::{Found, Setup, Verdict};
 

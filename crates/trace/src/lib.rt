@@ -1,4 +1,6 @@
 // 01, "The trace program", as a library: a trace is a value that takes the input a piece at a time and writes lines into a lent room.
+#![tactic(auto)]
+
 ghost use Rattle.std.specs.Prelude.{◌≡◌};
 ghost use Rattle.telling.specs.Memory.{remembering};
 ghost use Rattle.items.specs.Stages.{is_over};
@@ -27,7 +29,7 @@ pub use telling::LEAST_TEXT;
 // How many bytes of table must be lent; `table_bytes` in specs/.
 pub const TABLE_BYTES: usize = KEPT_RECORDS * RECORD_BYTES;
 
-#[derive(Drop)]
+#[derive(Clone, Copy)]
 pub struct Trace {
     stage: Stage,
     // The item that is being gathered, its kind first, and how many of its bytes have come.
@@ -39,7 +41,7 @@ pub struct Trace {
     panel: Panel,
 }
 
-#[derive(Drop)]
+#[derive(Clone, Copy)]
 pub enum Answer {
     Done,
     // Table, words, curve area or room are not what they must be; nothing was taken.
@@ -47,7 +49,7 @@ pub enum Answer {
 }
 
 // How much of the input was taken, and how many bytes of text were written.
-#[derive(Drop)]
+#[derive(Clone, Copy)]
 pub struct Stepped {
     pub answer: Answer,
     pub used: usize,
@@ -55,21 +57,21 @@ pub struct Stepped {
     pub trace: Trace,
 }
 
-#[derive(Drop)]
+#[derive(Clone, Copy)]
 pub struct Ended {
     pub answer: Answer,
     pub count: usize,
 }
 
 // What a byte or a report does to the trace, and how many bytes of text were written for it.
-#[derive(Drop)]
+#[derive(Clone, Copy)]
 struct TracePrinted {
     trace: Trace,
     count: usize,
 }
 
 // The same for a step, and how much of the input it took.
-#[derive(Drop)]
+#[derive(Clone, Copy)]
 struct Took {
     trace: Trace,
     used: usize,
@@ -79,7 +81,7 @@ struct Took {
 // The types below say what is to be done, which is found before anything lent is touched: a function that hands on what is lent is then short.
 
 // What stands at the front of the input.
-#[derive(Drop)]
+#[derive(Clone, Copy)]
 enum AtFront {
     // A report comes before any input.
     Waits,
@@ -90,7 +92,7 @@ enum AtFront {
 }
 
 // How much of the input a run took, the first byte where that is to be taken, and the trace to go on with.
-#[derive(Drop)]
+#[derive(Clone, Copy)]
 struct Found {
     front: AtFront,
     used: usize,
@@ -99,7 +101,7 @@ struct Found {
 }
 
 // What a byte of the input comes to.
-#[derive(Drop)]
+#[derive(Clone, Copy)]
 enum Comes {
     // Nothing is printed.
     Quiet,
@@ -112,7 +114,7 @@ enum Comes {
 }
 
 // The trace to go on with, and the item that is whole.
-#[derive(Drop)]
+#[derive(Clone, Copy)]
 struct Judged {
     comes: Comes,
     trace: Trace,
@@ -120,7 +122,7 @@ struct Judged {
 }
 
 // What the end of the input prints.
-#[derive(Drop)]
+#[derive(Clone, Copy)]
 enum Closing {
     Nothing,
     Says(Line),

@@ -1,5 +1,7 @@
 // The watched words of 02, §4, lent as three slices: addresses, uses (00 where an entry is not in use) and values last sent. Entry i is what stands
 // at place i of each; a place past a slice's end reads 0.
+#![tactic(auto)]
+
 use words::WordAddress;
 
 mod judging; // 16
@@ -14,7 +16,7 @@ pub use sending::send;
 pub const MOST_WATCHED: usize = 16;
 
 // What is due to be sent.
-#[derive(Drop)]
+#[derive(Clone, Copy)]
 pub enum Due {
     Nothing,
     // The address of the word.

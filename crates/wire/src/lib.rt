@@ -1,5 +1,7 @@
 // How 01's multi-byte numbers stand in bytes, and how a run of bytes is laid over the front of a lent room.
 // The only place where a byte order is written out.
+#![tactic(auto)]
+
 ghost use Rattle.std.specs.Prelude.{◌≡◌, ◌-◌, ◌<◌};
 ghost use Rattle.wire.specs.ByteOrder.{high_byte, low_byte, word, byte_at, word_at};
 
