@@ -4,9 +4,11 @@ use mathlib.Core.Bool.{Bool, true, false}
 use mathlib.Core.List.{List, [], ◌∷◌, ◌++◌}
 use Prim.Native.Nat.{ℕ, ◌+◌, ◌-◌, ◌≤◌}
 use lib.ListN.{length, take, drop, set, length-append}
-use lib.Seq.{sets-eq, take-length}
+use borrow.Rule.Slice.PartMut.{put_mid}
+use native.Mathlib.Omega.{arith}
+use lib.Seq.{sets-eq}
 use Rattle.wire.specs.Room.{over}
-use Rattle.wire.proofs.Over.{over_part, over_longer, take_over}
+use Rattle.wire.proofs.Over.{over_part, over_mid, over_longer, take_over}
 use Rattle.frame.specs.Frame.{check_length, check_bytes, enclosed}
 
 pub first_laid : (b : ℕ) (room : List ℕ) → 1 ≤ length room → set room 0 b ≡ over (b ∷ []) room
@@ -26,13 +28,11 @@ content_checked checking n content room l r is p q =
     q ∙ rw (front, p) (over_longer content (check_bytes checking content) room)
 
 -- a command laid first, and its data copied behind it
-pub command_laid : (command : ℕ) (payload room l r : List ℕ) → l ≡ over (command ∷ []) room
-    → r ≡ take (length payload) payload ++ drop (length payload) (take (length l - 1) (drop 1 l))
-    → take 1 l ++ (r ++ drop (length l - 1) (drop 1 l)) ≡ over (command ∷ payload) room
-unfolding over
+pub command_laid : (command : ℕ) (payload room l r : List ℕ) → l ≡ over (command ∷ []) room → r ≡ payload
+    → put_mid 1 (1 + length payload - 1) l r ≡ over (command ∷ payload) room
 command_laid command payload room l r p q =
-    let laid : r ≡ over payload (take (length l - 1) (drop 1 l)) = q ∙ ap (λ (s : List ℕ). s ++ drop (length payload) (take (length l - 1) (drop 1 l))) (take-length payload) in
-    over_part (command ∷ []) payload room l r 1 refl p laid
+    let n : length payload ≡ 1 + length payload - 1 = omega arith in
+    rw q (over_mid (command ∷ []) payload room l 1 (1 + length payload - 1) refl n p)
 
 pub length_prefix : (header : List ℕ) (l : ℕ) → length (header ++ (l ∷ [])) ≡ length header + 1
 length_prefix header l = length-append header (l ∷ [])

@@ -5,6 +5,7 @@ use mathlib.Core.List.{List, [], ◌∷◌, ◌++◌, append_assoc, append-nil}
 use Prim.Native.Nat.{ℕ, suc, ◌+◌, ◌-◌, ◌≤◌, ◌<◌}
 use native.Mathlib.Omega.{arith}
 use lib.ListN.{length, take, drop, set, get_or, length-append, length-drop}
+use borrow.Rule.Slice.PartMut.{put_mid}
 use lib.Seq.{take_at, drop_at, set_at, drop-cons, drop-drop, drop-append-add}
 use Rattle.wire.specs.Room.{over, Laid, lays, laid}
 use Rattle.wire.proofs.Parts.{part_whole, part_end}
@@ -45,6 +46,14 @@ over_part s t room l r n is p q =
     let behind : drop n l ≡ drop (length s) room = rw p (drop_over s room n is ∙ ap (λ (k : ℕ). drop k room) (sym is)) in
     let laid : r ≡ over t (drop (length s) room) = q ∙ ap (over t) (part_whole l n ∙ behind) in
     rw (front, part_end l n, append-nil, laid) (over_over s t room)
+
+-- a second run copied into just its place behind the first
+pub over_mid : (s t room l : List ℕ) (i n : ℕ) → length s ≡ i → length t ≡ n → l ≡ over s room → put_mid i n l t ≡ over (s ++ t) room
+unfolding over
+over_mid s t room l i n is long p =
+    let front : take i l ≡ s = rw p (take_over s room i is) in
+    let behind : drop i l ≡ drop (length s) room = rw p (drop_over s room i is ∙ ap (λ (k : ℕ). drop k room) (sym is)) in
+    rw (front, behind, ← long) (over_over s t room)
 
 -- the same bytes laid again, with more behind them
 pub over_longer : (s t room : List ℕ) → over (s ++ t) (over s room) ≡ over (s ++ t) room
