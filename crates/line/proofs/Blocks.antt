@@ -7,6 +7,7 @@ use native.Mathlib.Nat.{zero-add}
 use native.Mathlib.Omega.{arith}
 use native.Mathlib.Numerals.{one-add}
 use borrow.Author.Tests.{lt-ltb}
+use borrow.Rule.Slice.PartMut.{put_mid}
 use lib.Dec.{ltb}
 use lib.ListN.{length, get_or, take, drop, set, length-append, length-take, length-drop, take-append-drop}
 use lib.Seq.{drop-cons, length-take-le, take-length, drop-drop}
@@ -57,12 +58,12 @@ block_fold line xs (b ∷ block) rest w blind below few =
 -- a block laid behind the bytes held
 module _ (n k need : ℕ) (held bytes r : List ℕ) (below : k ≤ need - 1 - n) (known : n + 1 < need) (least : need ≤ longest_frame) (fits : k ≤ length bytes)
     (long : length held ≡ longest_frame) (front : held ≡ padded longest_frame (take n held))
-    (is-r : r ≡ take (length (take k bytes)) (take k bytes) ++ drop (length (take k bytes)) (take (length held - n) (drop n held))) where
-  pub block_laid : take n held ++ (r ++ drop (length held - n) (drop n held)) ≡ padded longest_frame (take n held ++ take k bytes)
+    (is-r : r ≡ take k bytes) where
+  pub block_laid : put_mid n (n + k - n) held r ≡ padded longest_frame (take n held ++ take k bytes)
   block_laid =
       let held_long : length (take n held) ≡ n = length-take-le n held (omega arith) in
-      let r-is : r ≡ take k bytes ++ drop (length (take k bytes)) (drop n held) = is-r ∙ rw (part_whole held n, take-length (take k bytes)) in
-      rw (part_end held n, append-nil r, r-is)
+      let as_long : n + k - n ≡ length (take k bytes) = omega (arith, length-take-le k bytes fits) in
+      rw (is-r, as_long)
       (ap (λ (l : List ℕ). take n l ++ (take k bytes ++ drop (length (take k bytes)) (drop n l))) front
       ∙ laid_behind longest_frame n (take n held) (take k bytes) held_long)
 

@@ -38,9 +38,9 @@ use Rattle.line.proofs.Asking.{ask_gives, nothing_asked, report_asked}
 pub end_inside : (n : ℕ) (held : List ℕ) → n ≤ longest_frame → length held ≡ longest_frame → n ≤ length held
 end_inside n held few long = omega arith
 
-pub copied_over : (xs out out' : List ℕ) → out' ≡ take (length xs) xs ++ drop (length xs) out → out' ≡ over xs out
+pub copied_over : (n : ℕ) (xs out part : List ℕ) → length xs ≡ n → part ≡ xs → part ++ drop n out ≡ over xs out
 unfolding over
-copied_over xs out out' is = is ∙ rw (take-length xs)
+copied_over n xs out part long is = rw (is, long)
 
 pub nothing_over : (from to : ℕ) (held out : List ℕ) → to ≤ from → out ≡ over (take (to - from) (drop from held)) out
 unfolding over
@@ -50,7 +50,7 @@ nothing_over from to held out none =
 
 pub over_empty : (size : ℕ) (xs out out' : List ℕ) → out ≡ padded size [] → out' ≡ over xs out → out' ≡ padded size xs
 unfolding over
-over_empty size xs out out' empty is = laid_empty size xs out out' empty (is ∙ rw (take-length xs))
+over_empty size xs out out' empty is = laid_empty size xs out out' empty is
 
 pub empty_room : (size n : ℕ) (out : List ℕ) → out ≡ padded size [] → n ≤ size → n ≤ length out
 empty_room size n out empty fits =

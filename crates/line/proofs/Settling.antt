@@ -120,12 +120,6 @@ module _ (line : Line) (n : ℕ) (held : List ℕ) (stop : Stop) (is : stop ≡ 
   held_unmoved none front = front ∙ ap (padded longest_frame) (sym (left_is line false bytes stop is ∙ ap (λ (k : ℕ). drop k bytes) none))
 
   pub held_moved : (left held' : List ℕ) → left ≡ padded longest_frame (take (n - stop.at) (drop stop.at held))
-      → held' ≡ take (length left) left ++ drop (length left) held → held' ≡ padded longest_frame (left_of line bytes)
-  held_moved left held' is-left is_held_lem =
-      let front : left ≡ padded longest_frame (left_of line bytes) =
-      is-left ∙ ap (padded longest_frame) (sym (left_is line false bytes stop is ∙ drop_take stop.at n held)) in
-      let few-left : length (left_of line bytes) ≤ longest_frame = omega (arith, left_long line false bytes stop is, bytes_long) in
-      let full : length left ≡ longest_frame = rw front (length_padded longest_frame (left_of line bytes) few-left) in
-      let past : length held ≤ length left = omega arith in
-      let none : drop (length left) held ≡ [] = drop_of_length-le held past in
-      is_held_lem ∙ rw (none, take-length left, append-nil) front
+      → held' ≡ left → held' ≡ padded longest_frame (left_of line bytes)
+  held_moved left held' is-left held-is =
+      held-is ∙ is-left ∙ ap (padded longest_frame) (sym (left_is line false bytes stop is ∙ drop_take stop.at n held))

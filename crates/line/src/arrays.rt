@@ -27,7 +27,7 @@ pub(crate) fn packed(s: &[u8]) -> [u8; LONGEST_FRAME]
     ensures { result ≡ padded longest_frame s.now }
 {
     let mut out = no_bytes();
-    bytes::copy(s, &mut out);
+    out[..s.len()].copy_from_slice(s);
     out
 }
 
@@ -37,7 +37,7 @@ fn copy_held(reader: Reader, from: usize, to: usize, out: &mut [u8])
     ensures { out.new ≡ over (take (to - from) (drop from reader.held)) out.old }
 {
     let held = reader.held;
-    bytes::copy(&held[from..to], out);
+    out[..to - from].copy_from_slice(&held[from..to]);
 }
 
 // The same, where nothing may be there to lay. A reader lent by value is copied at a call: so the call stands behind the test.

@@ -45,7 +45,7 @@ fn take_block(held: &mut [u8], n: usize, need: usize, bytes: &[u8]) -> usize
         held[n] = bytes[0];
         return 1;
     }
-    bytes::copy(&bytes[..k], &mut held[n..]);
+    held[n..n + k].copy_from_slice(&bytes[..k]);
     k
 }
 

@@ -20,7 +20,7 @@ pub(crate) fn settle_in(line: Line, held: &mut [u8], n: usize) -> Rest
         return Rest { len: n, head: head };
     }
     let left = arrays::packed(&held[at..n]);
-    bytes::copy(&left, held);
+    held.copy_from_slice(&left);
     Rest {
         len: n - at,
         head: head,
