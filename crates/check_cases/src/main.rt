@@ -4,7 +4,7 @@
 
 ghost use Rattle.std.specs.Prelude.{◌<◌};
 
-use libc::STDOUT_FILENO;
+use std::io::{self, BufWriter, Write};
 
 // The next of a run of numbers below 2^31.
 fn stir(x: u64) -> u64
@@ -25,39 +25,31 @@ fn element(kind: u64, i: usize, x: u64) -> u8 {
 
 fn fill(kind: u64, seed: u64, list: &mut [u8]) {
     let mut x = seed;
-    let mut i = 0;
-    while i < list.len() {
+    for (i, b) in list.iter_mut().enumerate() {
         x = stir(x);
-        list[i] = element(kind, i, x);
-        i += 1;
+        *b = element(kind, i, x);
     }
 }
 
-fn print_case(kind: u64, n: usize, space: &mut [u8]) {
-    if n <= space.len() {
-        let list = &mut space[..n];
-        fill(kind, n as u64, list);
-        io::print_decimal(STDOUT_FILENO, kind);
-        io::write_all(STDOUT_FILENO, b" ");
-        io::print_decimal(STDOUT_FILENO, n as u64);
-        io::write_all(STDOUT_FILENO, b" ");
-        io::print_hex(STDOUT_FILENO, check_value::check_value(list) as u64, 4);
-        io::write_all(STDOUT_FILENO, b"\n");
-    }
+fn print_case<W: Write>(out: &mut W, kind: u64, list: &mut [u8]) -> io::Result<()> {
+    let n = list.len();
+    fill(kind, n as u64, list);
+    let value = check_value::check_value(list);
+    writeln!(out, "{kind} {n} {value:04x}")
 }
 
-fn print_kind(kind: u64) {
+fn print_kind<W: Write>(out: &mut W, kind: u64) -> io::Result<()> {
     let mut space = [0u8; 300];
-    let mut n = 0;
-    while n < 301 {
-        print_case(kind, n, &mut space);
-        n += 1;
+    for n in 0..=300 {
+        print_case(out, kind, &mut space[..n])?;
     }
+    Ok(())
 }
 
-fn main() {
-    print_kind(0);
-    print_kind(1);
-    print_kind(2);
-    print_kind(3);
+fn main(rt: HostRuntime) -> io::Result<()> {
+    let mut out = BufWriter::new(rt.alloc(), io::writer(&rt))?;
+    for kind in 0..4 {
+        print_kind(&mut out, kind)?;
+    }
+    out.flush()
 }
