@@ -16,7 +16,7 @@ fn put(records: usize, item: [u8; ITEM_BYTES], table: &mut [u8])
 {
     if records < KEPT_RECORDS {
         let at = records * RECORD_BYTES;
-        bytes::copy(&item[1..], &mut table[at..]);
+        table[at..at + RECORD_BYTES].copy_from_slice(&item[1..]);
     }
 }
 
