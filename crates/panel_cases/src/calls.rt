@@ -1,106 +1,167 @@
-// Starting a panel, giving it bytes, marks and seconds, and the calls at which nothing is lent.
-use crate::{Bench, answers, lending, listing, say, script, showing, touching};
-use panel::{Panel, StartAnswer};
+// The panel's calls.
+use crate::lending::part_of;
+use crate::{Bench, Lent, answers, script};
+use panel::{Contacted, Panel, Reported, StartAnswer};
+use std::io::{self, Read, Write};
 
 // How many bytes may be given at once.
 const PIECE: usize = 4096;
 
-fn is_started(a: StartAnswer) -> bool {
-    match a {
-        StartAnswer::Started => true,
-        StartAnswer::WrongSetup => false,
-        StartAnswer::NotRecords => false,
-        StartAnswer::WrongRecord(_) => false,
+// A panel that is refused leaves the one before.
+pub fn start<R: Read, W: Write>(bench: &mut Bench, script: &mut R, out: &mut W) -> io::Result<()> {
+    let setup = script::next_setup(script)?;
+    let n = part_of(bench.lent.table, bench.table.len());
+    let started = Panel::start(setup, &bench.table[..n]);
+    if let StartAnswer::Started = started.answer {
+        bench.panel = started.panel;
     }
+    answers::say_start(out, started.answer)
 }
 
-pub fn start(bench: Bench, table: &[u8]) -> Bench {
-    let setup = script::next_setup();
-    let n = lending::part_of(bench.table, table.len());
-    let s = Panel::start(setup, &table[0..n]);
-    let a = s.answer;
-    let panel = s.panel;
-    answers::say_start(a);
-    if is_started(a) {
-        return Bench {
-            panel: panel,
-            ..bench
-        };
-    }
-    bench
+pub fn give_byte<R: Read, W: Write>(
+    bench: &mut Bench,
+    script: &mut R,
+    out: &mut W,
+) -> io::Result<()> {
+    let fed = bench.panel.give_byte(script::next_byte(script)?);
+    bench.panel = fed.panel;
+    answers::say_input(out, "B", fed.answer)
 }
 
-fn give_byte(bench: Bench) -> Bench {
-    let b = script::next_byte();
-    let panel = bench.panel;
-    let fed = panel.give_byte(b);
-    let a = fed.answer;
-    let next = fed.panel;
-    say::text(b"B ");
-    answers::say_input(a);
-    Bench {
-        panel: next,
-        ..bench
-    }
-}
-
-fn give_bytes(bench: Bench) -> Bench {
+pub fn give_bytes<R: Read, W: Write>(
+    bench: &mut Bench,
+    script: &mut R,
+    out: &mut W,
+) -> io::Result<()> {
     let mut bytes = [0u8; PIECE];
-    let n = script::next_word() as usize;
-    script::fill(&mut bytes, n);
+    let n = script::next_count(script)?;
     if n <= PIECE {
-        let panel = bench.panel;
-        let fed = panel.give_bytes(&bytes[0..n]);
-        let next = fed.panel;
-        say::text(b"G ");
-        say::number(fed.used);
-        say::text(b"\n");
-        return Bench {
-            panel: next,
-            ..bench
-        };
+        let given = &mut bytes[..n];
+        script::fill(script, given)?;
+        let fed = bench.panel.give_bytes(given);
+        bench.panel = fed.panel;
+        let used = fed.used;
+        writeln!(out, "G {used}")?;
     }
-    bench
+    Ok(())
 }
 
-fn give_mark(bench: Bench) -> Bench {
-    let panel = bench.panel;
-    let fed = panel.give_mark();
-    let a = fed.answer;
-    let next = fed.panel;
-    say::text(b"M ");
-    answers::say_input(a);
-    Bench {
-        panel: next,
-        ..bench
-    }
+pub fn give_mark<W: Write>(bench: &mut Bench, out: &mut W) -> io::Result<()> {
+    let fed = bench.panel.give_mark();
+    bench.panel = fed.panel;
+    answers::say_input(out, "M", fed.answer)
 }
 
-fn give_second(bench: Bench) -> Bench {
-    let panel = bench.panel;
-    let fed = panel.give_second();
-    let a = fed.answer;
-    let next = fed.panel;
-    say::text(b"P ");
-    answers::say_input(a);
-    Bench {
-        panel: next,
-        ..bench
-    }
+pub fn give_second<W: Write>(bench: &mut Bench, out: &mut W) -> io::Result<()> {
+    let fed = bench.panel.give_second();
+    bench.panel = fed.panel;
+    answers::say_input(out, "P", fed.answer)
 }
 
-// Calls at which nothing is lent.
-pub fn plain(bench: Bench, letter: u8) -> Bench {
-    match letter {
-        b'#' => lending::title(bench),
-        b'L' => lending::lend(bench),
-        b'W' => listing::lend(bench),
-        b'B' => give_byte(bench),
-        b'G' => give_bytes(bench),
-        b'M' => give_mark(bench),
-        b'P' => give_second(bench),
-        b'U' => touching::lift(bench),
-        b'I' => showing::show_moment(bench),
-        _ => bench,
-    }
+// What a panel reports where so much of the arrays is lent.
+fn reported(
+    panel: Panel,
+    lent: Lent,
+    words: &mut [u16],
+    curves: &mut [u16],
+    room: &mut [u8],
+    addresses: &[u16],
+    uses: &[u8],
+    values: &mut [u16],
+) -> Reported {
+    let n = part_of(lent.words, words.len());
+    let k = part_of(lent.curves, curves.len());
+    let m = part_of(lent.room, room.len());
+    let a = part_of(lent.addresses, addresses.len());
+    let u = part_of(lent.uses, uses.len());
+    let v = part_of(lent.values, values.len());
+    panel.report(
+        &mut words[..n],
+        &mut curves[..k],
+        &mut room[..m],
+        &addresses[..a],
+        &uses[..u],
+        &mut values[..v],
+    )
+}
+
+pub fn ask<W: Write>(bench: &mut Bench, out: &mut W) -> io::Result<()> {
+    let Bench {
+        panel,
+        table: _,
+        words,
+        curves,
+        room,
+        addresses,
+        uses,
+        values,
+        lent,
+    } = bench;
+    let reported = reported(*panel, *lent, words, curves, room, addresses, uses, values);
+    *panel = reported.panel;
+    let v = part_of(lent.values, values.len());
+    answers::say_reported(out, &reported, room, &values[..v])
+}
+
+// What a contact with a panel leaves where so much of the arrays is lent.
+fn contacted(
+    panel: Panel,
+    lent: Lent,
+    table: &[u8],
+    words: &mut [u16],
+    room: &mut [u8],
+    addresses: &[u16],
+    uses: &[u8],
+    values: &mut [u16],
+    x: u16,
+    y: u16,
+) -> Contacted {
+    let t = part_of(lent.table, table.len());
+    let n = part_of(lent.words, words.len());
+    let m = part_of(lent.room, room.len());
+    let a = part_of(lent.addresses, addresses.len());
+    let u = part_of(lent.uses, uses.len());
+    let v = part_of(lent.values, values.len());
+    panel.contact(
+        &table[..t],
+        &mut words[..n],
+        &mut room[..m],
+        &addresses[..a],
+        &uses[..u],
+        &mut values[..v],
+        x,
+        y,
+    )
+}
+
+pub fn contact<R: Read, W: Write>(
+    bench: &mut Bench,
+    script: &mut R,
+    out: &mut W,
+) -> io::Result<()> {
+    let x = script::next_word(script)?;
+    let y = script::next_word(script)?;
+    let Bench {
+        panel,
+        table,
+        words,
+        curves: _,
+        room,
+        addresses,
+        uses,
+        values,
+        lent,
+    } = bench;
+    let contacted = contacted(
+        *panel, *lent, table, words, room, addresses, uses, values, x, y,
+    );
+    *panel = contacted.panel;
+    let v = part_of(lent.values, values.len());
+    answers::say_contacted(out, &contacted, room, &values[..v])
+}
+
+pub fn lift<W: Write>(bench: &mut Bench, out: &mut W) -> io::Result<()> {
+    let lifted = bench.panel.lift();
+    bench.panel = lifted.panel;
+    answers::say_lift(out, lifted.answer)
 }
