@@ -36,14 +36,23 @@ class Function:
     proof: str
 
 
-def crates():
-    """Each crate that crates.txt lists, with what it is built on. A name may have more words behind it, as `staticlib`."""
-    listed = {}
+def listed():
+    """Each crate that crates.txt lists, with the words behind its name and with what it is built on."""
     for line in (TOP / "crates.txt").read_text().split("\n"):
         head, _, needs = line.partition("#")[0].partition(":")
         if head.strip():
-            listed[head.split()[0]] = needs.split()
-    return listed
+            name, *words = head.split()
+            yield name, words, needs.split()
+
+
+def crates():
+    """Each crate with what it is built on."""
+    return {name: needs for name, _, needs in listed()}
+
+
+def is_static(crate):
+    """Whether a crate is a static library, which C calls."""
+    return any(name == crate and "staticlib" in words for name, words, _ in listed())
 
 
 def known_to(crate):
