@@ -70,7 +70,7 @@ def chosen(path=None, usual=BUILT):
 
 
 def native():
-    """The program compiled for this machine. tools/native compiles it again where the code is newer."""
+    """The program that tools/native compiles, again where the code is newer."""
     if subprocess.run([TOP / "tools" / "native", BUILT.name, NATIVE]).returncode:
         sys.exit(f"tools/native could not build {BUILT.name}")
     return NATIVE
