@@ -15,7 +15,7 @@ static void keep_least(double *least, double t) {
     if (t < *least) *least = t;
 }
 
-/* Turns go on for some time, so that the best is one of many on a fast machine and one of a few under an emulator. */
+/* Turns go on for some time, so that the best is one of many. */
 static int goes_on(int turns, double began) { return turns < 2 || now() - began < 0.4; }
 
 /* Ends a line for bench/table.py, which begins with what was measured: the unit, plain C's figure and that of the proved code. */

@@ -4,11 +4,9 @@ Every line of a file of figures has what was measured, the unit, plain C's figur
 times counts with the best of each.
 """
 import pathlib
-import platform
 import sys
 
 OUT = pathlib.Path(__file__).resolve().parent / "out"
-KIT = "as the kit builds it" if platform.machine() == "x86_64" else "under the emulator"
 WHAT, FIGURE, RATIO = 40, 10, 7     # the columns' widths
 SIDE = 2 * FIGURE + RATIO
 
@@ -39,7 +37,7 @@ def side(unit, plain, proved):
 
 def heading():
     sides = f"{'proved':>{FIGURE}}{'plain C':>{FIGURE}}{'ratio':>{RATIO}}"
-    return f"{'':{WHAT}}{f'native, {platform.machine()}':>{SIDE}}{KIT:>{SIDE}}\n{'':{WHAT}}{sides}{sides}"
+    return f"{'':{WHAT}}{'by tools/native':>{SIDE}}{'as rt builds it':>{SIDE}}\n{'':{WHAT}}{sides}{sides}"
 
 
 def main(names):

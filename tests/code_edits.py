@@ -82,11 +82,12 @@ def conditions(text):
 
 
 def calls(text):
-    """A call whose answer nobody takes is left out."""
-    for found in re.finditer(r"^ *((?:\w+(?:::|\.))*\w+)\(", text, re.M):
+    """A call whose answer nobody takes, or takes for more than an error, is left out. `prove!` does nothing when it runs."""
+    for found in re.finditer(r"^ *((?!prove!)(?:\w+(?:::|\.))*\w+!?)\(", text, re.M):
         end = source.behind(text, found.end() - 1)
-        if text[end:end + 1] == ";":
-            yield "call left out", found.start(1), text[found.start(1):end + 1], ""
+        tail = re.compile(r"\??;").match(text, end)
+        if tail:
+            yield "call left out", found.start(1), text[found.start(1):tail.end()], ""
 
 
 def like_fields(crates):

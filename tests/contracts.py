@@ -5,8 +5,8 @@ No `pub fn` has a `requires`, wherever it stands: one that has is `pub(crate)` a
 Type::method; `source.py` says what is public)
 - has an `ensures`;
 - stands in docs/CONTRACTS.md, in a row below the heading of its crate, with what it answers and at least two wrong answers that are ruled out;
-- has a theorem NAME-determined in its crate's proofs/Determined.antt (in NAME - for _), which speaks of the contract of this very function and of
-  each thing that it is lent to change, and which proofs/Lib.antt declares, so that it is checked.
+- has a theorem NAME_determined in its crate's proofs/Determined.antt, which speaks of the contract of this very function and of each thing that it is
+  lent to change, and which proofs/Lib.antt declares, so that it is checked.
 The table below "Exceptions" in docs/CONTRACTS.md names, as `crate::function`, those for which none of the three holds, each with its cause. A row that
 names no public function is wrong too.
 """
@@ -97,9 +97,9 @@ def read(crate, file):
 
 
 def theorem_names(function):
-    short = function.name.rpartition("::")[2].replace("_", "-")
-    long = function.name.lower().replace("::", "-").replace("_", "-")
-    return [f"{long}-determined", f"{short}-determined"]
+    short = function.name.rpartition("::")[2]
+    long = function.name.lower().replace("::", "_")
+    return [f"{long}_determined", f"{short}_determined"]
 
 
 def statement(text, theorem):
@@ -119,10 +119,10 @@ def theorem_fault(function, others):
         return f"no theorem {names[-1]} in crates/{function.crate}/proofs/Determined.antt"
     if not re.search(r"^(pub )?mod Determined$", read(function.crate, "Lib.antt"), re.M):
         return f"crates/{function.crate}/proofs/Lib.antt does not declare Determined"
-    alias = re.search(rf"^use \S+\.proofs\.{re.escape(function.proof)}\.Reads as (\S+)$", text, re.M)
+    alias = re.search(rf"^use Rattle\.{function.crate}\.proofs\.{re.escape(function.proof)}\.Reads as (\S+)$", text, re.M)
     if not alias or f" {alias.group(1)}.Post" not in says or "OneAnswer" not in says:
         return f"the theorem {names[-1]} does not say OneAnswer of the contract of {function.name}"
-    lent, left = function.parameters.count("&mut "), says.count("now (s ")
+    lent, left = function.parameters.count("&mut "), len(re.findall(r"\bs(?:\.\d)+\.now\b", says))
     if lent != left:
         return f"{function.name} is lent {lent} things to change, and the theorem {names[-1]} speaks of {left}"
     return None

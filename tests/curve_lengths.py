@@ -78,7 +78,7 @@ def troubles():
         trace, due = every_frame(flags)
         if program.run(panel, trace) != due.encode():
             yield f"flags {flags}: the program does not answer every 84 as it should"
-    cases = program.command(program.chosen(built=program.BUILT.with_name("panel_cases")))
+    cases = program.command(program.chosen(usual=program.built("panel_cases")))
     for waits in (False, True):
         script, due = every_area(waits)
         if program.run(cases, script) != due.encode():

@@ -11,20 +11,20 @@ import source
 
 # What is put for a name or a sign. For `not` there is nothing.
 OTHERS = {
-    "ltb": "leb", "leb": "ltb", "ltZ": "leZ", "leZ": "ltZ", "<": "≤", "≤": "<", "&&": "||", "||": "&&", "true": "false", "false": "true", "not": "",
+    "ltb": "leb", "leb": "ltb", "lt_z": "le_z", "le_z": "lt_z", "<": "≤", "≤": "<", "&&": "||", "||": "&&", "true": "false", "false": "true", "not": "",
 }
 
 # Where a file has to take the names from that an edit may bring in.
 FROM = {
-    "ltb": "lib.Dec", "leb": "lib.Dec", "ltZ": "lib.Signed", "leZ": "lib.Signed", "_<_": "Prim.Native.Nat", "_≤_": "Prim.Native.Nat",
-    "_&&_": "mathlib.Core.Bool", "_||_": "mathlib.Core.Bool", "true": "mathlib.Core.Bool", "false": "mathlib.Core.Bool",
+    **dict.fromkeys(["ltb", "leb", "◌<◌", "◌≤◌", "◌&&◌", "◌||◌", "true", "false"], "Rattle.std.specs.Prelude"),
+    **dict.fromkeys(["lt_z", "le_z"], "Rattle.std.specs.Int.Signed"),
 }
 
 SIGNS = {"∷", "++", "&&", "||", "+", "-", "*", "/", "%", "^", "+ℤ", "-ℤ", "≡", "<", "≤", "×", "⊎", "when"}
 NUMBER = r"0x[0-9A-F]+|\d+"
 
 # The definitions that say the number of an answer, or list the conditions in order.
-ANSWERS = re.compile(r"numberOf\w+|\w*Number|\w*Said|\w*Listed")
+ANSWERS = re.compile(r"number_of_\w+|\w+_number|\w+_said|\w+_listed")
 
 
 class Part:
@@ -137,8 +137,9 @@ def differences(text, these):
 def fields(text, these, like):
     """A field for another of the same type, and the values of two neighbours of the same type."""
     for part in every(these):
-        for other in sorted(like.get(part.text[1:], ())) if re.fullmatch(r"\.\w+", part.text) else ():
-            yield "field", part.begin + 1, part.text[1:], other
+        for found in re.finditer(r"\.(\w+)", part.text) if part.inside is None else ():
+            for other in sorted(like.get(found.group(1), ())):
+                yield "field", part.begin + found.start(1), found.group(1), other
         if part.inside and part.text.startswith("{"):
             given = split(part.inside, lambda each: each.text == ";")
             for one, other in itertools.pairwise(given):
@@ -159,7 +160,7 @@ def cases(text, sides):
     """The right sides of two neighbouring clauses, where neither speaks of what only its own left side binds."""
     for (one, first), (other, second) in itertools.pairwise(sides):
         left, right = ({part.text for part in every(each)} for each in (one, other))
-        free = not any(part.text in left ^ right for part in every([*first, *second]))
+        free = not any(part.text.partition(".")[0] in left ^ right for part in every([*first, *second]))
         if free and [part.text for part in first] != [part.text for part in second]:
             yield "cases", *exchanged(text, span(first), span(second))
 
@@ -223,6 +224,6 @@ def with_names(text):
     code = re.sub(r"^use .*$", "", definitions.without_comments(text), flags=re.M)
     used = set(re.findall(r"[^\s(){};,]+", code))
     for name, module in FROM.items():
-        if name.strip("_") in used and not re.search(r"^use .*[{ ]%s[,}]" % re.escape(name), text, re.M):
+        if name.strip("◌") in used and not re.search(r"^use .*[{ ]%s[,}]" % re.escape(name), text, re.M):
             text = re.sub(r"^(use %s\.\{)" % re.escape(module), r"\g<1>%s, " % name, text, count=1, flags=re.M)
     return text

@@ -157,7 +157,7 @@ def members():
 def uses(file):
     """What each name that a file uses stands for, and which of them stand for whole modules."""
     names, modules = {}, {}
-    form = r"^\s*(?:ghost )?use Rattle·(\w+)(?:·\w+)?\.(specs|proofs)\.(\w+(?:\.\w+)*)(?:\.\{([^}]*)\}| as (\S+?));?$"
+    form = r"^\s*(?:ghost )?use Rattle\.(\w+)\.(specs|proofs)\.(\w+(?:\.\w+)*)(?:\.\{([^}]*)\}| as (\S+?));?$"
     for crate, side, module, listed, alias in re.findall(form, file.read_text(), re.M):
         for name in source.split_items(listed):
             old, _, new = name.partition(" as ")
@@ -173,7 +173,7 @@ def spoken_of(text, file, own=()):
     keys = [(*modules[alias], name) for alias, name in re.findall(r"(?<![^\s(){};,])(%s)\.(%s)" % (WORD, WORD), text) if alias in modules]
     for word in set(re.findall(WORD, text)):
         # An operator stands between or around what it is applied to.
-        for name in {word, f"_{word}_", f"_{word}", f"{word}_"}:
+        for name in {word, f"◌{word}◌", f"◌{word}", f"{word}◌"}:
             keys.append(names.get(name) or (*own, name))
     return {members().get(key, key) for key in keys} & declarations().keys()
 
@@ -200,7 +200,8 @@ def promised():
 
 
 def claimed():
-    """The theorems and definitions that docs/CLAIMS.md names. Of crates that share a name those are meant that the section speaks of, where there are such."""
+    """The theorems and definitions that docs/CLAIMS.md names. Of crates that share a name the one is meant that stands before it, as in `text::longest_line`;
+    else those that the section speaks of, where there are such."""
     named = collections.defaultdict(list)
     for key, each in declarations().items():
         if "pub" in each.words:
@@ -208,8 +209,10 @@ def claimed():
     found = collections.defaultdict(set)
     for section in re.split(r"^## ", (TOP / "docs" / "CLAIMS.md").read_text(), flags=re.M):
         crates = {crate for crate in source.crates() if re.search(rf"(?<![\w/]){crate}/|[Cc]rates? `?{crate}\b", section)}
-        for name in re.findall(r"`([^`\s]+)`", section):
-            for key in [key for key in named[name] if key[0] in crates] or named[name]:
+        for text in re.findall(r"`([^`\s]+)`", section):
+            crate, _, name = text.rpartition("::")
+            meant = [key for key in named[name] if key[0] in ({crate} if crate else crates)]
+            for key in meant or named[text]:
                 found[key].add(f"the claim {key[0]} {name}")
     return found
 

@@ -31,7 +31,12 @@ class Gate(NamedTuple):
     said: str = ""      # a line that must stand in the output, too
 
 
-RT_RIGHT, TESTS_RIGHT = "echo 'rt: ok'; echo '92 passed, 0 failed'", "print('20 right, 0 wrong')"
+def rt_right(edits="; must-fail edits: 30 refused"):
+    """What rt says where all is proved, with what it says of the must-fail edits."""
+    return f"echo 'rt: ok; handles allowed: none{edits}; every proof and must-fail edit was done in this run'; echo '92 passed, 0 failed'"
+
+
+RT_RIGHT, TESTS_RIGHT = rt_right(), "print('20 right, 0 wrong')"
 GATES = [
     Gate("all right", RT_RIGHT, TESTS_RIGHT, "112 passed, 0 failed", "rt ci: 92 right, 0 wrong"),
     Gate("rt fails one", "echo 'rt: FAILED: wire'; echo '91 passed, 1 failed'; exit 1", TESTS_RIGHT, "111 passed, 1 failed", "rt ci: 91 right, 1 wrong"),
@@ -42,13 +47,23 @@ GATES = [
     Gate("rt is killed behind a closing line", "echo '5 passed, 0 failed'; echo more; kill -9 $$", TESTS_RIGHT, "20 passed, 1 failed",
          "rt ci ended with status 137 and without a closing line"),
     Gate("rt says nothing", "", TESTS_RIGHT, "20 passed, 1 failed", "rt ci ended with status 0 and without a closing line"),
-    Gate("rt fails and counts nothing", "echo '92 passed, 0 failed'; exit 3", TESTS_RIGHT, "112 passed, 1 failed",
+    Gate("rt fails and counts nothing", f"{RT_RIGHT}; exit 3", TESTS_RIGHT, "112 passed, 1 failed",
          "rt ci ended with status 3, though it counts nothing wrong"),
+    Gate("rt cannot apply two edits", rt_right("; must-fail edits: 28 refused, 1 of them only by a limit, 2 bad"), TESTS_RIGHT, "112 passed, 2 failed",
+         "rt ci: must-fail edits that could not be applied: 2"),
+    Gate("rt can apply no edit", rt_right("; must-fail edits: 0 refused, 30 bad"), TESTS_RIGHT, "112 passed, 30 failed",
+         "rt ci: must-fail edits that could not be applied: 30"),
+    Gate("rt has no edit that it cannot apply", rt_right("; must-fail edits: 30 refused, 0 bad"), TESTS_RIGHT, "112 passed, 0 failed"),
+    Gate("there is no edit", rt_right(""), TESTS_RIGHT, "112 passed, 0 failed"),
+    Gate("rt does not say what it did", "echo '92 passed, 0 failed'", TESTS_RIGHT, "112 passed, 1 failed",
+         "rt ci counts nothing wrong and has no line 'rt: ok', which says how many must-fail edits are bad"),
+    Gate("rt took a few crates alone", "echo 'rt: wire and the crates below passed'; echo '1 passed, 0 failed (wire and the crates below alone: not the gate)'", TESTS_RIGHT,
+         "20 passed, 1 failed", "rt ci ended with status 0 and without a closing line"),
     Gate("rt did nothing", "echo '0 passed, 0 failed'", TESTS_RIGHT, "20 passed, 1 failed", "rt ci counts nothing at all"),
     Gate("the tests die", RT_RIGHT, "raise SystemError('no more')", "92 passed, 1 failed", "tests/run ended with status 1 and without a closing line"),
     Gate("a test that fails says what reads well", RT_RIGHT, "print('7 passed, 0 failed\\nof all: 8 passed, 0 failed\\n19 right, 1 wrong'); exit(1)",
          "111 passed, 1 failed", "of all: 8 right, 0 failed"),
-    Gate("a last line without a line feed", "printf '92 passed, 0 failed'", TESTS_RIGHT, "112 passed, 0 failed"),
+    Gate("a last line without a line feed", "echo 'rt: ok'; printf '92 passed, 0 failed'", TESTS_RIGHT, "112 passed, 0 failed"),
 ]
 
 

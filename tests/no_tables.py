@@ -18,7 +18,7 @@ import source
 from source import TOP
 
 EXPORTED = "panel_check_value"
-LIBRARY = TOP / "target" / "staticlib" / "libcheck_bench.a"
+FOLDER = TOP / "crates" / "check_bench"
 FEWEST = 16     # so many bytes of data are a table
 ARRAY = re.compile(r"\bconst\b|\bstatic\b|\[\s*[^\]\s;]+\s*;")
 # Entries 1 to 3 of the table of the low nibble, with which that of the byte begins too, and of the high nibble, as they stand in memory.
@@ -93,15 +93,15 @@ def source_troubles():
 # ---- What is asked about
 
 def library():
-    done = subprocess.run(["rt", "staticlib", "check_bench"], cwd=TOP, capture_output=True, text=True)
+    done = subprocess.run(["rt", "lib"], cwd=FOLDER, capture_output=True, text=True)
     if done.returncode:
-        sys.exit(f"rt staticlib check_bench: {(done.stderr or done.stdout).strip()}")
-    return LIBRARY.read_bytes()
+        sys.exit(f"rt lib in crates/check_bench: {(done.stderr or done.stdout).strip()}")
+    return (FOLDER / "out" / "libcheck_bench.a").read_bytes()
 
 
 def compiled(text):
-    """Plain C, as the kit's clang compiles proved code."""
-    clang = program.toolchain() / "bin" / "clang"
+    """Plain C, as tools/native has the kit's clang compile it."""
+    clang = program.kit() / "toolchain" / "bin" / "clang"
     with tempfile.TemporaryDirectory() as folder:
         made, written = pathlib.Path(folder, "made.o"), pathlib.Path(folder, "written.c")
         written.write_text(text)

@@ -21,20 +21,20 @@ SECONDS = 60
 
 CRATES = "# what is needed\nwire:\nframe: wire bytes\npanel_trace: frame wire io\nother: wire\n"
 
-# In the place of rt: `doc` names a kit whose emulator runs a program as it is; `check` says what rt says, and builds where SOUND is set.
+# In the place of rt, in the program's folder: `run` says what rt says, builds where SOUND is set, and prints as the program does of an empty trace.
 RT = """#!/bin/sh
-case $1 in
-doc) echo "$KIT/docs/START-HERE.md" ;;
-check)
-    echo "rt: wire proved (unchanged since it was last proved)"
+[ "$*" = run ] && [ "${PWD##*/}" = panel_trace ] || { echo "rt: $* in $PWD" >&2; exit 2; }
+{
+    echo "rt: frame: begins with what a check kept in another copy"
+    echo "rt: chose --jobs 2 for frame"
     echo "fn frame::f: proved"
-    echo "rt: frame proved (1 s)"
-    [ -n "$SOUND" ] || { echo "rt: panel_trace NOT PROVED (exit 1, 1 s)"; exit 1; }
-    echo "rt: panel_trace proved (2 s)"
-    mkdir -p target/bin && printf '#!/bin/sh\\n%s\\n' "$PROGRAM" >target/bin/panel_trace && chmod +x target/bin/panel_trace ;;
-esac
+    echo "rt: chose --jobs 2 for panel_trace"
+    [ -n "$SOUND" ] || { echo "logic=not-proved"; exit 1; }
+    mkdir -p out && printf '#!/bin/sh\\n%s\\n' "$PROGRAM" >out/panel_trace && chmod +x out/panel_trace
+    echo "rt: running out/panel_trace; to give it other input, run that file yourself"
+} >&2
+echo "X 15"
 """
-EMULATOR = '#!/bin/sh\nshift 3\nexec "$@"\n'
 
 
 def run(script, *words, **more):
@@ -58,7 +58,7 @@ def misuses(folder):
     bare = folder / "panel"
     shutil.copy(SCRIPT, bare)
     (folder / "crates.txt").write_text(CRATES)
-    (folder / "crates").mkdir()
+    (folder / "crates" / "panel_trace" / "src").mkdir(parents=True)
     for option in ("--help", "-h"):
         done = run(bare, option)
         yield trouble(option, done, 0, said="") or (b"use: ./panel [FILE]" not in done.stdout and f"{option}: no line of use") or None
@@ -75,36 +75,37 @@ def misuses(folder):
 
 # ---- Building
 
-def kit_in(folder):
-    emulator = folder / "kit" / "on" / os.uname().machine / "toolchain" / "bin" / "qemu-x86_64"
-    emulator.parent.mkdir(parents=True)
-    for path, text in ((emulator, EMULATOR), (folder / "rt", RT)):
-        path.write_text(text)
-        path.chmod(0o755)
-
-
 def around(folder, words, sound="yes"):
-    return {**os.environ, "PATH": f"{folder}:{os.environ['PATH']}", "KIT": str(folder / "kit"), "SOUND": sound, "PROGRAM": words}
+    """What stands around a call of the script: rt, and the program that it builds."""
+    (folder / "rt").write_text(RT)
+    (folder / "rt").chmod(0o755)
+    return {**os.environ, "PATH": f"{folder}:{os.environ['PATH']}", "SOUND": sound, "PROGRAM": words}
+
+
+def built_in(folder):
+    return folder / "crates" / "panel_trace" / "out" / "panel_trace"
 
 
 def builds(folder):
     script = folder / "panel"
-    kit_in(folder)
     done = run(script, env=around(folder, "", sound=""))
     yield trouble("a build that fails", done, 2, b"") or (b"could not be built; what rt said is in" not in done.stderr and f"a build that fails: {done.stderr!r}") or None
-    yield "what rt said is not in the log" if b"NOT PROVED" not in (folder / "target" / "panel.log").read_bytes() else None
+    yield "what rt said is not in the log" if b"logic=not-proved" not in (folder / "target" / "panel.log").read_bytes() else None
     done = run(script, env=around(folder, "cat; echo done"), input=b"in\n", stdin=None)
     lines = [line.split(b", ")[:2] for line in done.stderr.splitlines()[1:]]
     yield trouble("a build", done, 0, b"in\ndone\n")
-    yield None if lines == [[b"panel: frame proved", b"2 of 3 crates"], [b"panel: panel_trace proved", b"3 of 3 crates"]] else f"a build shows {done.stderr!r}"
+    yield None if lines == [[b"panel: proving frame", b"2 of 3 crates"], [b"panel: proving panel_trace", b"3 of 3 crates"]] else f"a build shows {done.stderr!r}"
     yield trouble("what is built", run(script, env=around(folder, "")), 0, b"done\n", "")
+    for what, words in (("a program that says that it failed", "echo ran; echo 'panel_trace: no' >&2"), ("a program that fails", "echo ran; exit 1")):
+        built_in(folder).write_text(f"#!/bin/sh\n{words}\n")
+        yield trouble(what, run(script, env=around(folder, "")), 2, b"ran\n")
     yield on_terminal(script, around(folder, ""))
     yield ended(script, around(folder, "echo $$; exec sleep 60"))
 
 
 def ended(script, env):
     """A signal that ends the script ends the program."""
-    (script.parent / "target" / "bin" / "panel_trace").unlink()
+    built_in(script.parent).unlink()
     with subprocess.Popen([str(script)], stdin=subprocess.DEVNULL, stdout=subprocess.PIPE, stderr=subprocess.DEVNULL, env=env) as child:
         number = int(child.stdout.readline())
         child.terminate()
@@ -117,14 +118,14 @@ def ended(script, env):
 
 def on_terminal(script, env):
     """A trace is waited for, and that is said; the progress of a build stands in one line, which is written again and again."""
-    (script.parent / "target" / "bin" / "panel_trace").unlink()
+    built_in(script.parent).unlink()
     leader, terminal = pty.openpty()
     with subprocess.Popen([str(script)], stdin=terminal, stdout=subprocess.PIPE, stderr=terminal, env={**env, "PROGRAM": "echo ran"}) as child:
         out = child.stdout.read()
     said = os.read(leader, 1 << 16)
     os.close(leader)
     os.close(terminal)
-    if b"\rpanel: 3 of 3 crates proved, " not in said or said.count(b"\n") != 3 or b"reads a trace from the terminal" not in said:
+    if b"\rpanel: proving crate 3 of 3, " not in said or said.count(b"\n") != 3 or b"reads a trace from the terminal" not in said:
         return f"on a terminal: {said!r}"
     return None if (out, child.returncode) == (b"ran\n", 0) else f"on a terminal: printed {out!r}, status {child.returncode}"
 

@@ -1,13 +1,8 @@
-"""The programs under test: where they stand once they are built, and how a program is started on this machine.
-
-Programs are built for x86-64. On another machine they run under the emulator of the Rattle kit, as the kit's own checks run them, but for
-the one that tools/native builds.
-"""
+"""The programs under test: where they stand once they are built, and how a program is started."""
 import functools
 import io
 import itertools
 import pathlib
-import platform
 import subprocess
 import sys
 import tempfile
@@ -15,39 +10,31 @@ import tempfile
 import source
 
 TOP = pathlib.Path(__file__).resolve().parent.parent
-BUILT = TOP / "target" / "bin" / "panel_trace"
 NATIVE = TOP / "target" / "native" / "panel_trace"
-X86_64 = 0x3E       # the machine's number in a program's ELF header
 SECONDS = 60
 LONGEST = 300       # characters of a line that are shown
 
 
+def built(name):
+    """Where rt leaves a program."""
+    return TOP / "crates" / name / "out" / name
+
+
+BUILT = built("panel_trace")
+
+
 @functools.lru_cache
-def toolchain():
-    """The folder of the kit's compiler, linker and emulator for this machine."""
-    guide = pathlib.Path(subprocess.run(["rt", "doc"], capture_output=True, text=True, check=True).stdout.strip())
-    return guide.parent.parent / "on" / platform.machine() / "toolchain"
-
-
-def emulator():
-    tools = toolchain()
-    return [str(tools / "bin" / "qemu-x86_64"), str(tools / "lib" / "ld-linux-x86-64.so.2"), "--library-path", str(tools / "lib")]
-
-
-def is_foreign(path):
-    with open(path, "rb") as file:
-        head = file.read(20)
-    return head[:4] == b"\x7FELF" and head[18] == X86_64 and platform.machine() != "x86_64"
+def kit():
+    """The folder of the Rattle kit."""
+    return pathlib.Path(subprocess.run(["rt", "doc"], capture_output=True, text=True, check=True).stdout.strip()).parent
 
 
 def command(path):
-    """The words that start the program at `path`: an x86-64 one, one of this machine, or one in Python."""
+    """The words that start the program at `path`: a built one, or one in Python."""
     path = str(path)
     if not pathlib.Path(path).is_file():
         sys.exit(f"{path}: there is no such program")
-    if path.endswith(".py"):
-        return [sys.executable, path]
-    return [*emulator(), path] if is_foreign(path) else [path]
+    return [sys.executable, path] if path.endswith(".py") else [path]
 
 
 def below(name):
@@ -58,32 +45,32 @@ def below(name):
     return found
 
 
-def is_old(built):
+def is_old(path):
     """Whether a built program is older than the code it is made of, as ./panel asks of the panel program too."""
-    code = [path for crate in below(built.name) for path in source.code_files(crate)]
-    return any(path.stat().st_mtime > built.stat().st_mtime for path in [TOP / "crates.txt", *code])
+    code = [each for crate in below(path.name) for each in source.code_files(crate)]
+    return any(each.stat().st_mtime > path.stat().st_mtime for each in [TOP / "crates.txt", *code])
 
 
-def renewal(built):
+def renewal(path):
     """What builds a program anew. Where nothing of its code has changed, rt leaves it as it is, and old."""
-    return "./panel < /dev/null" if built == BUILT else f"rt check {built.name} && touch {built.relative_to(TOP)}"
+    return "./panel < /dev/null" if path == BUILT else f"(cd crates/{path.name} && rt run < /dev/null && touch out/{path.name})"
 
 
-def chosen(path=None, built=BUILT):
+def chosen(path=None, usual=BUILT):
     """The path given, or that of a built program, the panel's where no other is named; None where the tree has no such program."""
     if path:
         return path
-    if built.exists():
-        if is_old(built):
-            sys.exit(f"{built.name} is older than the code: {renewal(built)} builds it")
-        return built
-    if (TOP / "crates" / built.name).exists():
-        sys.exit(f"{built.name} is not built: run rt check {built.name}")
+    if usual.exists():
+        if is_old(usual):
+            sys.exit(f"{usual.name} is older than the code: {renewal(usual)} builds it")
+        return usual
+    if (TOP / "crates" / usual.name).exists():
+        sys.exit(f"{usual.name} is not built: {renewal(usual)} builds it")
     return None
 
 
 def native():
-    """The program compiled for this machine. tools/native compiles it again where the code is newer."""
+    """The program that tools/native compiles, again where the code is newer."""
     if subprocess.run([TOP / "tools" / "native", BUILT.name, NATIVE]).returncode:
         sys.exit(f"tools/native could not build {BUILT.name}")
     return NATIVE

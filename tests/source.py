@@ -36,14 +36,23 @@ class Function:
     proof: str
 
 
-def crates():
-    """Each crate that crates.txt lists, with what it is built on."""
-    listed = {}
+def listed():
+    """Each crate that crates.txt lists, with the words behind its name and with what it is built on."""
     for line in (TOP / "crates.txt").read_text().split("\n"):
-        name, colon, needs = line.partition("#")[0].partition(":")
-        if colon:
-            listed[name.strip()] = needs.split()
-    return listed
+        head, _, needs = line.partition("#")[0].partition(":")
+        if head.strip():
+            name, *words = head.split()
+            yield name, words, needs.split()
+
+
+def crates():
+    """Each crate with what it is built on."""
+    return {name: needs for name, _, needs in listed()}
+
+
+def is_static(crate):
+    """Whether a crate is a static library, which C calls."""
+    return any(name == crate and "staticlib" in words for name, words, _ in listed())
 
 
 def known_to(crate):
@@ -67,8 +76,8 @@ def module_of(crate, file):
 
 
 def blank(text):
-    """The text with comments and quoted strings as spaces, each other character at its place."""
-    return re.sub(r'//[^\n]*|"(?:\\.|[^"\\])*"', lambda found: " " * len(found.group()), text)
+    """The text with comments, quoted strings and quoted signs as spaces, each other character at its place. A quoted letter or digit stays."""
+    return re.sub(r"""//[^\n]*|"(?:\\[\s\S]|[^"\\])*"|'(?:\\[^\n]+?|[^\w\n\\])'""", lambda found: re.sub(r"[^\n]", " ", found.group()), text)
 
 
 def behind(text, at):
@@ -84,9 +93,19 @@ def behind(text, at):
     raise ValueError(f"no end of the bracket at {at}")
 
 
+def behind_generics(text, at):
+    """Where the list of generic parameters that stands at a place has been closed; the place itself where none stands there."""
+    depth = 0
+    for found in re.compile(r"->|=>|[<>]|\S").finditer(text, at):
+        depth += (found.group() == "<") - (found.group() == ">")
+        if depth == 0:
+            return found.end() if found.group() == ">" else at
+    raise ValueError(f"no end of the generic parameters at {at}")
+
+
 def body_at(text, at):
-    """Where the body of a function opens whose parameters end at a place: the first brace that no clause of the contract has."""
-    for found in re.compile(r"(\b(?:requires|ensures)\s*)?\{").finditer(text, at):
+    """Where the body of a function opens whose parameters end at a place: the first brace that no clause of the contract has, with a name or without."""
+    for found in re.compile(r"(\b(?:ghost|requires|ensures)\b\*?\s*(?:\w+\s*)?)?\{").finditer(text, at):
         if found.start() < at:
             continue
         if found.group(1) is None:
@@ -96,9 +115,12 @@ def body_at(text, at):
 
 
 def impl_blocks(text):
-    """Name, begin and end of each impl block."""
-    for found in re.finditer(r"\bimpl(?:<[^>]*>)?\s+(\w+)(?:<[^>]*>)?\s*\{", text):
-        yield found.group(1), found.end(), behind(text, found.end() - 1)
+    """The type's name, begin and end of each impl block, of a trait or of none."""
+    for found in re.finditer(r"^[ \t]*(?:unsafe\s+)?impl\b", text, re.M):
+        at = behind_generics(text, found.end())
+        opened = text.index("{", at)
+        kind = re.fullmatch(r"(?:.*\bfor\s+)?(?:\w+::)*(\w+)\b.*", text[at:opened].strip(), re.S)
+        yield kind.group(1), opened + 1, behind(text, opened)
 
 
 # ---- What a crate offers
@@ -138,13 +160,14 @@ def functions_in(crate, file, offered, kinds):
     text = blank(file.read_text())
     impls = list(impl_blocks(text))
     module = module_of(crate, file)
-    for found in re.finditer(r"(\bpub\s+)?(?:extern\s+)?\bfn\s+(\w+)\s*\(", text):
+    for found in re.finditer(r"(\bpub\s+)?(?:(?:const|unsafe|extern)\s+)*\bfn\s+(\w+)", text):
         owner = next((name for name, begin, end in impls if begin <= found.start() < end), None)
         plain = found.group(2)
         path = [owner, plain] if owner else [*module.split("::"), plain] if module else [plain]
         reached = owner in kinds if owner else is_offered(module, plain, offered)
         by_name = owner is None and (module, plain) in offered[0]
-        parameters = behind(text, found.end() - 1)
+        listed = text.index("(", behind_generics(text, found.end()))
+        parameters = behind(text, listed)
         opened = body_at(text, parameters)
         yield Function(
             crate=crate,
@@ -153,7 +176,7 @@ def functions_in(crate, file, offered, kinds):
             line=text.count("\n", 0, found.start(2)) + 1,
             pub=found.group(1) is not None,
             public=found.group(1) is not None and reached,
-            parameters=text[found.end():parameters - 1],
+            parameters=text[listed + 1:parameters - 1],
             contract=text[parameters:opened],
             begin=opened + 1,
             end=behind(text, opened) - 1,

@@ -130,7 +130,7 @@ def troubles(cases):
 
 
 def main(path=None):
-    found = list(troubles(program.command(program.chosen(path, program.BUILT.with_name("panel_cases")))))
+    found = list(troubles(program.command(program.chosen(path, program.built("panel_cases")))))
     print("\n".join(found) or "watch lists of all lengths and addresses, two of a word, in use and due, writes of every run: all are answered as they should be")
     return 1 if found else 0
 

@@ -1,7 +1,6 @@
 """measure.py OURS PLAIN FOLDER: runs two trace programs on the same traces, files under FOLDER, and prints their figures for bench/table.py.
 
-A time is what the processor spent, the least of some runs, less what a trace without events takes. Both programs are started in the same
-way: under the kit's emulator where they are built for x86-64 and the machine is another one.
+A time is what the processor spent, the least of some runs, less what a trace without events takes.
 """
 import os
 import pathlib
@@ -17,7 +16,7 @@ import program  # noqa: E402
 from trace_text import SETUP_KIND, on_line, setup_bytes  # noqa: E402
 
 SIZE = 1 << 20
-LEAST_RUNS, SECONDS = 3, 4   # of each measurement: many runs on a fast machine, a few under an emulator
+LEAST_RUNS, SECONDS = 3, 4   # of each measurement
 SETUP = model.Setup(0x5A, 0xA5, 1, 16, 800, 480)
 OPENING = bytes([SETUP_KIND]) + setup_bytes(SETUP)
 
@@ -76,7 +75,7 @@ class Program:
         return used.ru_utime + used.ru_stime
 
     def peak(self, trace):
-        """Peak memory in KiB, the emulator's included, as last seen while the program ran. (wait4 counts this process's memory in.)"""
+        """Peak memory in KiB, as last seen while the program ran. (wait4 counts this process's memory in.)"""
         child, most = self.started(trace), 0
         while child.poll() is None:
             seen = re.search(r"VmHWM:\s+(\d+)", pathlib.Path(f"/proc/{child.pid}/status").read_text())
