@@ -1,7 +1,6 @@
 -- Laws of a stream: bytes that are given and reports that are handed over lead nearer to its end.
-use Rattle.std.proofs.Common.{◌≡◌, ℕ, suc, ◌+◌, ◌-◌, ◌*◌, ◌^◌, ◌<◌, ◌≤◌, min, Bool, true, false, not, List, [], ◌∷◌, ◌++◌, length, take, drop, sym, refl, ap, ◌∙◌, subst, arith, length-drop, take-append-drop, drop_of_length-le, length-take, drop-drop}
+use Rattle.std.proofs.Common.{◌≡◌, ℕ, suc, ◌+◌, ◌-◌, ◌*◌, ◌^◌, ◌<◌, ◌≤◌, min, Bool, true, false, List, [], ◌∷◌, ◌++◌, length, take, drop, sym, refl, ap, ◌∙◌, subst, arith, length-drop, take-append-drop, drop_of_length-le, length-take, drop-drop}
 use native.Mathlib.Nat.{add-mod-mod}
-use borrow.Author.Tests.{not-false}
 use lib.Seq.{drop-append-le}
 use Rattle.wire.specs.Bytes.{Bytes}
 use Rattle.frame.specs.Frame.{longest_frame}
@@ -110,10 +109,10 @@ module _ (input words curves room : List ℕ) (setup : Setup) (begun : Start) (i
   panel_is : begun.panel ≡ (started bench_setup []).panel
   panel_is = ap (λ (s : Start). s.panel) is-begun ∙ ap (λ (s : Setup). (started s []).panel) is-setup
 
-  pub ready_new : (b : Bool) → b ≡ enough (length words) (length curves) (length room) → not b ≡ false
+  pub ready_new : (b : Bool) → b ≡ enough (length words) (length curves) (length room) → b ≡ true
       → Ready (runs begun.panel (lending words curves room none_watched) 0)
   ready_new b is well =
-      record { sound = subst Sound (sym panel_is) starts_sound; lent = no_list_judged words curves room ∙ sym is ∙ not-false b well }
+      record { sound = subst Sound (sym panel_is) starts_sound; lent = no_list_judged words curves room ∙ sym is ∙ well }
 
   pub all_streamed : (r : ℕ) (left : Lent) → sums r left ≡ end_of (flow (runs begun.panel (lending words curves room none_watched) 0) input)
       → sums r left ≡ streamed input (lending words curves room none_watched)
