@@ -1,8 +1,10 @@
 // The ends of months, each by four moments.
 ghost use Rattle.std.specs.Prelude.{◌≤◌};
 
-use crate::{say, sums};
+use crate::say::Shown;
+use crate::sums;
 use clock::{Date, Moment, Time};
+use std::io::{self, Write};
 
 // From two seconds before midnight to one behind it.
 #[derive(Clone, Copy)]
@@ -17,27 +19,21 @@ struct End {
 fn last_day(year: u8, month: u8) -> u8
     ensures { result ≤ 31 }
 {
-    let mut day = 31;
-    while day > 0 {
-        let date = Date {
-            year: year,
-            month: month,
-            day: day,
-        };
+    for day in (1..32).rev() {
+        let date = Date { year, month, day };
         if date.exists() {
             return day;
         }
-        day -= 1;
     }
-    day
+    0
 }
 
 // 23:59:58 on the last day of a month.
 fn before_end(year: u8, month: u8) -> Moment {
     Moment {
         date: Date {
-            year: year,
-            month: month,
+            year,
+            month,
             day: last_day(year, month),
         },
         time: Time {
@@ -53,9 +49,9 @@ fn end_of(year: u8, month: u8) -> End {
     let second = first.next();
     let third = second.next();
     End {
-        first: first,
-        second: second,
-        third: third,
+        first,
+        second,
+        third,
         fourth: third.next(),
     }
 }
@@ -69,31 +65,24 @@ fn with_month(value: u64, year: u8, month: u8) -> u64 {
 // The check value of all ends of a year's months.
 pub fn of_year(year: u8) -> u64 {
     let mut value = sums::NONE;
-    let mut month = 1;
-    while month < 13 {
+    for month in 1..13 {
         value = with_month(value, year, month);
-        month += 1;
     }
     value
 }
 
-fn say_month(year: u8, month: u8) {
+fn say_month<W: Write>(out: &mut W, year: u8, month: u8) -> io::Result<()> {
     let end = end_of(year, month);
-    say::text(b"end");
-    say::moment(end.first);
-    say::text(b",");
-    say::moment(end.second);
-    say::text(b",");
-    say::moment(end.third);
-    say::text(b",");
-    say::moment(end.fourth);
-    say::text(b"\n");
+    let first = Shown(end.first);
+    let second = Shown(end.second);
+    let third = Shown(end.third);
+    let fourth = Shown(end.fourth);
+    writeln!(out, "end{first},{second},{third},{fourth}")
 }
 
-pub fn say_year(year: u8) {
-    let mut month = 1;
-    while month < 13 {
-        say_month(year, month);
-        month += 1;
+pub fn say_year<W: Write>(out: &mut W, year: u8) -> io::Result<()> {
+    for month in 1..13 {
+        say_month(out, year, month)?;
     }
+    Ok(())
 }

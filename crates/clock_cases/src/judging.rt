@@ -1,8 +1,10 @@
 // Every value of each of the seven bytes that show a moment.
 ghost use Rattle.std.specs.Prelude.{◌≤◌};
 
-use crate::{say, sums};
+use crate::say::Shown;
+use crate::sums;
 use clock::{Moment, SHOWN_BYTES};
+use std::io::{self, Write};
 
 // How many values of a byte are wrong, and the check value of all the answers.
 #[derive(Clone, Copy)]
@@ -36,37 +38,29 @@ fn of_place(m: Moment, place: usize) -> Answers
 {
     let mut wrong: usize = 0;
     let mut value = sums::NONE;
-    let mut n: usize = 0;
-    while n < 256 {
-        let one = one_if(is_wrong_with(m, place, (n % 256) as u8));
+    for b in 0..=u8::MAX {
+        let one = one_if(is_wrong_with(m, place, b));
         wrong += wire::count(one);
         value = sums::with_byte(value, one);
-        n += 1;
     }
-    Answers {
-        wrong: wrong,
-        value: value,
-    }
+    Answers { wrong, value }
 }
 
-fn say_place(m: Moment, place: usize) {
+fn say_place<W: Write>(out: &mut W, m: Moment, place: usize) -> io::Result<()> {
     let answers = of_place(m, place);
-    say::text(b"byte ");
-    say::number(place);
-    say::text(b" of");
-    say::moment(m);
-    say::text(b": ");
-    say::number(answers.wrong);
-    say::text(b" wrong, answers ");
-    say::value(answers.value);
-    say::text(b"\n");
+    let shown = Shown(m);
+    let wrong = answers.wrong;
+    let value = answers.value;
+    writeln!(
+        out,
+        "byte {place} of{shown}: {wrong} wrong, answers {value}"
+    )
 }
 
-pub fn judge(bytes: &[u8]) {
+pub fn judge<W: Write>(out: &mut W, bytes: &[u8]) -> io::Result<()> {
     let m = clock::moment_in(bytes);
-    let mut place = 0;
-    while place < SHOWN_BYTES {
-        say_place(m, place);
-        place += 1;
+    for place in 0..SHOWN_BYTES {
+        say_place(out, m, place)?;
     }
+    Ok(())
 }

@@ -14,6 +14,8 @@
 #![tactic(auto)]
 
 use clock::Date;
+use say::Shown;
+use std::io::{self, BufWriter, Write};
 use walking::Walk;
 
 mod ends;
@@ -25,56 +27,51 @@ mod walking;
 // How many years the clock goes through before the first comes again.
 const YEARS: usize = 100;
 
-fn say_year(first: Date, walk: Walk) {
-    say::text(b"year ");
-    say::number(2000 + wire::count(first.year));
-    say::text(b": behind ");
-    say::number(first.day_number());
-    say::text(b" days, has ");
-    say::number(walk.days);
-    say::text(b", days ");
-    say::value(walk.value);
-    say::text(b", ends ");
-    say::value(ends::of_year(first.year));
-    say::text(b"\n");
+fn say_year<W: Write>(out: &mut W, first: Date, walk: Walk) -> io::Result<()> {
+    let year = 2000 + wire::count(first.year);
+    let behind = first.day_number();
+    let days = walk.days;
+    let value = walk.value;
+    let ends = ends::of_year(first.year);
+    writeln!(
+        out,
+        "year {year}: behind {behind} days, has {days}, days {value}, ends {ends}"
+    )
 }
 
-fn say_walked(days: usize, date: Date) {
-    say::text(b"walked ");
-    say::number(days);
-    say::text(b" days, to");
-    say::moment(walking::midnight(date));
-    say::text(b"\n");
+fn say_walked<W: Write>(out: &mut W, days: usize, date: Date) -> io::Result<()> {
+    let shown = Shown(walking::midnight(date));
+    writeln!(out, "walked {days} days, to{shown}")
 }
 
-fn walk() {
+fn walk<W: Write>(out: &mut W) -> io::Result<()> {
     let mut date = Date {
         year: 0,
         month: 1,
         day: 1,
     };
     let mut days = 0;
-    let mut years = 0;
-    while years < YEARS {
-        let walk = walking::through_year(date);
-        say_year(date, walk);
+    for _ in 0..YEARS {
+        let walk = walking::through_year(out, date)?;
+        say_year(out, date, walk)?;
         days += walk.days;
         date = walk.date;
-        years += 1;
     }
-    say_walked(days, date);
-    say_year(date, walking::through_year(date));
+    say_walked(out, days, date)?;
+    let walk = walking::through_year(out, date)?;
+    say_year(out, date, walk)
 }
 
-fn main() {
-    walk();
+fn main(rt: HostRuntime) -> io::Result<()> {
+    let mut out = BufWriter::new(rt.alloc(), io::writer(&rt))?;
+    walk(&mut out)?;
     // The first year, a common one, a leap one and the last.
-    ends::say_year(0);
-    ends::say_year(15);
-    ends::say_year(16);
-    ends::say_year(99);
+    for year in [0, 15, 16, 99] {
+        ends::say_year(&mut out, year)?;
+    }
     // A leap day, the day before one that there is not, the last second; the weekday's byte does not count.
-    judging::judge(b"\x16\x02\x29\xFF\x12\x34\x56");
-    judging::judge(b"\x01\x02\x28\xFF\x00\x00\x00");
-    judging::judge(b"\x99\x12\x31\xFF\x23\x59\x59");
+    judging::judge(&mut out, b"\x16\x02\x29\xFF\x12\x34\x56")?;
+    judging::judge(&mut out, b"\x01\x02\x28\xFF\x00\x00\x00")?;
+    judging::judge(&mut out, b"\x99\x12\x31\xFF\x23\x59\x59")?;
+    out.flush()
 }

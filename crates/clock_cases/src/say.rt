@@ -1,34 +1,17 @@
-// Writing texts, numbers and moments.
+// How a moment is written.
 use clock::Moment;
-use libc::STDOUT_FILENO;
+use std::fmt;
 
-pub fn text(s: &[u8]) {
-    io::write_all(STDOUT_FILENO, s);
-}
+// A moment as the seven bytes that show it, in hex digits, a space before each.
+#[derive(Clone, Copy)]
+pub struct Shown(pub Moment);
 
-pub fn value(n: u64) {
-    io::print_decimal(STDOUT_FILENO, n);
-}
-
-pub fn number(n: usize) {
-    value(n as u64);
-}
-
-fn byte(b: u8) {
-    text(b" ");
-    io::print_hex(STDOUT_FILENO, b as u64, 2);
-}
-
-fn bytes(s: &[u8]) {
-    let mut i = 0;
-    while i < s.len() {
-        byte(s[i]);
-        i += 1;
+impl fmt::Display for Shown {
+    fn fmt<W: fmt::Write>(&self, f: &mut fmt::Formatter<W>) -> fmt::Result {
+        let bytes = clock::shown(self.0);
+        for b in bytes.iter() {
+            write!(f, " {b:02x}")?;
+        }
+        Ok(())
     }
-}
-
-// The seven bytes that show a moment.
-pub fn moment(m: Moment) {
-    let shown = clock::shown(m);
-    bytes(&shown);
 }

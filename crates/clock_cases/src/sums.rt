@@ -15,10 +15,8 @@ pub fn with_byte(value: u64, b: u8) -> u64
 
 fn with_bytes(value: u64, bytes: &[u8]) -> u64 {
     let mut sum = value;
-    let mut i = 0;
-    while i < bytes.len() {
-        sum = with_byte(sum, bytes[i]);
-        i += 1;
+    for b in bytes {
+        sum = with_byte(sum, *b);
     }
     sum
 }

@@ -1,9 +1,11 @@
 // From day to day by the clock: over the last second of each.
-ghost use Rattle.std.specs.Prelude.{◌≡◌, ◌≤◌};
+ghost use Rattle.std.specs.Prelude.{◌≡◌, ◌≤◌, IfOk};
 ghost use Rattle.clock.specs.Passing.{dated, timed, moment, tomorrow};
 
-use crate::{say, sums};
+use crate::say::Shown;
+use crate::sums;
 use clock::{Date, Moment, Time};
+use std::io::{self, Write};
 
 // More days than a year has. A walk ends behind so many whatever the clock does, since a proved loop has to end.
 const MANY_DAYS: usize = 400;
@@ -20,7 +22,7 @@ pub fn midnight(date: Date) -> Moment
     ensures { result ≡ moment date (timed 0 0 0) }
 {
     Moment {
-        date: date,
+        date,
         time: Time {
             hour: 0,
             minute: 0,
@@ -33,7 +35,7 @@ fn last_second(date: Date) -> Moment
     ensures { result ≡ moment date (timed 23 59 59) }
 {
     Moment {
-        date: date,
+        date,
         time: Time {
             hour: 23,
             minute: 59,
@@ -43,50 +45,43 @@ fn last_second(date: Date) -> Moment
 }
 
 // Says of a moment that should be midnight where it is not.
-fn see_midnight(last: Moment, next: Moment) {
+fn see_midnight<W: Write>(out: &mut W, last: Moment, next: Moment) -> io::Result<()> {
     let time = next.time;
     if (time.hour != 0) | (time.minute != 0) | (time.second != 0) {
-        say::text(b"no midnight:");
-        say::moment(last);
-        say::text(b",");
-        say::moment(next);
-        say::text(b"\n");
+        let before = Shown(last);
+        let behind = Shown(next);
+        writeln!(out, "no midnight:{before},{behind}")?;
     }
+    Ok(())
 }
 
 // The day that the clock comes to behind the last second of a date.
-fn day_behind(date: Date) -> Date
-    ensures { result ≡ tomorrow date }
+fn day_behind<W: Write>(out: &mut W, date: Date) -> io::Result<Date>
+    ensures { IfOk result (λ next. next ≡ tomorrow date) }
 {
     let last = last_second(date);
     let next = last.next();
-    see_midnight(last, next);
-    next.date
+    see_midnight(out, last, next)?;
+    Ok(next.date)
 }
 
 // From a date through the days of its year.
-pub fn through_year(from: Date) -> Walk
-    ensures { result.days ≤ 400 }
+pub fn through_year<W: Write>(out: &mut W, from: Date) -> io::Result<Walk>
+    ensures { IfOk result (λ walk. walk.days ≤ 400) }
 {
     let year = from.year;
     let mut date = from;
     let mut value = sums::NONE;
-    let mut days = 0;
-    while days < MANY_DAYS {
+    for days in 0..MANY_DAYS {
         if date.year != year {
-            return Walk {
-                date: date,
-                days: days,
-                value: value,
-            };
+            return Ok(Walk { date, days, value });
         }
         value = sums::with_day(value, date);
-        date = day_behind(date);
-        days += 1;
+        date = day_behind(out, date)?;
     }
-    Walk {
-        date: date,
-        days: days,
-        value: value,
-    }
+    Ok(Walk {
+        date,
+        days: MANY_DAYS,
+        value,
+    })
 }

@@ -10,6 +10,8 @@
 
 use frame::{Header, LONGEST_FRAME, MOST_PAYLOAD};
 use line::{Answer, Reader, Report};
+use std::fmt;
+use std::io::{self, BufReader, BufWriter, Read, Write};
 
 // What the bytes that come are for.
 #[derive(Clone, Copy)]
@@ -32,24 +34,16 @@ struct Cases {
     n: usize,
 }
 
-fn digit(x: u8) -> u8 {
-    if x < 10 {
-        b'0' | x
-    } else {
-        std::num::wrapping_add_u8(x, 55)
-    }
-}
+// Bytes in hex digits, a space before each.
+#[derive(Clone, Copy)]
+struct Hex<'a>(&'a [u8]);
 
-fn put_hex(b: u8) {
-    let s = [b' ', digit(b >> 4), digit(b & 15)];
-    io::write_all(1, &s);
-}
-
-fn put_bytes(s: &[u8]) {
-    let mut i = 0;
-    while i < s.len() {
-        put_hex(s[i]);
-        i += 1;
+impl fmt::Display for Hex<'_> {
+    fn fmt<W: fmt::Write>(&self, f: &mut fmt::Formatter<W>) -> fmt::Result {
+        for b in self.0 {
+            write!(f, " {b:02X}")?;
+        }
+        Ok(())
     }
 }
 
@@ -59,222 +53,150 @@ fn front(s: &[u8], n: usize) -> &[u8] {
 }
 
 // Prints a report; answers whether there was one.
-fn put_report(report: Report, payload: [u8; MOST_PAYLOAD]) -> bool {
+fn put_report<W: Write>(
+    out: &mut W,
+    report: Report,
+    payload: &[u8; MOST_PAYLOAD],
+) -> io::Result<bool> {
     match report {
         Report::Accepted { command, len } => {
-            io::write_all(1, b"F");
-            put_hex(command);
-            if len <= MOST_PAYLOAD {
-                put_bytes(&payload[0..len]);
-            }
-            io::write_all(1, b"\n");
-            true
+            let content = Hex(front(payload, len));
+            writeln!(out, "F {command:02X}{content}")?;
+            Ok(true)
         }
         Report::BadCheck(command) => {
-            io::write_all(1, b"B");
-            put_hex(command);
-            io::write_all(1, b"\n");
-            true
+            writeln!(out, "B {command:02X}")?;
+            Ok(true)
         }
-        Report::Nothing => false,
+        Report::Nothing => Ok(false),
     }
 }
 
 // No more reports can stand in what is held than the longest frame has bytes.
-fn ask_all(start: Reader) -> Reader {
+fn ask_all<W: Write>(out: &mut W, start: Reader) -> io::Result<Reader> {
     let mut reader = start;
-    let mut k = 0usize;
-    while k <= LONGEST_FRAME {
+    for _ in 0..=LONGEST_FRAME {
         let asked = reader.ask();
-        let next = asked.reader;
-        reader = next;
-        let report = asked.report;
-        let payload = asked.payload;
-        if put_report(report, payload) {
-            k += 1;
-        } else {
-            return reader;
+        reader = asked.reader;
+        if !put_report(out, asked.report, &asked.payload)? {
+            break;
         }
     }
-    reader
+    Ok(reader)
 }
 
-fn put_answer(answer: Answer) {
+fn put_answer<W: Write>(out: &mut W, answer: Answer) -> io::Result<()> {
     match answer {
-        Answer::Done => {}
-        Answer::Waits => {
-            io::write_all(1, b"1\n");
-        }
+        Answer::Done => Ok(()),
+        Answer::Waits => writeln!(out, "1"),
     }
 }
 
-// A byte that has come whole.
-fn take_byte(cases: Cases, b: u8) -> Cases {
-    let mode = cases.mode;
-    match mode {
-        Mode::Single => {
-            let reader = cases.reader;
-            let given = reader.give_byte(b);
-            let answer = given.answer;
-            put_answer(answer);
-            let next = given.reader;
-            Cases {
-                reader: next,
-                ..cases
+impl Cases {
+    fn new() -> Cases {
+        Cases {
+            reader: Reader::new(Header { h1: 0, h2: 0 }, false),
+            mode: Mode::Single,
+            title: false,
+            half: false,
+            high: 0,
+            gathered: [0u8; 512],
+            n: 0,
+        }
+    }
+
+    // A byte that has come whole.
+    fn take_byte<W: Write>(&mut self, out: &mut W, b: u8) -> io::Result<()> {
+        match self.mode {
+            Mode::Single => {
+                let given = self.reader.give_byte(b);
+                self.reader = given.reader;
+                put_answer(out, given.answer)
+            }
+            Mode::Setup | Mode::Chunk => {
+                self.gather(b);
+                Ok(())
             }
         }
-        Mode::Setup => gather(cases, b),
-        Mode::Chunk => gather(cases, b),
     }
-}
 
-fn gather(cases: Cases, b: u8) -> Cases {
-    let n = cases.n;
-    let mut gathered = cases.gathered;
-    if n < 512 {
-        gathered[n] = b;
-        Cases {
-            gathered: gathered,
-            n: n + 1,
-            ..cases
-        }
-    } else {
-        cases
-    }
-}
-
-fn take_digit(cases: Cases, x: u8) -> Cases {
-    if cases.half {
-        let whole = Cases {
-            half: false,
-            ..cases
-        };
-        take_byte(whole, (cases.high << 4) | x)
-    } else {
-        Cases {
-            half: true,
-            high: x,
-            ..cases
+    fn gather(&mut self, b: u8) {
+        if self.n < 512 {
+            self.gathered[self.n] = b;
+            self.n += 1;
         }
     }
-}
 
-// The bytes gathered are a setup.
-fn set_up(cases: Cases) -> Cases {
-    let s = cases.gathered;
-    let reader = Reader::new(Header { h1: s[0], h2: s[1] }, s[2] == 1);
-    io::write_all(1, b"=");
-    put_bytes(front(&s, 3));
-    io::write_all(1, b"\n");
-    Cases {
-        reader: reader,
-        mode: Mode::Single,
-        ..cases
-    }
-}
-
-// The bytes gathered are given at once.
-fn give_chunk(cases: Cases) -> Cases {
-    let s = cases.gathered;
-    let n = cases.n;
-    let reader = cases.reader;
-    let gave = reader.give_bytes(front(&s, n));
-    io::write_all(1, b"[");
-    io::print_decimal(1, gave.used as u64);
-    io::write_all(1, b"\n");
-    let next = gave.reader;
-    Cases {
-        reader: next,
-        mode: Mode::Single,
-        ..cases
-    }
-}
-
-fn give_mark(cases: Cases) -> Cases {
-    let reader = cases.reader;
-    let given = reader.give_mark();
-    let answer = given.answer;
-    put_answer(answer);
-    let next = given.reader;
-    Cases {
-        reader: next,
-        ..cases
-    }
-}
-
-fn ask(cases: Cases) -> Cases {
-    let reader = cases.reader;
-    let next = ask_all(reader);
-    Cases {
-        reader: next,
-        ..cases
-    }
-}
-
-fn begin(cases: Cases, mode: Mode) -> Cases {
-    Cases {
-        mode: mode,
-        n: 0,
-        ..cases
-    }
-}
-
-// A character outside titles; all but these are passed over.
-fn take_sign(cases: Cases, c: u8) -> Cases {
-    match c {
-        b'0'..=b'9' => take_digit(cases, c & 15),
-        b'A'..=b'F' => take_digit(cases, std::num::wrapping_add_u8(c & 15, 9)),
-        b'=' => begin(cases, Mode::Setup),
-        b';' => set_up(cases),
-        b'[' => begin(cases, Mode::Chunk),
-        b']' => give_chunk(cases),
-        b'|' => give_mark(cases),
-        b'?' => ask(cases),
-        _ => cases,
-    }
-}
-
-fn take_char(cases: Cases, c: u8) -> Cases {
-    if cases.title | (c == b'#') {
-        let s = [c];
-        io::write_all(1, &s);
-        Cases {
-            title: c != b'\n',
-            ..cases
+    fn take_digit<W: Write>(&mut self, out: &mut W, x: u8) -> io::Result<()> {
+        if self.half {
+            self.half = false;
+            return self.take_byte(out, self.high << 4 | x);
         }
-    } else {
-        take_sign(cases, c)
+        self.half = true;
+        self.high = x;
+        Ok(())
     }
-}
 
-fn take_all(start: Cases, s: &[u8]) -> Cases {
-    let mut cases = start;
-    let mut i = 0;
-    while i < s.len() {
-        cases = take_char(cases, s[i]);
-        i += 1;
+    // The bytes gathered are a setup.
+    fn set_up<W: Write>(&mut self, out: &mut W) -> io::Result<()> {
+        let s = self.gathered;
+        self.reader = Reader::new(Header { h1: s[0], h2: s[1] }, s[2] == 1);
+        self.mode = Mode::Single;
+        let setup = Hex(&s[..3]);
+        writeln!(out, "={setup}")
     }
-    cases
-}
 
-fn main() {
-    let mut cases = Cases {
-        reader: Reader::new(Header { h1: 0, h2: 0 }, false),
-        mode: Mode::Single,
-        title: false,
-        half: false,
-        high: 0,
-        gathered: [0u8; 512],
-        n: 0,
-    };
-    let mut buffer = [0u8; 4096];
-    let mut turns = u64::MAX;
-    while turns > 0 {
-        let n = io::read_full(0, &mut buffer);
-        if n == 0 {
-            return;
+    // The bytes gathered are given at once.
+    fn give_chunk<W: Write>(&mut self, out: &mut W) -> io::Result<()> {
+        let gave = self.reader.give_bytes(front(&self.gathered, self.n));
+        self.reader = gave.reader;
+        self.mode = Mode::Single;
+        let used = gave.used;
+        writeln!(out, "[{used}")
+    }
+
+    fn give_mark<W: Write>(&mut self, out: &mut W) -> io::Result<()> {
+        let given = self.reader.give_mark();
+        self.reader = given.reader;
+        put_answer(out, given.answer)
+    }
+
+    fn begin(&mut self, mode: Mode) {
+        self.mode = mode;
+        self.n = 0;
+    }
+
+    // A character outside titles; all but these are passed over.
+    fn take_sign<W: Write>(&mut self, out: &mut W, c: u8) -> io::Result<()> {
+        match c {
+            b'0'..=b'9' => self.take_digit(out, c & 15)?,
+            b'A'..=b'F' => self.take_digit(out, (c & 15).wrapping_add(9))?,
+            b'=' => self.begin(Mode::Setup),
+            b';' => self.set_up(out)?,
+            b'[' => self.begin(Mode::Chunk),
+            b']' => self.give_chunk(out)?,
+            b'|' => self.give_mark(out)?,
+            b'?' => self.reader = ask_all(out, self.reader)?,
+            _ => {}
         }
-        cases = take_all(cases, &buffer[0..n]);
-        turns -= 1;
+        Ok(())
     }
+
+    fn take_char<W: Write>(&mut self, out: &mut W, c: u8) -> io::Result<()> {
+        if self.title | (c == b'#') {
+            self.title = c != b'\n';
+            return out.write_all(&[c]);
+        }
+        self.take_sign(out, c)
+    }
+}
+
+fn main(rt: HostRuntime) -> io::Result<()> {
+    let input = BufReader::new(rt.alloc(), rt.reader())?;
+    let mut out = BufWriter::new(rt.alloc(), io::writer(&rt))?;
+    let mut cases = Cases::new();
+    for c in input.bytes() {
+        cases.take_char(&mut out, c?)?;
+    }
+    out.flush()
 }

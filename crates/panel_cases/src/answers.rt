@@ -1,50 +1,46 @@
 // Writing what a call answers, by 01's numbers.
-use crate::{say, sums};
+use crate::say::{Words, part};
+use crate::sums;
 use commands::Outcome;
 use line::Answer;
-use panel::{ContactAnswer, Contacted, Handed, LiftAnswer, Panel, Reported, StartAnswer};
+use panel::{ContactAnswer, Contacted, Handed, LiftAnswer, Reported, StartAnswer};
+use std::io::{self, Write};
 
-pub fn say_start(a: StartAnswer) {
+pub fn say_start<W: Write>(out: &mut W, a: StartAnswer) -> io::Result<()> {
     match a {
-        StartAnswer::Started => say::text(b"S 0"),
-        StartAnswer::WrongSetup => say::text(b"S 11"),
-        StartAnswer::NotRecords => say::text(b"S 12"),
-        StartAnswer::WrongRecord(i) => {
-            say::text(b"S 13 ");
-            say::number(i)
-        }
-    }
-    say::text(b"\n");
-}
-
-pub fn say_input(a: Answer) {
-    match a {
-        Answer::Done => say::text(b"0\n"),
-        Answer::Waits => say::text(b"1\n"),
+        StartAnswer::Started => writeln!(out, "S 0"),
+        StartAnswer::WrongSetup => writeln!(out, "S 11"),
+        StartAnswer::NotRecords => writeln!(out, "S 12"),
+        StartAnswer::WrongRecord(i) => writeln!(out, "S 13 {i}"),
     }
 }
 
-pub fn say_lift(a: LiftAnswer) {
+// An input by its letter, and what it is answered.
+pub fn say_input<W: Write>(out: &mut W, letter: &str, a: Answer) -> io::Result<()> {
     match a {
-        LiftAnswer::Done => say::text(b"U 0\n"),
-        LiftAnswer::Waits => say::text(b"U 1\n"),
-        LiftAnswer::IsUp => say::text(b"U 10\n"),
+        Answer::Done => writeln!(out, "{letter} 0"),
+        Answer::Waits => writeln!(out, "{letter} 1"),
     }
 }
 
-fn say_contact(a: ContactAnswer) {
+pub fn say_lift<W: Write>(out: &mut W, a: LiftAnswer) -> io::Result<()> {
     match a {
-        ContactAnswer::Done => say::text(b"C 0"),
-        ContactAnswer::NotLent => say::text(b"C 14"),
-        ContactAnswer::WrongList => say::text(b"C 16"),
-        ContactAnswer::Waits => say::text(b"C 1"),
-        ContactAnswer::NotRecords => say::text(b"C 12"),
-        ContactAnswer::WrongRecord(i) => {
-            say::text(b"C 13 ");
-            say::number(i)
-        }
-        ContactAnswer::TouchOff => say::text(b"C 9"),
-        ContactAnswer::OffScreen => say::text(b"C 8"),
+        LiftAnswer::Done => writeln!(out, "U 0"),
+        LiftAnswer::Waits => writeln!(out, "U 1"),
+        LiftAnswer::IsUp => writeln!(out, "U 10"),
+    }
+}
+
+fn say_contact<W: Write>(out: &mut W, a: ContactAnswer) -> io::Result<()> {
+    match a {
+        ContactAnswer::Done => write!(out, "C 0"),
+        ContactAnswer::NotLent => write!(out, "C 14"),
+        ContactAnswer::WrongList => write!(out, "C 16"),
+        ContactAnswer::Waits => write!(out, "C 1"),
+        ContactAnswer::NotRecords => write!(out, "C 12"),
+        ContactAnswer::WrongRecord(i) => write!(out, "C 13 {i}"),
+        ContactAnswer::TouchOff => write!(out, "C 9"),
+        ContactAnswer::OffScreen => write!(out, "C 8"),
     }
 }
 
@@ -60,37 +56,19 @@ fn number_of(o: Outcome) -> usize {
     }
 }
 
-fn say_accepted(
-    command: u8,
-    o: Outcome,
+fn say_handed<W: Write>(
+    out: &mut W,
+    handed: Handed,
     content: &[u8],
-    count: usize,
     room: &[u8],
-    acknowledged: usize,
-    replied: usize,
-) {
-    say::text(b"F");
-    say::byte(command);
-    say::text(b" ");
-    say::number(number_of(o));
-    say::text(b" data");
-    say::part(content, 0, count);
-    say::text(b" acknowledgement");
-    say::part(room, 0, acknowledged);
-    say::text(b" reply");
-    say::part(room, acknowledged, replied);
-}
-
-fn say_handed(handed: Handed, content: &[u8], room: &[u8]) {
+) -> io::Result<()> {
     match handed {
-        Handed::NotLent => say::text(b"14"),
-        Handed::WrongList => say::text(b"16"),
-        Handed::Nothing => say::text(b"nothing"),
+        Handed::NotLent => write!(out, "14"),
+        Handed::WrongList => write!(out, "16"),
+        Handed::Nothing => write!(out, "nothing"),
         Handed::BadCheck(command, acknowledged) => {
-            say::text(b"B");
-            say::byte(command);
-            say::text(b" acknowledgement");
-            say::part(room, 0, acknowledged);
+            let acknowledgement = part(room, 0, acknowledged);
+            write!(out, "B {command:02x} acknowledgement{acknowledgement}")
         }
         Handed::Accepted {
             command,
@@ -99,46 +77,44 @@ fn say_handed(handed: Handed, content: &[u8], room: &[u8]) {
             acknowledged,
             replied,
         } => {
-            say_accepted(
-                command,
-                outcome,
-                content,
-                count,
-                room,
-                acknowledged,
-                replied,
-            )
+            let number = number_of(outcome);
+            let given = part(content, 0, count);
+            write!(out, "F {command:02x} {number} data{given}")?;
+            let acknowledgement = part(room, 0, acknowledged);
+            let reply = part(room, acknowledged, replied);
+            write!(out, " acknowledgement{acknowledgement} reply{reply}")
         }
     }
 }
 
 // What a call left: a sum over the whole room, and the values last sent that were lent.
-fn say_left(room: &[u8], values: &[u16]) {
-    say::text(b" room");
-    say::sum(sums::of_bytes(room));
-    say::text(b" values");
-    say::words(values);
-    say::text(b"\n");
+fn say_left<W: Write>(out: &mut W, room: &[u8], values: &[u16]) -> io::Result<()> {
+    let sum = sums::of_bytes(room);
+    let sent = Words(values);
+    writeln!(out, " room {sum} values{sent}")
 }
 
-// An ask: answers the panel that it left.
-pub fn say_reported(reported: Reported, room: &[u8], values: &[u16]) -> Panel {
-    let handed = reported.handed;
-    let payload = reported.payload;
-    say::text(b"? ");
-    say_handed(handed, &payload, room);
-    say_left(room, values);
-    reported.panel
+// An ask.
+pub fn say_reported<W: Write>(
+    out: &mut W,
+    reported: &Reported,
+    room: &[u8],
+    values: &[u16],
+) -> io::Result<()> {
+    write!(out, "? ")?;
+    say_handed(out, reported.handed, &reported.payload, room)?;
+    say_left(out, room, values)
 }
 
-// A contact: answers the panel that it left.
-pub fn say_contacted(contacted: Contacted, room: &[u8], values: &[u16]) -> Panel {
-    let a = contacted.answer;
+pub fn say_contacted<W: Write>(
+    out: &mut W,
+    contacted: &Contacted,
+    room: &[u8],
+    values: &[u16],
+) -> io::Result<()> {
+    say_contact(out, contacted.answer)?;
     let n = contacted.written;
-    say_contact(a);
-    say::text(b" written ");
-    say::number(n);
-    say::part(room, 0, n);
-    say_left(room, values);
-    contacted.panel
+    let written = part(room, 0, n);
+    write!(out, " written {n}{written}")?;
+    say_left(out, room, values)
 }

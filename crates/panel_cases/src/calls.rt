@@ -1,106 +1,113 @@
-// Starting a panel, giving it bytes, marks and seconds, and the calls at which nothing is lent.
-use crate::{Bench, answers, lending, listing, say, script, showing, touching};
+// The panel's calls.
+use crate::lending::part_of;
+use crate::{Bench, answers, script};
 use panel::{Panel, StartAnswer};
+use std::io::{self, Read, Write};
 
 // How many bytes may be given at once.
 const PIECE: usize = 4096;
 
-fn is_started(a: StartAnswer) -> bool {
-    match a {
-        StartAnswer::Started => true,
-        StartAnswer::WrongSetup => false,
-        StartAnswer::NotRecords => false,
-        StartAnswer::WrongRecord(_) => false,
+// A panel that is refused leaves the one before.
+pub fn start<R: Read, W: Write>(bench: &mut Bench, script: &mut R, out: &mut W) -> io::Result<()> {
+    let setup = script::next_setup(script)?;
+    let n = part_of(bench.lent.table, bench.table.len());
+    let started = Panel::start(setup, &bench.table[..n]);
+    if let StartAnswer::Started = started.answer {
+        bench.panel = started.panel;
     }
+    answers::say_start(out, started.answer)
 }
 
-pub fn start(bench: Bench, table: &[u8]) -> Bench {
-    let setup = script::next_setup();
-    let n = lending::part_of(bench.table, table.len());
-    let s = Panel::start(setup, &table[0..n]);
-    let a = s.answer;
-    let panel = s.panel;
-    answers::say_start(a);
-    if is_started(a) {
-        return Bench {
-            panel: panel,
-            ..bench
-        };
-    }
-    bench
+pub fn give_byte<R: Read, W: Write>(
+    bench: &mut Bench,
+    script: &mut R,
+    out: &mut W,
+) -> io::Result<()> {
+    let fed = bench.panel.give_byte(script::next_byte(script)?);
+    bench.panel = fed.panel;
+    answers::say_input(out, "B", fed.answer)
 }
 
-fn give_byte(bench: Bench) -> Bench {
-    let b = script::next_byte();
-    let panel = bench.panel;
-    let fed = panel.give_byte(b);
-    let a = fed.answer;
-    let next = fed.panel;
-    say::text(b"B ");
-    answers::say_input(a);
-    Bench {
-        panel: next,
-        ..bench
-    }
-}
-
-fn give_bytes(bench: Bench) -> Bench {
+pub fn give_bytes<R: Read, W: Write>(
+    bench: &mut Bench,
+    script: &mut R,
+    out: &mut W,
+) -> io::Result<()> {
     let mut bytes = [0u8; PIECE];
-    let n = script::next_word() as usize;
-    script::fill(&mut bytes, n);
+    let n = script::next_count(script)?;
     if n <= PIECE {
-        let panel = bench.panel;
-        let fed = panel.give_bytes(&bytes[0..n]);
-        let next = fed.panel;
-        say::text(b"G ");
-        say::number(fed.used);
-        say::text(b"\n");
-        return Bench {
-            panel: next,
-            ..bench
-        };
+        let given = &mut bytes[..n];
+        script::fill(script, given)?;
+        let fed = bench.panel.give_bytes(given);
+        bench.panel = fed.panel;
+        let used = fed.used;
+        writeln!(out, "G {used}")?;
     }
-    bench
+    Ok(())
 }
 
-fn give_mark(bench: Bench) -> Bench {
-    let panel = bench.panel;
-    let fed = panel.give_mark();
-    let a = fed.answer;
-    let next = fed.panel;
-    say::text(b"M ");
-    answers::say_input(a);
-    Bench {
-        panel: next,
-        ..bench
-    }
+pub fn give_mark<W: Write>(bench: &mut Bench, out: &mut W) -> io::Result<()> {
+    let fed = bench.panel.give_mark();
+    bench.panel = fed.panel;
+    answers::say_input(out, "M", fed.answer)
 }
 
-fn give_second(bench: Bench) -> Bench {
-    let panel = bench.panel;
-    let fed = panel.give_second();
-    let a = fed.answer;
-    let next = fed.panel;
-    say::text(b"P ");
-    answers::say_input(a);
-    Bench {
-        panel: next,
-        ..bench
-    }
+pub fn give_second<W: Write>(bench: &mut Bench, out: &mut W) -> io::Result<()> {
+    let fed = bench.panel.give_second();
+    bench.panel = fed.panel;
+    answers::say_input(out, "P", fed.answer)
 }
 
-// Calls at which nothing is lent.
-pub fn plain(bench: Bench, letter: u8) -> Bench {
-    match letter {
-        b'#' => lending::title(bench),
-        b'L' => lending::lend(bench),
-        b'W' => listing::lend(bench),
-        b'B' => give_byte(bench),
-        b'G' => give_bytes(bench),
-        b'M' => give_mark(bench),
-        b'P' => give_second(bench),
-        b'U' => touching::lift(bench),
-        b'I' => showing::show_moment(bench),
-        _ => bench,
-    }
+pub fn ask<W: Write>(bench: &mut Bench, out: &mut W) -> io::Result<()> {
+    let lent = bench.lent;
+    let n = part_of(lent.words, bench.words.len());
+    let k = part_of(lent.curves, bench.curves.len());
+    let m = part_of(lent.room, bench.room.len());
+    let a = part_of(lent.addresses, bench.addresses.len());
+    let u = part_of(lent.uses, bench.uses.len());
+    let v = part_of(lent.values, bench.values.len());
+    let reported = bench.panel.report(
+        &mut bench.words[..n],
+        &mut bench.curves[..k],
+        &mut bench.room[..m],
+        &bench.addresses[..a],
+        &bench.uses[..u],
+        &mut bench.values[..v],
+    );
+    bench.panel = reported.panel;
+    answers::say_reported(out, &reported, &bench.room, &bench.values[..v])
+}
+
+pub fn contact<R: Read, W: Write>(
+    bench: &mut Bench,
+    script: &mut R,
+    out: &mut W,
+) -> io::Result<()> {
+    let x = script::next_word(script)?;
+    let y = script::next_word(script)?;
+    let lent = bench.lent;
+    let t = part_of(lent.table, bench.table.len());
+    let n = part_of(lent.words, bench.words.len());
+    let m = part_of(lent.room, bench.room.len());
+    let a = part_of(lent.addresses, bench.addresses.len());
+    let u = part_of(lent.uses, bench.uses.len());
+    let v = part_of(lent.values, bench.values.len());
+    let contacted = bench.panel.contact(
+        &bench.table[..t],
+        &mut bench.words[..n],
+        &mut bench.room[..m],
+        &bench.addresses[..a],
+        &bench.uses[..u],
+        &mut bench.values[..v],
+        x,
+        y,
+    );
+    bench.panel = contacted.panel;
+    answers::say_contacted(out, &contacted, &bench.room, &bench.values[..v])
+}
+
+pub fn lift<W: Write>(bench: &mut Bench, out: &mut W) -> io::Result<()> {
+    let lifted = bench.panel.lift();
+    bench.panel = lifted.panel;
+    answers::say_lift(out, lifted.answer)
 }

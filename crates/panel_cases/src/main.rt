@@ -30,19 +30,17 @@
 use curves::CURVE_WORDS;
 use frame::LEAST_ROOM;
 use panel::Panel;
+use std::io::{self, BufReader, BufWriter, Read, Write};
 use touch::Setup;
 use wire::WORD_COUNT;
 
 mod answers;
-mod asking;
 mod calls;
 mod lending;
-mod listing;
 mod say;
 mod script;
 mod showing;
 mod sums;
-mod touching;
 
 const TABLE: usize = 8192;
 
@@ -54,10 +52,9 @@ const ROOM: usize = 300;
 
 const LISTED: usize = 20;
 
-// The panel, and how much of each array is lent.
+// How much of each array is lent.
 #[derive(Clone, Copy)]
-struct Bench {
-    panel: Panel,
+struct Lent {
     table: usize,
     words: usize,
     curves: usize,
@@ -67,84 +64,96 @@ struct Bench {
     values: usize,
 }
 
-// One call of the script, by its letter.
-fn call(
-    bench: Bench,
-    letter: u8,
-    table: &mut [u8],
-    words: &mut [u16],
-    curves: &mut [u16],
-    room: &mut [u8],
-    addresses: &mut [u16],
-    uses: &mut [u8],
-    values: &mut [u16],
-) -> Bench {
-    match letter {
-        b'T' => lending::lend_table(bench, table),
-        b'S' => calls::start(bench, table),
-        b'K' => lending::set_word(bench, words),
-        b'R' | b'V' | b'D' => showing::show(bench, letter, words),
-        b'H' => lending::set_word(bench, curves),
-        b'N' => showing::show_channel(bench, curves),
-        b'E' => listing::set_entry(bench, addresses, uses, values),
-        b'?' | b'C' => listing::call(
-            bench, letter, table, words, curves, room, addresses, uses, values,
-        ),
-        _ => calls::plain(bench, letter),
-    }
+// The panel, and the arrays that are lent at its calls.
+#[derive(Drop)]
+struct Bench {
+    panel: Panel,
+    table: [u8; TABLE],
+    words: [u16; WORDS],
+    curves: [u16; CURVES],
+    room: [u8; ROOM],
+    addresses: [u16; LISTED],
+    uses: [u8; LISTED],
+    values: [u16; LISTED],
+    lent: Lent,
 }
 
-// The first panel, and what the papers ask to be lent.
-fn first_bench() -> Bench {
-    let setup = Setup {
-        h1: 0,
-        h2: 0,
-        flags: 0,
-        pages: 1,
-        width: 1,
-        height: 1,
-    };
-    let started = Panel::start(setup, b"");
-    let panel = started.panel;
-    Bench {
-        panel: panel,
-        table: 0,
-        words: WORD_COUNT,
-        curves: CURVE_WORDS,
-        room: LEAST_ROOM,
-        addresses: 0,
-        uses: 0,
-        values: 0,
-    }
-}
-
-// A proved loop has to end, and nothing says that the script does. So the loop counts its turns down, from a number that no run uses up.
-fn main() {
-    let mut table = [0u8; TABLE];
-    let mut words = [0u16; WORDS];
-    let mut curves = [0xC0DEu16; CURVES];
-    let mut room = [0xEEu8; ROOM];
-    let mut addresses = [0u16; LISTED];
-    let mut uses = [0u8; LISTED];
-    let mut values = [0u16; LISTED];
-    let mut bench = first_bench();
-    let mut turns = u64::MAX;
-    while turns > 0 {
-        let letter = script::next_byte();
-        if letter == 0 {
-            return;
+impl Bench {
+    // The first panel, and as much lent as the papers ask for.
+    fn new() -> Bench {
+        let setup = Setup {
+            h1: 0,
+            h2: 0,
+            flags: 0,
+            pages: 1,
+            width: 1,
+            height: 1,
+        };
+        Bench {
+            panel: Panel::start(setup, b"").panel,
+            table: [0u8; TABLE],
+            words: [0u16; WORDS],
+            curves: [0xC0DEu16; CURVES],
+            room: [0xEEu8; ROOM],
+            addresses: [0u16; LISTED],
+            uses: [0u8; LISTED],
+            values: [0u16; LISTED],
+            lent: Lent {
+                table: 0,
+                words: WORD_COUNT,
+                curves: CURVE_WORDS,
+                room: LEAST_ROOM,
+                addresses: 0,
+                uses: 0,
+                values: 0,
+            },
         }
-        bench = call(
-            bench,
-            letter,
-            &mut table,
-            &mut words,
-            &mut curves,
-            &mut room,
-            &mut addresses,
-            &mut uses,
-            &mut values,
-        );
-        turns -= 1;
     }
+
+    // One call of the script, by its letter.
+    fn call<R: Read, W: Write>(
+        &mut self,
+        letter: u8,
+        script: &mut R,
+        out: &mut W,
+    ) -> io::Result<()> {
+        match letter {
+            b'#' => lending::title(script, out),
+            b'T' => lending::lend_table(self, script),
+            b'L' => lending::lend(self, script),
+            b'W' => lending::lend_list(self, script),
+            b'E' => lending::set_entry(self, script),
+            b'K' => lending::set_word(&mut self.words, script),
+            b'H' => lending::set_word(&mut self.curves, script),
+            b'S' => calls::start(self, script, out),
+            b'B' => calls::give_byte(self, script, out),
+            b'G' => calls::give_bytes(self, script, out),
+            b'M' => calls::give_mark(self, out),
+            b'P' => calls::give_second(self, out),
+            b'?' => calls::ask(self, out),
+            b'C' => calls::contact(self, script, out),
+            b'U' => calls::lift(self, out),
+            b'R' => showing::show_register(self, script, out),
+            b'V' => showing::show_word(self, script, out),
+            b'D' => showing::show_all(self, out),
+            b'I' => showing::show_moment(self, out),
+            b'N' => showing::show_channel(self, script, out),
+            _ => Ok(()),
+        }
+    }
+}
+
+// A proved loop has to end, and nothing says that the script does. So the loop counts its turns, to a number that no run comes to.
+fn main(rt: HostRuntime) -> io::Result<()> {
+    let mut script = BufReader::new(rt.alloc(), rt.reader())?;
+    let mut out = BufWriter::new(rt.alloc(), io::writer(&rt))?;
+    let mut bench = Bench::new();
+    for _ in 0..u64::MAX {
+        let letter = script::next_byte(&mut script)?;
+        if letter == 0 {
+            break;
+        }
+        bench.call(letter, &mut script, &mut out)?;
+    }
+    out.flush()
 }

@@ -1,56 +1,53 @@
-// Writing texts, numbers and bytes.
-use libc::STDOUT_FILENO;
+// How bytes and words are written: in hex digits, a space before each.
+use panel::Panel;
+use registers::RegisterAddress;
+use std::fmt;
 
-pub fn text(s: &[u8]) {
-    io::write_all(STDOUT_FILENO, s);
-}
+#[derive(Clone, Copy)]
+pub struct Bytes<'a>(pub &'a [u8]);
 
-pub fn number(n: usize) {
-    io::print_decimal(STDOUT_FILENO, n as u64);
-}
-
-pub fn small(n: u8) {
-    text(b" ");
-    number(wire::count(n));
-}
-
-pub fn byte(b: u8) {
-    text(b" ");
-    io::print_hex(STDOUT_FILENO, b as u64, 2);
-}
-
-pub fn word(w: u16) {
-    text(b" ");
-    io::print_hex(STDOUT_FILENO, w as u64, 4);
-}
-
-fn bytes(s: &[u8]) {
-    let mut i = 0;
-    while i < s.len() {
-        byte(s[i]);
-        i += 1;
+impl fmt::Display for Bytes<'_> {
+    fn fmt<W: fmt::Write>(&self, f: &mut fmt::Formatter<W>) -> fmt::Result {
+        for b in self.0 {
+            write!(f, " {b:02x}")?;
+        }
+        Ok(())
     }
 }
 
-pub fn words(s: &[u16]) {
-    let mut i = 0;
-    while i < s.len() {
-        word(s[i]);
-        i += 1;
+#[derive(Clone, Copy)]
+pub struct Words<'a>(pub &'a [u16]);
+
+impl fmt::Display for Words<'_> {
+    fn fmt<W: fmt::Write>(&self, f: &mut fmt::Formatter<W>) -> fmt::Result {
+        for w in self.0 {
+            write!(f, " {w:04x}")?;
+        }
+        Ok(())
+    }
+}
+
+// All registers of a panel.
+#[derive(Clone, Copy)]
+pub struct AllRegisters(pub Panel);
+
+impl fmt::Display for AllRegisters {
+    fn fmt<W: fmt::Write>(&self, f: &mut fmt::Formatter<W>) -> fmt::Result {
+        for address in 0..=u8::MAX {
+            let b = self.0.register(RegisterAddress(address));
+            write!(f, " {b:02x}")?;
+        }
+        Ok(())
     }
 }
 
 // The n bytes of s from a place on, where s has them.
-pub fn part(s: &[u8], from: usize, n: usize) {
+pub fn part(s: &[u8], from: usize, n: usize) -> Bytes<'_> {
     if from <= s.len() {
         let rest = &s[from..];
         if n <= rest.len() {
-            bytes(&rest[0..n]);
+            return Bytes(&rest[..n]);
         }
     }
-}
-
-pub fn sum(n: u64) {
-    text(b" ");
-    io::print_decimal(STDOUT_FILENO, n);
+    Bytes(&s[..0])
 }

@@ -1,38 +1,50 @@
 // Reading the script.
-use libc::STDIN_FILENO;
+use std::io::{self, ErrorKind, Read};
 use touch::Setup;
 
+// Fills a room from the script. Past the end of it the room stays as it is.
+pub fn fill<R: Read>(script: &mut R, room: &mut [u8]) -> io::Result<()> {
+    match script.read_exact(room) {
+        Err(e) if e.kind() != ErrorKind::UnexpectedEof => Err(e),
+        _ => Ok(()),
+    }
+}
+
 // Past the end of the script there are only zeros.
-pub fn next_byte() -> u8 {
+pub fn next_byte<R: Read>(script: &mut R) -> io::Result<u8> {
     let mut one = [0u8; 1];
-    io::read_full(STDIN_FILENO, &mut one);
-    one[0]
+    fill(script, &mut one)?;
+    Ok(one[0])
 }
 
-pub fn next_word() -> u16 {
-    let high = next_byte();
-    wire::word(high, next_byte())
+pub fn next_word<R: Read>(script: &mut R) -> io::Result<u16> {
+    let high = next_byte(script)?;
+    let low = next_byte(script)?;
+    Ok(wire::word(high, low))
 }
 
-// Reads n bytes into the front of a room that holds them.
-pub fn fill(room: &mut [u8], n: usize) {
-    if n <= room.len() {
-        io::read_full(STDIN_FILENO, &mut room[0..n]);
-    }
+// A number of one byte, and one of two, as a count or an index.
+pub fn next_small<R: Read>(script: &mut R) -> io::Result<usize> {
+    Ok(wire::count(next_byte(script)?))
 }
 
-pub fn next_setup() -> Setup {
-    let h1 = next_byte();
-    let h2 = next_byte();
-    let flags = next_byte();
-    let pages = next_word();
-    let width = next_word();
-    Setup {
-        h1: h1,
-        h2: h2,
-        flags: flags,
-        pages: pages,
-        width: width,
-        height: next_word(),
-    }
+pub fn next_count<R: Read>(script: &mut R) -> io::Result<usize> {
+    Ok(next_word(script)? as usize)
+}
+
+pub fn next_setup<R: Read>(script: &mut R) -> io::Result<Setup> {
+    let h1 = next_byte(script)?;
+    let h2 = next_byte(script)?;
+    let flags = next_byte(script)?;
+    let pages = next_word(script)?;
+    let width = next_word(script)?;
+    let height = next_word(script)?;
+    Ok(Setup {
+        h1,
+        h2,
+        flags,
+        pages,
+        width,
+        height,
+    })
 }

@@ -1,103 +1,74 @@
 // What stands in the panel, in the words and in the curve area.
-use crate::{Bench, say, script, sums};
+use crate::say::{AllRegisters, Words};
+use crate::{Bench, script, sums};
 use curves::CHANNEL_WORDS;
-use panel::Panel;
 use registers::RegisterAddress;
-use wire::REGISTER_COUNT;
+use std::io::{self, Read, Write};
 
-fn show_register(bench: Bench) -> Bench {
-    let address = script::next_byte();
-    let panel = bench.panel;
-    say::text(b"R");
-    say::byte(address);
-    say::byte(panel.register(RegisterAddress(address)));
-    say::text(b"\n");
-    bench
+pub fn show_register<R: Read, W: Write>(
+    bench: &Bench,
+    script: &mut R,
+    out: &mut W,
+) -> io::Result<()> {
+    let address = script::next_byte(script)?;
+    let value = bench.panel.register(RegisterAddress(address));
+    writeln!(out, "R {address:02x} {value:02x}")
 }
 
-fn show_word(bench: Bench, words: &[u16]) -> Bench {
-    let at = script::next_word();
-    say::text(b"V");
-    say::word(at);
-    if (at as usize) < words.len() {
-        say::word(words[at as usize]);
+pub fn show_word<R: Read, W: Write>(bench: &Bench, script: &mut R, out: &mut W) -> io::Result<()> {
+    let address = script::next_word(script)?;
+    write!(out, "V {address:04x}")?;
+    if let Some(word) = bench.words.get(address as usize) {
+        write!(out, " {word:04x}")?;
     }
-    say::text(b"\n");
-    bench
+    writeln!(out)
 }
 
-fn say_registers(panel: Panel) {
-    let mut i: usize = 0;
-    while i < REGISTER_COUNT {
-        say::byte(panel.register(RegisterAddress((i % 256) as u8)));
-        i += 1;
-    }
-}
-
-fn show_all(bench: Bench, words: &[u16]) -> Bench {
+pub fn show_all<W: Write>(bench: &Bench, out: &mut W) -> io::Result<()> {
     let panel = bench.panel;
-    say::text(b"D");
-    say_registers(panel);
-    say::text(b" page");
-    say::word(panel.page());
-    say::text(b" backlight");
-    say::byte(panel.backlight());
-    say::text(b" buzzer");
-    say::byte(panel.buzzer());
-    say::text(b" words");
-    say::sum(sums::of_words(words));
-    say::text(b"\n");
-    bench
+    let registers = AllRegisters(panel);
+    let page = panel.page();
+    let backlight = panel.backlight();
+    let buzzer = panel.buzzer();
+    let sum = sums::of_words(&bench.words);
+    write!(out, "D{registers} page {page:04x}")?;
+    writeln!(
+        out,
+        " backlight {backlight:02x} buzzer {buzzer:02x} words {sum}"
+    )
 }
 
 // The moment of the clock, in numbers: year, month, day, weekday, hour, minute, second.
-pub fn show_moment(bench: Bench) -> Bench {
-    let panel = bench.panel;
-    let moment = panel.moment();
+pub fn show_moment<W: Write>(bench: &Bench, out: &mut W) -> io::Result<()> {
+    let moment = bench.panel.moment();
     let date = moment.date;
     let time = moment.time;
-    say::text(b"I ");
-    say::number(2000 + wire::count(date.year));
-    say::small(date.month);
-    say::small(date.day);
-    say::small(date.weekday());
-    say::small(time.hour);
-    say::small(time.minute);
-    say::small(time.second);
-    say::text(b"\n");
-    bench
+    let year = 2000 + wire::count(date.year);
+    let weekday = date.weekday();
+    write!(out, "I {year} {} {} {weekday}", date.month, date.day)?;
+    writeln!(out, " {} {} {}", time.hour, time.minute, time.second)
 }
 
 // The first n words of a channel's part, where the area has them.
-fn say_channel(channel: u8, n: usize, curves: &[u16]) {
-    let from = channel as usize * CHANNEL_WORDS;
-    if from <= curves.len() {
-        let rest = &curves[from..];
+fn channel_words(area: &[u16], channel: u8, n: usize) -> Words<'_> {
+    let from = wire::count(channel) * CHANNEL_WORDS;
+    if from <= area.len() {
+        let rest = &area[from..];
         if n <= rest.len() {
-            say::words(&rest[0..n]);
+            return Words(&rest[..n]);
         }
     }
+    Words(&area[..0])
 }
 
-pub fn show_channel(bench: Bench, curves: &[u16]) -> Bench {
-    let channel = script::next_byte();
-    let panel = bench.panel;
-    let n = panel.curve_count(channel as usize) as usize;
-    say::text(b"N");
-    say::byte(channel);
-    say::text(b" count ");
-    say::number(n);
-    say_channel(channel, n, curves);
-    say::text(b" area");
-    say::sum(sums::of_words(curves));
-    say::text(b"\n");
-    bench
-}
-
-pub fn show(bench: Bench, letter: u8, words: &[u16]) -> Bench {
-    match letter {
-        b'R' => show_register(bench),
-        b'V' => show_word(bench, words),
-        _ => show_all(bench, words),
-    }
+pub fn show_channel<R: Read, W: Write>(
+    bench: &Bench,
+    script: &mut R,
+    out: &mut W,
+) -> io::Result<()> {
+    let channel = script::next_byte(script)?;
+    let n = bench.panel.curve_count(wire::count(channel)) as usize;
+    let held = channel_words(&bench.curves, channel, n);
+    let sum = sums::of_words(&bench.curves);
+    writeln!(out, "N {channel:02x} count {n}{held} area {sum}")
 }

@@ -5,21 +5,17 @@ fn mixed(sum: u64, w: u16) -> u64 {
 }
 
 pub fn of_bytes(bytes: &[u8]) -> u64 {
-    let mut sum: u64 = 1;
-    let mut i = 0;
-    while i < bytes.len() {
-        sum = mixed(sum, wire::word(0, bytes[i]));
-        i += 1;
+    let mut sum = 1;
+    for b in bytes {
+        sum = mixed(sum, wire::wide(*b));
     }
     sum
 }
 
 pub fn of_words(words: &[u16]) -> u64 {
-    let mut sum: u64 = 1;
-    let mut i = 0;
-    while i < words.len() {
-        sum = mixed(sum, words[i]);
-        i += 1;
+    let mut sum = 1;
+    for w in words {
+        sum = mixed(sum, *w);
     }
     sum
 }

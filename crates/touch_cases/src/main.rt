@@ -3,16 +3,12 @@
 // then label and table. Numbers of two bytes go high byte first. The program ends at a cut case or a table over 8,192 bytes.
 #![tactic(auto)]
 
-use libc::{STDIN_FILENO, STDOUT_FILENO};
+use std::io::{self, BufReader, BufWriter, ErrorKind, Read, Write};
 use touch::{Found, Setup, Verdict};
 
 const HEAD: usize = 21;
 
 const ROOM: usize = 8192;
-
-fn say(text: &[u8]) {
-    io::write_all(STDOUT_FILENO, text);
-}
 
 fn setup_of(head: &[u8]) -> Setup {
     Setup {
@@ -25,52 +21,51 @@ fn setup_of(head: &[u8]) -> Setup {
     }
 }
 
-fn say_setup(s: Setup) {
+fn say_setup<W: Write>(out: &mut W, s: Setup) -> io::Result<()> {
     if touch::good_setup(s) {
-        say(b"0");
+        write!(out, "0")?;
     } else {
-        say(b"11");
+        write!(out, "11")?;
     }
     if touch::checking(s) {
-        say(b" checking");
+        write!(out, " checking")?;
     }
     if touch::acknowledging(s) {
-        say(b" acknowledging");
+        write!(out, " acknowledging")?;
     }
+    Ok(())
 }
 
-fn say_verdict(v: Verdict) {
+fn say_verdict<W: Write>(out: &mut W, v: Verdict) -> io::Result<()> {
     match v {
-        Verdict::Good => say(b"0"),
-        Verdict::NotRecords => say(b"12"),
-        Verdict::Wrong(i) => {
-            say(b"13 ");
-            io::print_decimal(STDOUT_FILENO, i as u64);
-        }
+        Verdict::Good => write!(out, "0"),
+        Verdict::NotRecords => write!(out, "12"),
+        Verdict::Wrong(i) => write!(out, "13 {i}"),
     }
 }
 
-fn say_found(f: Found) {
+fn say_found<W: Write>(out: &mut W, f: Found) -> io::Result<()> {
     match f {
-        Found::Nothing => say(b"none"),
+        Found::Nothing => write!(out, "none"),
         Found::At(i, r) => {
-            io::print_decimal(STDOUT_FILENO, i as u64);
+            write!(out, "{i}")?;
             if touch::is_slider(r) {
-                say(b" caught");
+                write!(out, " caught")?;
             }
             if touch::no_next(r) {
-                say(b" stays");
+                write!(out, " stays")?;
             }
+            Ok(())
         }
     }
 }
 
-fn say_word(w: u16) {
-    io::print_hex(STDOUT_FILENO, w as u64, 4);
+fn say_word<W: Write>(out: &mut W, w: u16) -> io::Result<()> {
+    write!(out, "{w:04x}")
 }
 
 // What the library answers to a case.
-fn answer(head: &[u8], table: &[u8]) {
+fn answer<W: Write>(out: &mut W, head: &[u8], table: &[u8]) -> io::Result<()> {
     let kind = wire::byte_at(head, 0);
     let s = setup_of(head);
     let page = wire::word_at(head, 13);
@@ -78,62 +73,60 @@ fn answer(head: &[u8], table: &[u8]) {
     let y = wire::word_at(head, 17);
     let old = wire::word_at(head, 19);
     match kind {
-        0 => say_setup(s),
-        1 => say_verdict(touch::judge(s, table)),
-        2 => say_found(touch::find(table, page, x, y)),
-        3 => say_word(touch::acted(s, touch::record_of(table), old, x, y)),
-        _ => say_word(touch::dragged(s, touch::record_of(table), old, x, y)),
+        0 => say_setup(out, s),
+        1 => say_verdict(out, touch::judge(s, table)),
+        2 => say_found(out, touch::find(table, page, x, y)),
+        3 => say_word(out, touch::acted(s, touch::record_of(table), old, x, y)),
+        _ => say_word(out, touch::dragged(s, touch::record_of(table), old, x, y)),
     }
 }
 
-// Reads n bytes into the front of a room, or says that there are not so many.
-fn filled(room: &mut [u8], n: usize) -> bool {
-    if room.len() < n {
-        return false;
+// Fills a room from the input, or says that there is not so much.
+fn is_filled<R: Read>(input: &mut R, room: &mut [u8]) -> io::Result<bool> {
+    match input.read_exact(room) {
+        Ok(()) => Ok(true),
+        Err(e) if e.kind() == ErrorKind::UnexpectedEof => Ok(false),
+        Err(e) => Err(e),
     }
-    io::read_full(STDIN_FILENO, &mut room[0..n]) == n
 }
 
 // Writes the label and the answer of a case.
-fn show(head: &[u8], label: &[u8], named: usize, table: &[u8], size: usize) {
-    if label.len() < named {
-        return;
-    }
-    if table.len() < size {
-        return;
-    }
-    say(&label[0..named]);
-    say(b": ");
-    answer(head, &table[0..size]);
-    say(b"\n");
+fn show<W: Write>(out: &mut W, head: &[u8], label: &[u8], table: &[u8]) -> io::Result<()> {
+    out.write_all(label)?;
+    write!(out, ": ")?;
+    answer(out, head, table)?;
+    writeln!(out)
 }
 
 // Reads a case and answers it, or says that there is none.
-fn one_case() -> bool {
+fn is_shown<R: Read, W: Write>(input: &mut R, out: &mut W) -> io::Result<bool> {
     let mut head = [0u8; HEAD];
-    if filled(&mut head, HEAD) {
-        let named = wire::count(wire::byte_at(&head, 1));
-        let size = wire::word_at(&head, 2) as usize;
-        let mut label = [0u8; 256];
-        let mut table = [0u8; ROOM];
-        let is_named = filled(&mut label, named);
-        let is_whole = filled(&mut table, size);
-        if is_named & is_whole {
-            show(&head, &label, named, &table, size);
-            return true;
-        }
+    let mut label = [0u8; 256];
+    let mut table = [0u8; ROOM];
+    if !is_filled(input, &mut head)? {
+        return Ok(false);
     }
-    false
+    let named = wire::count(wire::byte_at(&head, 1));
+    let size = wire::word_at(&head, 2) as usize;
+    if ROOM < size {
+        return Ok(false);
+    }
+    let is_named = is_filled(input, &mut label[..named])?;
+    let is_whole = is_filled(input, &mut table[..size])?;
+    if is_named & is_whole {
+        show(out, &head, &label[..named], &table[..size])?;
+    }
+    Ok(is_named & is_whole)
 }
 
-// A proved loop has to end, and nothing says that the input does. So the loop counts its turns down, from a number that no run uses up.
-fn main() {
-    let mut turns = u64::MAX;
-    while turns > 0 {
-        if one_case() {
-            turns -= 1;
-        } else {
-            turns = 0;
+// A proved loop has to end, and nothing says that the input does. So the loop counts its turns, to a number that no run comes to.
+fn main(rt: HostRuntime) -> io::Result<()> {
+    let mut input = BufReader::new(rt.alloc(), rt.reader())?;
+    let mut out = BufWriter::new(rt.alloc(), io::writer(&rt))?;
+    for _ in 0..u64::MAX {
+        if !is_shown(&mut input, &mut out)? {
+            break;
         }
     }
+    out.flush()
 }
