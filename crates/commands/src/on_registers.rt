@@ -85,7 +85,7 @@ fn put(registers: &[u8], address: RegisterAddress, n: u8, body: &mut [u8])
     ensures { body.new ≡ over (0x81 ∷ registers_reply (holding registers.now) address.0 n) body.old }
 {
     let head = [0x81, address.0, n];
-    bytes::copy(&head, body);
+    body[..3].copy_from_slice(&head);
     registers::read(registers, address, n, &mut body[3..]);
 }
 

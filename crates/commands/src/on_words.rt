@@ -68,7 +68,7 @@ fn put(words: &[u16], address: WordAddress, n: u8, body: &mut [u8])
 {
     let a = address.0;
     let head = [0x83, wire::high_byte(a), wire::low_byte(a), n];
-    bytes::copy(&head, body);
+    body[..4].copy_from_slice(&head);
     words::read(words, address, n, &mut body[4..]);
 }
 

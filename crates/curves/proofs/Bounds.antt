@@ -1,12 +1,11 @@
 -- No count passes 1,024, and no word of the area 16 bits.
 use mathlib.Core.Bool.{Bool, true, false, cond, not, ◌&&◌}
-use mathlib.Core.List.{List, [], ◌∷◌, ◌++◌}
+use mathlib.Core.List.{List, [], ◌++◌}
 use Prim.Native.Nat.{ℕ, zero, suc, ◌-◌, ◌*◌, ◌≤◌, ◌<◌}
 use native.Mathlib.Omega.{arith}
 use lib.Dec.{eqb, leb}
 use lib.ListN.{length, get_or, set, take, drop}
 use Rattle.wire.specs.Bytes.{Bytes}
-use Rattle.words.specs.Words.{words_of}
 use Rattle.words.proofs.Carried.{words_of_16_bit}
 use Rattle.curves.specs.declared.Counts.{Counts}
 use Rattle.curves.specs.Area.{channel_count, channel_words, curve_words, counting, no_counts, count_of, part_of, held_by, latest, Drawn, draws, on_channel}

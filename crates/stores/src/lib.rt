@@ -110,6 +110,7 @@ fn fence(up: bool, round: bool, least: u64, greatest: u64, t: u64) -> u64
 }
 
 // The word after a step acted on it.
+#[tactic(auto, unfolding(crate::specs::Step::step_stores))]
 pub fn step_stores(
     mode: u8,
     old: u16,
@@ -211,6 +212,7 @@ fn slide(sheet: Sheet, begin: u16, end: u16, first: u16, last: u16, at: u16) -> 
 
 // The word after a slider acted on it, rounding by a sheet: begin and end stand at the first and the last edge, and the point lies
 // at a place along the axis.
+#[tactic(auto, unfolding(crate::specs::Slider::slider_stores))]
 pub fn slider_stores(
     sheet: Sheet,
     mode: u8,

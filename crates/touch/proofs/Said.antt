@@ -4,7 +4,7 @@ use mathlib.Core.Bool.{Bool, true, false, cond, not}
 use mathlib.Core.List.{List, [], ◌∷◌}
 use Prim.Native.Nat.{ℕ, zero, suc, ◌+◌, ◌/◌}
 use lib.ListN.{length}
-use Rattle.wire.specs.Numbers.{Said, says, first_said}
+use Rattle.wire.specs.Numbers.{says, first_said}
 use Rattle.touch.specs.declared.Setup.{Setup}
 use Rattle.touch.specs.declared.Verdict.{Verdict}
 use Rattle.touch.specs.declared.Verdict.TheVariants.{NotRecords}

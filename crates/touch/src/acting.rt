@@ -5,6 +5,7 @@ ghost use Rattle.touch.specs.Act.{slid_at, acted_of, dragged_of};
 
 use crate::{Kind, Record, Setup, SliderFields, records, setups};
 
+#[tactic(auto, unfolding(crate::specs::Rounding::rounding_of))]
 fn slid_at(setup: Setup, r: Record, f: SliderFields, old: u16, x: u16, y: u16) -> u16
     ensures { result ≡ slid_at (rounding_of setup) r f old x y }
 {

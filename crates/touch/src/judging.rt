@@ -24,6 +24,7 @@ fn good_end(mode: u8, w: u16) -> bool
     (mode == 0) | (w < 256)
 }
 
+#[tactic(auto, unfolding(crate::specs::Judge::good_step))]
 fn good_step(mode: u8, f: StepFields) -> bool
     ensures { result ≡ good_step mode f }
 {
@@ -42,6 +43,7 @@ fn same_area(a: Area, b: Area) -> bool
     (a.xs == b.xs) & (a.ys == b.ys) & (a.xe == b.xe) & (a.ye == b.ye)
 }
 
+#[tactic(auto, unfolding(crate::specs::Judge::good_slider))]
 fn good_slider(r: Record, f: SliderFields) -> bool
     ensures { result ≡ good_slider r f }
 {
@@ -71,6 +73,7 @@ fn good_kind(r: Record) -> bool
     }
 }
 
+#[tactic(auto, unfolding(crate::specs::Judge::good_record))]
 pub fn good_record(s: Setup, r: Record) -> bool
     ensures { result ≡ good_record s r }
 {

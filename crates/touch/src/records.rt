@@ -6,6 +6,7 @@ ghost use Rattle.touch.specs.Table.{record_bytes, record_at};
 use crate::{Area, Kind, RECORD_BYTES, Record, SliderFields, StepFields};
 
 // The area whose four numbers stand from a place on.
+#[tactic(auto, unfolding(crate::specs::Record::area_at))]
 fn area_at(bytes: &[u8], at: u8) -> Area
     ensures { result ≡ area_at bytes.now at }
 {
@@ -18,6 +19,7 @@ fn area_at(bytes: &[u8], at: u8) -> Area
     }
 }
 
+#[tactic(auto, unfolding(crate::specs::Record::step_fields))]
 fn step_fields(bytes: &[u8]) -> StepFields
     ensures { result ≡ step_fields bytes.now }
 {
@@ -31,6 +33,7 @@ fn step_fields(bytes: &[u8]) -> StepFields
     }
 }
 
+#[tactic(auto, unfolding(crate::specs::Record::slider_fields))]
 fn slider_fields(bytes: &[u8]) -> SliderFields
     ensures { result ≡ slider_fields bytes.now }
 {
@@ -59,6 +62,7 @@ fn kind_of(bytes: &[u8]) -> Kind
 }
 
 // The record that stands at the front of these bytes; bytes past the end count as 0.
+#[tactic(auto, unfolding(crate::specs::Record::record_of))]
 pub fn record_of(bytes: &[u8]) -> Record
     ensures { result ≡ record_of bytes.now }
 {

@@ -130,10 +130,11 @@ module _ (words : List ℕ) (w : Watched) where
       go true due on =
           let split : i ∷ due_from words w (i + 1) n ≡ j ∷ rest = rw due at are in
           let here : i ≡ j = cc in
-          let tail : due_from words w (i + 1) n ≡ rest = cc in (
+          let tail : due_from words w (i + 1) n ≡ rest = cc in
+          let gone : is_due words (with_values w (sent words w j).values) i ≡ false = rw here (sent_itself j (omega arith)) in (
             omega arith,
             rw due (ap (λ (k : ℕ). sent words w k) here),
-            rw (← here, sent_itself i (omega arith)) (same_behind i (i + 1) n (omega arith) ∙ tail),
+            rw gone (same_behind j (i + 1) n (omega arith) ∙ tail),
           )
       go false not_due on =
           let later = on (rw not_due at are) in

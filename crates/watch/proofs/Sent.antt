@@ -51,7 +51,8 @@ module _ (words addresses uses old : List ℕ) where
       unfolding sending_from
       not_found is inside =
           let place : length addresses - (left - 1) ≡ length addresses - left + 1 = omega arith in
-          begun ∙ rw (place, ← same, ← is-due, is)
+          let not_due : is_due words (watching addresses uses old) (length addresses - left) ≡ false = rw (← same, ← is-due) is in
+          begun ∙ rw (place, not_due)
 
 -- the two ways in which a contact goes
 pub data Sends (words : List ℕ) (w : Watched) : Type 0 where

@@ -7,7 +7,7 @@ use Rattle.place.specs.Looks.{rules_of}
 use Rattle.place.proofs.first_stop.Given as goal
 
 abbrev pub invariant-loop-at : goal.invariant-loop-at
-invariant-loop-at l =     (l.at ≤ length l.s) × (passes (rules_of l.header l.checking) l.closed l.s ≡ l.at + passes (rules_of l.header l.checking) l.closed (drop l.at l.s))
+invariant-loop-at l = (l.at ≤ length l.s) × (passes (rules_of l.header l.checking) l.closed l.s ≡ l.at + passes (rules_of l.header l.checking) l.closed (drop l.at l.s))
 
 abbrev pub decreases-loop-at : goal.decreases-loop-at
 decreases-loop-at l = length l.s - l.at
