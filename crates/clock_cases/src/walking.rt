@@ -56,6 +56,7 @@ fn see_midnight<W: Write>(out: &mut W, last: Moment, next: Moment) -> io::Result
 }
 
 // The day that the clock comes to behind the last second of a date.
+#[tactic(auto, unfolding(clock::specs::Passing::next_second, clock::specs::Passing::ends_day))]
 fn day_behind<W: Write>(out: &mut W, date: Date) -> io::Result<Date>
     ensures { IfOk result (λ next. next ≡ tomorrow date) }
 {

@@ -4,6 +4,7 @@ ghost use Rattle.items.specs.Stages.{is_started, is_over, may_come};
 
 use crate::Stage;
 
+#[tactic(auto, unfolding(crate::specs::Stages::is_started))]
 pub fn is_started(stage: Stage) -> bool
     ensures { result ≡ is_started stage }
 {
@@ -15,6 +16,7 @@ pub fn is_started(stage: Stage) -> bool
     }
 }
 
+#[tactic(auto, unfolding(crate::specs::Stages::is_over))]
 pub fn is_over(stage: Stage) -> bool
     ensures { result ≡ is_over stage }
 {

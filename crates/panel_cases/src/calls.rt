@@ -1,7 +1,7 @@
 // The panel's calls.
 use crate::lending::part_of;
-use crate::{Bench, answers, script};
-use panel::{Panel, StartAnswer};
+use crate::{Bench, Lent, answers, script};
+use panel::{Contacted, Panel, Reported, StartAnswer};
 use std::io::{self, Read, Write};
 
 // How many bytes may be given at once.
@@ -58,24 +58,80 @@ pub fn give_second<W: Write>(bench: &mut Bench, out: &mut W) -> io::Result<()> {
     answers::say_input(out, "P", fed.answer)
 }
 
+// What a panel reports where so much of the arrays is lent.
+fn reported(
+    panel: Panel,
+    lent: Lent,
+    words: &mut [u16],
+    curves: &mut [u16],
+    room: &mut [u8],
+    addresses: &[u16],
+    uses: &[u8],
+    values: &mut [u16],
+) -> Reported {
+    let n = part_of(lent.words, words.len());
+    let k = part_of(lent.curves, curves.len());
+    let m = part_of(lent.room, room.len());
+    let a = part_of(lent.addresses, addresses.len());
+    let u = part_of(lent.uses, uses.len());
+    let v = part_of(lent.values, values.len());
+    panel.report(
+        &mut words[..n],
+        &mut curves[..k],
+        &mut room[..m],
+        &addresses[..a],
+        &uses[..u],
+        &mut values[..v],
+    )
+}
+
 pub fn ask<W: Write>(bench: &mut Bench, out: &mut W) -> io::Result<()> {
-    let lent = bench.lent;
-    let n = part_of(lent.words, bench.words.len());
-    let k = part_of(lent.curves, bench.curves.len());
-    let m = part_of(lent.room, bench.room.len());
-    let a = part_of(lent.addresses, bench.addresses.len());
-    let u = part_of(lent.uses, bench.uses.len());
-    let v = part_of(lent.values, bench.values.len());
-    let reported = bench.panel.report(
-        &mut bench.words[..n],
-        &mut bench.curves[..k],
-        &mut bench.room[..m],
-        &bench.addresses[..a],
-        &bench.uses[..u],
-        &mut bench.values[..v],
-    );
-    bench.panel = reported.panel;
-    answers::say_reported(out, &reported, &bench.room, &bench.values[..v])
+    let Bench {
+        panel,
+        table: _,
+        words,
+        curves,
+        room,
+        addresses,
+        uses,
+        values,
+        lent,
+    } = bench;
+    let reported = reported(*panel, *lent, words, curves, room, addresses, uses, values);
+    *panel = reported.panel;
+    let v = part_of(lent.values, values.len());
+    answers::say_reported(out, &reported, room, &values[..v])
+}
+
+// What a contact with a panel leaves where so much of the arrays is lent.
+fn contacted(
+    panel: Panel,
+    lent: Lent,
+    table: &[u8],
+    words: &mut [u16],
+    room: &mut [u8],
+    addresses: &[u16],
+    uses: &[u8],
+    values: &mut [u16],
+    x: u16,
+    y: u16,
+) -> Contacted {
+    let t = part_of(lent.table, table.len());
+    let n = part_of(lent.words, words.len());
+    let m = part_of(lent.room, room.len());
+    let a = part_of(lent.addresses, addresses.len());
+    let u = part_of(lent.uses, uses.len());
+    let v = part_of(lent.values, values.len());
+    panel.contact(
+        &table[..t],
+        &mut words[..n],
+        &mut room[..m],
+        &addresses[..a],
+        &uses[..u],
+        &mut values[..v],
+        x,
+        y,
+    )
 }
 
 pub fn contact<R: Read, W: Write>(
@@ -85,25 +141,23 @@ pub fn contact<R: Read, W: Write>(
 ) -> io::Result<()> {
     let x = script::next_word(script)?;
     let y = script::next_word(script)?;
-    let lent = bench.lent;
-    let t = part_of(lent.table, bench.table.len());
-    let n = part_of(lent.words, bench.words.len());
-    let m = part_of(lent.room, bench.room.len());
-    let a = part_of(lent.addresses, bench.addresses.len());
-    let u = part_of(lent.uses, bench.uses.len());
-    let v = part_of(lent.values, bench.values.len());
-    let contacted = bench.panel.contact(
-        &bench.table[..t],
-        &mut bench.words[..n],
-        &mut bench.room[..m],
-        &bench.addresses[..a],
-        &bench.uses[..u],
-        &mut bench.values[..v],
-        x,
-        y,
+    let Bench {
+        panel,
+        table,
+        words,
+        curves: _,
+        room,
+        addresses,
+        uses,
+        values,
+        lent,
+    } = bench;
+    let contacted = contacted(
+        *panel, *lent, table, words, room, addresses, uses, values, x, y,
     );
-    bench.panel = contacted.panel;
-    answers::say_contacted(out, &contacted, &bench.room, &bench.values[..v])
+    *panel = contacted.panel;
+    let v = part_of(lent.values, values.len());
+    answers::say_contacted(out, &contacted, room, &values[..v])
 }
 
 pub fn lift<W: Write>(bench: &mut Bench, out: &mut W) -> io::Result<()> {

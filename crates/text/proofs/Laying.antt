@@ -6,7 +6,8 @@ use native.Mathlib.Omega.{arith}
 use borrow.Author.Tests.{le-leb, lt-leb}
 use lib.Dec.{leb}
 use lib.ListN.{length, get_or, set, take, drop, length-append}
-use lib.Seq.{sets-eq, take-length, take_all, take-suc, length-take-le}
+use borrow.Rule.Slice.PartMut.{put_mid}
+use lib.Seq.{sets-eq, take-suc, length-take-le}
 use Rattle.wire.specs.ByteOrder.{high_byte, low_byte}
 use Rattle.wire.specs.Room.{over, lays, laid}
 use Rattle.wire.proofs.Over.{over_nil, over_more, over_part, laid_not, laid_whole}
@@ -20,14 +21,12 @@ module _ (text room : List ℕ) where
   pub text_no_room : length room < length text → lays 0 room ≡ laid (leb (length text) (length room)) text room
   text_no_room small = laid_not (leb (length text) (length room)) text room (lt-leb (length text) (length room) small)
 
-  copied : (left : List ℕ) → left ≡ take (length text) text ++ drop (length text) room → left ≡ over text room
+  pub text_laid : (copied : List ℕ) → length text ≤ length room → copied ≡ text
+      → lays (length text) (copied ++ drop (length text) room) ≡ laid (leb (length text) (length room)) text room
   unfolding over
-  copied left is = is ∙ ap (λ (s : List ℕ). s ++ drop (length text) room) (take-length text)
-
-  pub text_laid : (left : List ℕ) (r : ℕ) → length text ≤ length room → r ≡ length text → left ≡ take (length text) text ++ drop (length text) room
-      → lays r left ≡ laid (leb (length text) (length room)) text room
-  text_laid left r fits is-r is =
-      laid_whole (leb (length text) (length room)) text text room left r (le-leb (length text) (length room) fits) refl is-r (copied left is)
+  text_laid copied fits is =
+      laid_whole (leb (length text) (length room)) text text room _ (length text) (le-leb (length text) (length room) fits) refl refl
+      (ap (λ (s : List ℕ). s ++ drop (length text) room) is)
 
 -- a head, a number and the line feed
 module _ (head room : List ℕ) (number m : ℕ) (is_m : m ≡ length (decimal number)) where
@@ -41,13 +40,20 @@ module _ (head room : List ℕ) (number m : ℕ) (is_m : m ≡ length (decimal n
   numbered_no_room small =
       laid_not (leb (length (head ++ tail)) (length room)) (head ++ tail) room (lt-leb (length (head ++ tail)) (length room) (omega (arith, whole_length)))
 
-  pub numbered_laid : (n : ℕ) (l r : List ℕ) → length head + (m + 1) ≤ length room → n ≡ length head
-      → l ≡ take (length head) head ++ drop (length head) room → r ≡ over tail (take (length l - n) (drop n l))
-      → lays (n + (m + 1)) (take n l ++ (r ++ drop (length l - n) (drop n l))) ≡ laid (leb (length (head ++ tail)) (length room)) (head ++ tail) room
-  numbered_laid n l r fits is-n is-l is-r =
-      laid_whole (leb (length (head ++ tail)) (length room)) (head ++ tail) (head ++ tail) room _ (n + (m + 1))
-      (le-leb (length (head ++ tail)) (length room) (omega (arith, whole_length))) refl (omega (arith, whole_length))
-      (over_part head tail room l r n (sym is-n) (copied head room l is-l) is-r)
+  -- the head copied, the rest laid over the part behind it
+  module _ (copied r : List ℕ) where
+    abbrev headed : List ℕ
+    headed = copied ++ drop (length head) room
+
+    pub numbered_laid : length head + (m + 1) ≤ length room → copied ≡ head
+        → r ≡ over tail (take (length headed - length head) (drop (length head) headed))
+        → lays (length head + (m + 1)) (put_mid (length head) (length headed - length head) headed r)
+        ≡ laid (leb (length (head ++ tail)) (length room)) (head ++ tail) room
+    unfolding over
+    numbered_laid fits is is-r =
+        laid_whole (leb (length (head ++ tail)) (length room)) (head ++ tail) (head ++ tail) room _ (length head + (m + 1))
+        (le-leb (length (head ++ tail)) (length room) (omega (arith, whole_length))) refl (omega (arith, whole_length))
+        (over_part head tail room headed r (length head) refl (ap (λ (s : List ℕ). s ++ drop (length head) room) is) is-r)
 
 -- each line of the trace, from what its arm has laid
 module _ (line : Line) (room left : List ℕ) (count : ℕ) where
@@ -117,13 +123,6 @@ spaced_more frame room₀ room i at high low is is_at more fits h l =
     (ap (λ (r : List ℕ). set (set r (at + 1) high) (at + 2) low) (over_more run room₀ 32 at long (omega arith))
     ∙ ap (λ (r : List ℕ). set r (at + 2) low) (over_more (run ++ (32 ∷ [])) room₀ high (at + 1) long' (omega arith))
     ∙ over_more ((run ++ (32 ∷ [])) ++ (high ∷ [])) room₀ low (at + 2) long'' (omega arith))
-
-pub spaced_all : (frame room₀ room : List ℕ) (i : ℕ) → room ≡ over (spaced (take i frame)) room₀ → length frame ≤ i
-    → room ≡ over (spaced frame) room₀
-spaced_all frame room₀ room i is all = rw (take_all i frame all) at is
-
-pub spaced_count : (frame : List ℕ) (i at : ℕ) → at ≡ 3 * i → length frame ≤ i → i ≤ length frame → at ≡ 3 * length frame
-spaced_count frame i at is all all' = omega arith
 
 -- the line of a frame written
 some_frame : (frame : List ℕ) → (length frame ≡ 0 → ⊥) → 0 < length frame

@@ -85,7 +85,9 @@ fn put_text(text: &[u8], room: &mut [u8]) -> usize
     if room.len() < text.len() {
         return 0;
     }
-    bytes::copy(text, room)
+    let n = text.len();
+    room[..n].copy_from_slice(text);
+    n
 }
 
 // The same for a line that ends in a decimal number.
@@ -97,7 +99,8 @@ fn put_numbered(head: &[u8], number: u8, room: &mut [u8]) -> usize
     if room.len() < head.len() + m {
         return 0;
     }
-    let n = bytes::copy(head, room);
+    let n = head.len();
+    room[..n].copy_from_slice(head);
     put_number(number, &mut room[n..]);
     n + m
 }

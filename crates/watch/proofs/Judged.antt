@@ -18,7 +18,7 @@ use Rattle.watch.proofs.Somes.{none_passes}
 pub past_end_tested : (addresses uses : List ℕ) (i address : ℕ) (used : Bool) → used ≡ used_at uses i → address ≡ address_at addresses i
     → (used && not (ltb address word_count)) ≡ is_past_end addresses uses i
 unfolding is_past_end
-past_end_tested addresses uses i address used is-used is_Address = rw (is-used, is_Address)
+past_end_tested addresses uses i address used is-used is_address = rw (is-used, is_address)
 
 -- `is_wrong`, a law for each way it answers
 module _ (addresses uses values : List ℕ) (bad : Bool) (is-bad : bad ≡ wrong_lengths (length addresses) (length uses) (length values)) where

@@ -28,8 +28,8 @@ module _ (words addresses uses old : List ℕ) (first n : ℕ) where
         → address ≡ address_at addresses i → word ≡ word_at_address words address → next ≡ cond shall (set values i word) values
         → NotedBelow (i + 1) next
     unfolding noted_below
-    one_noted shall address word next is-shall is_Address is_IsWord is_next =
-        rw (add-one i, ← are, ← is-shall, ← is_Address, ← is_IsWord) is_next
+    one_noted shall address word next is-shall is_address is_word is_next =
+        rw (add-one i, ← are, ← is-shall, ← is_address, ← is_word) is_next
 
     pub all_noted : i ≤ length addresses → length addresses ≤ i → values ≡ noted words (watching addresses uses old) first n
     unfolding noted

@@ -44,8 +44,8 @@ module _ (words addresses uses old : List ℕ) where
           → word ≡ word_at_address words address → after ≡ cond true (set values (length addresses - left) word) values
           → sends (Word (record { 0 = address })) after ≡ sending words (watching addresses uses old)
       unfolding sending_from
-      due_found address word after is is_Address is_IsWord is-after =
-          rw (begun, ← same, ← is-due, is, is-after, is_IsWord, is_Address)
+      due_found address word after is is_address is_word is-after =
+          rw (begun, ← same, ← is-due, is, is-after, is_word, is_address)
 
       pub not_found : due ≡ false → left ≤ length addresses → SendsLast (left - 1)
       unfolding sending_from
