@@ -1,6 +1,6 @@
 -- What is said of a command is what 01's list gives: 2 to 7 in turn, or 0 and how long the reply is.
-use mathlib.Core.Path.{◌≡◌, refl, sym, ap, ◌∙◌}
-use mathlib.Core.Bool.{Bool, true, false, cond, not, ◌&&◌, ◌||◌}
+use mathlib.Core.Path.{◌≡◌, refl, ap, ◌∙◌}
+use mathlib.Core.Bool.{Bool, true, false, cond, not, ◌||◌}
 use mathlib.Core.List.{List, [], ◌∷◌}
 use Prim.Native.Nat.{ℕ, ◌+◌, ◌%◌, ◌≤◌, ◌<◌}
 use native.Mathlib.Omega.{arith}
@@ -20,14 +20,13 @@ use Rattle.words.specs.Words.{words_of}
 use Rattle.curves.specs.Rounds.{wrong_rounds}
 use Rattle.commands.specs.declared.Fixed.{Fixed}
 use Rattle.commands.specs.declared.Performed.{Performed}
-use Rattle.commands.specs.declared.Outcome.{Outcome}
-use Rattle.commands.specs.declared.Outcome.TheVariants.{Done, UnknownCommand, WrongData, PastEnd, Unwritable, WrongValue, ReplyTooLong}
+use Rattle.commands.specs.declared.Outcome.TheVariants.{Done, WrongData, PastEnd, Unwritable, WrongValue, ReplyTooLong}
 use Rattle.watch.specs.Watched.{none_watched}
 use Rattle.commands.specs.Lent.{Lent, lending, with_words_room}
 use Rattle.commands.specs.Outcome.{number_of_outcome, reply_too_long, write_registers_outcome, read_registers_outcome, write_words_outcome, read_words_outcome, add_curves_outcome}
 use Rattle.commands.specs.Reply.{registers_reply, words_reply}
-use Rattle.commands.specs.Effect.{answered, registers_writing, curves_adding, words_writing, replying, registers_replying, words_replying}
-use Rattle.commands.specs.Perform.{Performance, performs, on_words, on_room, performance}
+use Rattle.commands.specs.Effect.{registers_writing, curves_adding, words_writing, replying, registers_replying, words_replying}
+use Rattle.commands.specs.Perform.{Performance, performs, performance}
 use Rattle.commands.specs.Listed.{performed_said, not_command, by_command, wrong_data, passes_end, touches_unwritable, value_wrong, reply_passes, perform_listed, frame_length, reply_length, laid_length, perform_said}
 use Rattle.commands.proofs.Reading.{short_reply}
 use Rattle.commands.proofs.Replies.{length_registers_reply, length_words_reply}

@@ -8,11 +8,11 @@ use lib.ListN.{replicate}
 use Rattle.reading.proofs.ByteLists.{all_bytes, tested_bytes}
 use Rattle.wire.specs.Addresses.{word_count}
 use Rattle.frame.specs.Writer.{least_room}
-use Rattle.curves.specs.Area.{curve_words, part_of}
+use Rattle.curves.specs.Area.{curve_words}
 use Rattle.watch.specs.Watched.{none_watched}
 use Rattle.commands.specs.Lent.{lending}
 use Rattle.panel.specs.State.{panel_count}
-use Rattle.demands.specs.Calls.{Moment, Call, bytes, ask, after, after_all, number_given, Typed, AllTyped, Arises, by_call}
+use Rattle.demands.specs.Calls.{Moment, Call, bytes, ask, after, after_all, Typed, AllTyped, Arises, by_call}
 use Rattle.demands.specs.Demand2.{curve_word_at, NamesCurveWord, NamesCount, Some}
 use Rattle.demands.specs.History.{recorded, recorded_by, history_by, history_over, history_of, area_left, LentAsLeft, lends_anew, none_lends_anew, Keeps}
 use Rattle.demands.specs.Story.{story_setup, new}

@@ -1,7 +1,6 @@
 -- Asking is answered "nothing" exactly where none of the reading's reports is left.
 use mathlib.Core.Path.{◌≡◌, sym, ap, ◌∙◌}
 use mathlib.Core.List.{List, []}
-use Rattle.wire.specs.Numbers.{◌when◌}
 use Rattle.reading.proofs.Moves.{nothing_handed, handed_nothing}
 use Rattle.line.specs.State.{kept_of}
 use Rattle.line.specs.Reached.{report_as}

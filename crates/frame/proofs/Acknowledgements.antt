@@ -1,11 +1,10 @@
 -- Laws of an acknowledgement, by which nobody else opens it.
-use mathlib.Core.Path.{◌≡◌, ap}
+use mathlib.Core.Path.{◌≡◌}
 use mathlib.Core.Bool.{Bool, true}
 use mathlib.Core.List.{List, [], ◌∷◌, ◌++◌, append_assoc}
 use Prim.Native.Nat.{ℕ, ◌≤◌}
 use native.Mathlib.Omega.{arith}
 use borrow.Author.Tests.{le-leb}
-use lib.Dec.{leb}
 use lib.ListN.{length, drop, length-append}
 use Rattle.wire.specs.ByteOrder.{low_byte, high_byte}
 use Rattle.wire.specs.Room.{over, lays, laid}

@@ -2,14 +2,14 @@
 use mathlib.Core.Path.{◌≡◌, refl, ap, ◌∙◌}
 use mathlib.Core.Bool.{Bool, true, false, cond}
 use mathlib.Core.List.{List, [], ◌∷◌}
-use Prim.Native.Nat.{ℕ, ◌+◌}
+use Prim.Native.Nat.{ℕ}
 use lib.Dec.{ltb}
 use lib.ListN.{length}
 use Rattle.wire.specs.Numbers.{says, first_said}
 use Rattle.wire.specs.Room.{over}
 use Rattle.frame.specs.declared.Written.{Written}
 use Rattle.frame.specs.declared.Written.TheVariants.{Frame, DataTooLong, RoomTooSmall}
-use Rattle.frame.specs.Frame.{check_length, frame_of, most_data}
+use Rattle.frame.specs.Frame.{frame_of, most_data}
 use Rattle.frame.specs.Writer.{least_room, number_of_written, written_said, writer_listed, writer_said, Writing, answers, writing}
 use Rattle.frame.proofs.Writers.{length_frame_of}
 

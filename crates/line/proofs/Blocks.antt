@@ -10,8 +10,8 @@ use borrow.Author.Tests.{lt-ltb}
 use borrow.Rule.Slice.PartMut.{put_mid}
 use lib.Dec.{ltb}
 use lib.ListN.{length, get_or, take, drop, set, length-append, length-take, length-drop, take-append-drop}
-use lib.Seq.{drop-cons, length-take-le, take-length, drop-drop}
-use Rattle.wire.proofs.Parts.{part_whole, part_end}
+use lib.Seq.{drop-cons, length-take-le, drop-drop}
+use Rattle.wire.proofs.Parts.{part_whole}
 use Rattle.frame.specs.Frame.{longest_frame}
 use Rattle.reading.specs.Place.{Rules, wait, look}
 use Rattle.reading.specs.Moves.{is_pass, passes, still_closed, settled}

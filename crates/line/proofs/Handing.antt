@@ -9,7 +9,7 @@ use mir.Val.{Fits}
 use mir.Syntax.{w64}
 use lib.Dec.{eqb, ltb}
 use lib.ListN.{length, get_or, take, drop, set, length-drop, length-set}
-use lib.Seq.{take-length, length-take-le, take_all, drop-drop, take-take}
+use lib.Seq.{length-take-le, take_all, drop-drop, take-take}
 use Rattle.wire.specs.Room.{over}
 use Rattle.frame.specs.Frame.{header_bytes, check_length, content_of, longest_frame, most_payload}
 use Rattle.reading.specs.Moves.{passes, still_closed, settled}

@@ -7,7 +7,7 @@ use native.Mathlib.Omega.{arith}
 use borrow.Author.Tests.{ne_eqb}
 use lib.Dec.{eqb, ltb}
 use lib.ListN.{length, get_or, drop}
-use Rattle.wire.specs.Numbers.{Said, first_said}
+use Rattle.wire.specs.Numbers.{first_said}
 use Rattle.frame.specs.Frame.{header_bytes, content_of, longest_frame, most_payload}
 use Rattle.place.specs.declared.Look.{Look}
 use Rattle.place.specs.declared.Look.TheVariants.{Pass, Wait, Bad, Good}

@@ -1,13 +1,13 @@
 -- Laws of settling: going past all that is passed over, and bringing what is left to the front of the array.
 use mathlib.Core.Path.{◌≡◌, refl, sym, ap, ◌∙◌}
 use mathlib.Core.Bool.{Bool, true, false, cond, ◌&&◌}
-use mathlib.Core.List.{List, [], ◌∷◌, ◌++◌, append-nil}
+use mathlib.Core.List.{List, [], ◌∷◌}
 use Prim.Native.Nat.{ℕ, suc, ◌-◌, ◌≤◌}
 use native.Mathlib.Omega.{arith}
 use borrow.Author.Tests.{lt-ltb}
 use lib.Dec.{ltb}
-use lib.ListN.{length, take, drop, length-drop, drop_of_length-le}
-use lib.Seq.{length-take-le, take-length}
+use lib.ListN.{length, take, drop, length-drop}
+use lib.Seq.{length-take-le}
 use Rattle.wire.proofs.Parts.{part_whole}
 use Rattle.frame.specs.Frame.{longest_frame}
 use Rattle.reading.specs.Place.{Rules, look}
@@ -20,7 +20,7 @@ use Rattle.line.specs.declared.Reader.{Reader}
 use Rattle.line.specs.declared.Rest.{Rest}
 use Rattle.line.specs.Inner.{left_of, rest_of}
 use Rattle.line.specs.State.{rules_for, padded, settled_reader}
-use Rattle.line.proofs.Padding.{drop_take, length_padded}
+use Rattle.line.proofs.Padding.{drop_take}
 
 pub passes_le : (rules : Rules) (closed : Bool) (xs : List ℕ) → passes rules closed xs ≤ length xs
 unfolding passes

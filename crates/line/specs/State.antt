@@ -1,5 +1,5 @@
 -- The reader as a value, against what crate reading says a reader keeps between inputs.
-use Rattle.std.specs.Prelude.{ℕ, ◌+◌, ◌-◌, Bool, false, List, [], ◌++◌, length, take, replicate}
+use Rattle.std.specs.Prelude.{ℕ, ◌-◌, Bool, false, List, [], ◌++◌, length, take, replicate}
 use Rattle.frame.specs.Frame.{longest_frame}
 use Rattle.reading.specs.Place.{Rules, look}
 use Rattle.reading.specs.Moves.{Kept, settled}

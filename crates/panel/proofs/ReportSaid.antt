@@ -1,21 +1,20 @@
 -- What asking for a report is answered says what 01's list gives: 14, then "nothing" or a bad check, then 2 to 7 beside an accepted frame.
 use mathlib.Core.Path.{◌≡◌, refl, ap, ◌∙◌}
-use mathlib.Core.Bool.{Bool, true, false, cond, not, ◌||◌}
+use mathlib.Core.Bool.{Bool, true, false, cond}
 use mathlib.Core.List.{List, [], ◌∷◌}
 use Prim.Native.Nat.{ℕ, ◌-◌, ◌≤◌}
 use native.Mathlib.Omega.{arith}
 use borrow.Author.Tests.{le-leb, le-ltb, lt-ltb, leb-true, leb-false, eqb-true}
-use lib.Dec.{eqb, ltb, leb}
+use lib.Dec.{eqb, leb}
 use lib.ListN.{length, take, drop, length-drop}
 use Rattle.wire.specs.Addresses.{word_count}
-use Rattle.wire.specs.Numbers.{Said, says, first_said}
+use Rattle.wire.specs.Numbers.{says, first_said}
 use Rattle.wire.specs.Room.{over, lays, laid}
 use Rattle.frame.specs.Frame.{header_bytes, most_payload}
 use Rattle.frame.specs.Acknowledgement.{acknowledgement, acknowledgement_size}
 use Rattle.frame.specs.Writer.{least_room, acknowledgement_laid}
 use Rattle.frame.proofs.Acknowledgements.{length_acknowledgement}
 use Rattle.line.specs.declared.Report.TheVariants as line
-use Rattle.line.specs.State.{padded}
 use Rattle.line.specs.Methods.{asked}
 use Rattle.line.specs.Front.{hands_nothing, is_bad, bad_command, front_command, front_content}
 use Rattle.line.proofs.Padding.{take_padded}

@@ -14,7 +14,6 @@ use Rattle.line.specs.declared.Line.{Line}
 use Rattle.line.specs.declared.Reader.{Reader}
 use Rattle.line.specs.declared.Answer.TheVariants as line_answer
 use Rattle.line.specs.declared.Asked.{Asked}
-use Rattle.line.specs.declared.Report.TheVariants as line
 use Rattle.line.specs.State.{rules_for, reader_of}
 use Rattle.line.specs.Methods.{gives, busy, gave, plus, given_byte, given_mark, given_bytes, asked}
 use Rattle.line.proofs.Carried.{waiting_is, held_waiting, byte_carried, mark_carried, ask_carried, reached_new, reached_byte, reached_mark, reached_report}

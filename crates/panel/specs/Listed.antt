@@ -1,6 +1,6 @@
 -- 01, "Numbers given back", "Order": the lists by which a start, an ask for a report, a contact and a lift are answered; an input has its own in crate
 -- line, and a command, 2 to 7, in crate commands.
-use Rattle.std.specs.Prelude.{ℕ, ◌+◌, ◌-◌, cond, not, ◌||◌, List, [], ◌∷◌, ◌++◌, eqb, ltb, length}
+use Rattle.std.specs.Prelude.{ℕ, ◌-◌, cond, not, ◌||◌, List, [], ◌∷◌, ◌++◌, eqb, ltb, length}
 use Rattle.wire.specs.Addresses.{word_count}
 use Rattle.wire.specs.Numbers.{Said, says, Listed, ◌when◌, first_said}
 use Rattle.frame.specs.Acknowledgement.{acknowledgement_size}

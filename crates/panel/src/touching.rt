@@ -28,8 +28,8 @@ impl Panel {
         x: u16,
         y: u16,
     ) -> Contacted
-        ensures by_index { (curves : List ℕ) → contacts result (lending words.new curves room.new (watching addresses.now uses.now values.new)) ≡ contacting self (contact_at table.now x y) (lending words.old curves room.old (watching addresses.now uses.now values.old)) }
-        ensures by_index_2 { (curves : List ℕ) → contact_said result.answer result.written ≡ contact_answered self (contact_at table.now x y) (lending words.old curves room.old (watching addresses.now uses.now values.old)) }
+        ensures values_after { (curves : List ℕ) → contacts result (lending words.new curves room.new (watching addresses.now uses.now values.new)) ≡ contacting self (contact_at table.now x y) (lending words.old curves room.old (watching addresses.now uses.now values.old)) }
+        ensures answer_value { (curves : List ℕ) → contact_said result.answer result.written ≡ contact_answered self (contact_at table.now x y) (lending words.old curves room.old (watching addresses.now uses.now values.old)) }
     {
         let short = is_not_lent(words.len(), room.len());
         let wrong = watch::is_wrong(addresses, uses, values);

@@ -1,5 +1,5 @@
 -- 01, "Reading the line": "Reading a stretch starts at its first byte", and goes from place to place.
-use Rattle.std.specs.Prelude.{ℕ, zero, suc, ◌+◌, Bool, false, cond, List, [], ◌∷◌, ◌++◌, map}
+use Rattle.std.specs.Prelude.{ℕ, zero, suc, Bool, false, cond, List, [], ◌∷◌, ◌++◌, map}
 use Rattle.reading.specs.Place.{Rules, Report, look, report_of, gone_by, is_wait}
 
 -- a report and the place, counted from the stretch's first byte, that it stands at

@@ -6,6 +6,7 @@ ghost use Rattle.panel.specs.Numbers.{contact_number, lift_number};
 use commands::Outcome;
 use panel::{ContactAnswer, LiftAnswer};
 
+#[tactic(auto, unfolding(commands::specs::Outcome::number_of_outcome))]
 pub fn outcome_number(o: Outcome) -> u8
     ensures { result ≡ number_of_outcome o }
 {
@@ -20,6 +21,7 @@ pub fn outcome_number(o: Outcome) -> u8
     }
 }
 
+#[tactic(auto, unfolding(panel::specs::Numbers::contact_number))]
 pub fn contact_number(answer: ContactAnswer) -> u8
     ensures { result ≡ contact_number answer }
 {
@@ -35,6 +37,7 @@ pub fn contact_number(answer: ContactAnswer) -> u8
     }
 }
 
+#[tactic(auto, unfolding(panel::specs::Numbers::lift_number))]
 pub fn lift_number(answer: LiftAnswer) -> u8
     ensures { result ≡ lift_number answer }
 {

@@ -1,5 +1,4 @@
 -- `check_value::check_from` meets its contract. The loop's invariant: what is left, read on from here, gives the answer.
-use Prim.Native.Nat.{◌-◌}
 use mathlib.Core.Path.{refl}
 use borrow.Author.Rules.{rules}
 use Rattle.check_value.proofs.ReadingOn.{two_more, one_last, none_left}

@@ -3,7 +3,6 @@ use native.Mathlib.Omega.{arith}
 use mathlib.Core.List.{List, ◌∷◌}
 use Prim.Native.Nat.{ℕ, ◌+◌}
 use lib.ListN.{length}
-use Rattle.frame.specs.Frame.{check_length}
 use Rattle.frame.proofs.Laying.{content_checked, command_laid}
 use Rattle.frame.proofs.put_body.Goals as goal
 

@@ -1,5 +1,4 @@
 -- `place::first_stop` meets its contract. The loop's invariant: what is passed over is what has been, and what is still to be.
-use Prim.Native.Nat.{◌-◌}
 use native.Mathlib.Omega.{arith}
 use borrow.Author.Rules.{rules}
 use Rattle.place.proofs.Said.{stop_said_lem}

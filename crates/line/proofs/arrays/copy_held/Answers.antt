@@ -1,7 +1,7 @@
 -- `line::arrays::copy_held` meets its contract.
 use Prim.Native.Nat.{◌-◌}
 use native.Mathlib.Omega.{arith}
-use lib.ListN.{length, drop, length-drop}
+use lib.ListN.{drop, length-drop}
 use lib.Seq.{length-take-le}
 use Rattle.line.proofs.Handing.{copied_over}
 use Rattle.line.proofs.arrays.copy_held.Goals as goal

@@ -1,6 +1,6 @@
 -- `line::feed::feed` meets its contract. The loop's invariant: what the whole call gives is what is still to be given from here; and below the
 -- length `need` the bytes held decide nothing.
-use Prim.Native.Nat.{◌+◌, ◌-◌, ◌≤◌}
+use Prim.Native.Nat.{◌+◌, ◌≤◌}
 use native.Mathlib.Omega.{arith}
 use borrow.Author.Rules.{rules}
 use lib.ListN.{length}

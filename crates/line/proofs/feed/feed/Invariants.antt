@@ -12,7 +12,7 @@ use Rattle.line.proofs.Blindness.{Blind}
 use Rattle.line.proofs.feed.feed.Given as goal
 
 abbrev pub invariant-loop-i : goal.invariant-loop-i
-invariant-loop-i l =     (l.i ≤ length l.bytes) × (l.n ≤ longest_frame) × (l.need ≤ longest_frame) × (length l.held ≡ longest_frame) × (l.held ≡ padded longest_frame (take l.n l.held)) ×
+invariant-loop-i l = (l.i ≤ length l.bytes) × (l.n ≤ longest_frame) × (l.need ≤ longest_frame) × (length l.held ≡ longest_frame) × (l.held ≡ padded longest_frame (take l.n l.held)) ×
     Blind (rules_for l.line) (take l.n l.held) l.need ×
     (given_bytes (opened l.line l.initial.held l.initial.n Wait) l.bytes ≡ plus l.i (given_bytes (opened l.line l.held l.n l.head) (drop l.i l.bytes)))
 

@@ -1,5 +1,4 @@
 -- `line::feed::noise_length` meets its contract. The loop's invariant: what is counted is what has been, and what is still to be.
-use Prim.Native.Nat.{◌-◌}
 use native.Mathlib.Omega.{arith}
 use borrow.Author.Rules.{rules}
 use Rattle.line.proofs.Noise.{noise_more, noise_stops, noise_ends}

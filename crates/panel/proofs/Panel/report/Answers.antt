@@ -43,7 +43,7 @@ returns c =
     c.catch_after-catch.result c.catch_after-catch.ensures c.within-n.result
     (content_is c.ask-a.result.report c.ask-a.result.payload c.length_of.result c.within-n.result c.length_of.ensures c.within-n.ensures (search rules)) c.if-done.registers
     (elim c.if-done.branch [
-      then-done w ↦ behind_written a.self.registers done.result.writes _ c.if-done.registers w.if-done.true (w.registers-is ∙ w.registers_left-registers.ensures)
+      | then-done w ↦ behind_written a.self.registers done.result.writes _ c.if-done.registers w.if-done.true (w.registers-is ∙ w.registers_left-registers.ensures)
       | else-done w ↦ behind_unwritten a.self.registers done.result.writes _ c.if-done.registers w.if-done.false w.registers-is
     ])
     c.draw-counts.result _ c.draw-counts.ensures _ c.note.ensures) in
