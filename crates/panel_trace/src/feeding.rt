@@ -54,7 +54,7 @@ pub(crate) fn feed(
 ) -> io::Result<()>
     requires held_sound { HeldSound (holds trace.old table.old (remembering words.old curves.old)) }
     requires least_text_in_bounds { least_text ≤ length room.old }
-    ensures held_sound_2 { HeldSound (holds trace.new table.new (remembering words.new curves.new)) }
+    ensures stays_sound { HeldSound (holds trace.new table.new (remembering words.new curves.new)) }
     ensures passing { OnOk result (Passing (holds trace.old table.old (remembering words.old curves.old)) input.now (holds trace.new table.new (remembering words.new curves.new))) }
 {
     let mut at = 0;
