@@ -9,6 +9,8 @@ use borrow.Author.Tests.{ltb-true, ltb-false}
 use lib.Dec.{ltb}
 use lib.ListN.{length, take, drop, replicate, length-drop, drop_of_length-le}
 use lib.Seq.{drop-drop}
+use Rattle.std.specs.Result.{OnOk}
+use Rattle.std.proofs.Common.{Result, Ok, Err, is_ok}
 use Rattle.wire.specs.Addresses.{word_count}
 use Rattle.curves.specs.Area.{curve_words}
 use Rattle.wire.proofs.Parts.{part_whole}
@@ -100,8 +102,8 @@ module _ (trace : Trace) (table words curves : List ℕ) (is-trace : trace ≡ n
   pub reads_first : ReadSoFar (holds trace table (remembering words curves))
   reads_first = subst (λ (h : Held). ReadSoFar h) (sym is_new) reads_new
 
-pub reads_on : (held : Held) (chunk : List ℕ) (after : Held) → ReadSoFar held → Passing held chunk after → ReadSoFar after
-reads_on held chunk after so_far passing =
+pub reads_on : (before : Held) (chunk : List ℕ) (after : Held) → ReadSoFar before → Passing before chunk after → ReadSoFar after
+reads_on before chunk after so_far passing =
     record {
       input = so_far.input ++ chunk;
       text = so_far.text ++ passing.text;
@@ -112,3 +114,8 @@ reads_on held chunk after so_far passing =
           ∙ sym (append_assoc so_far.text passing.text (output_from after rest));
       quiet = passing.quiet;
     }
+
+-- what stands on Ok, where there is Ok
+pub ok_gives : {T E P : Type 0} (r : Result T E) → true ≡ is_ok r → OnOk r P → P
+ok_gives (Ok value) is p = p
+ok_gives (Err error) is p = cc

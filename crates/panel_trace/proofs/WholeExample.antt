@@ -9,7 +9,6 @@ use Rattle.trace.specs.State.{new_trace, waits}
 use Rattle.trace.specs.Lines.{wrong_text}
 use Rattle.trace.specs.Events.{took_byte}
 use Rattle.trace.specs.Output.{new_held, trace_output}
-use Rattle.printing.specs.Reached.{HeldSound}
 use Rattle.printing.proofs.HeldSound.{new_quiet, new_held_sound, byte_held_sound}
 use Rattle.printing.proofs.Outputs.{quiet_output, byte_output}
 use Rattle.panel_trace.specs.Program.{ReadSoFar}
