@@ -28,7 +28,7 @@ use Rattle.line.specs.declared.Fed.{Fed}
 use Rattle.line.specs.Inner.{reader_with, opened, asked_with, answer_with_report}
 use Rattle.line.specs.State.{rules_for, padded, settled_reader}
 use Rattle.line.specs.Methods.{busy, gave, given_bytes, body_length, span, told, asked}
-use Rattle.line.proofs.Padding.{drop_take, length_padded, laid_empty, set_behind}
+use Rattle.line.proofs.Padding.{drop_take, length_padded, copied_empty, set_behind}
 use Rattle.line.proofs.Fronts.{content_part}
 use Rattle.line.proofs.Settling.{stop_inside, settled_is}
 use Rattle.line.proofs.Feeding.{old_few, old_fits, old_front, bytes_given}
@@ -50,7 +50,7 @@ nothing_over from to held out none =
 
 pub over_empty : (size : ℕ) (xs out out' : List ℕ) → out ≡ padded size [] → out' ≡ over xs out → out' ≡ padded size xs
 unfolding over
-over_empty size xs out out' empty is = laid_empty size xs out out' empty is
+over_empty size xs out out' empty is = copied_empty size xs out out' empty is
 
 pub empty_room : (size n : ℕ) (out : List ℕ) → out ≡ padded size [] → n ≤ size → n ≤ length out
 empty_room size n out empty fits =

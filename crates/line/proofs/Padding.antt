@@ -6,7 +6,7 @@ use native.Mathlib.Nat.{sub-zero}
 use native.Mathlib.Omega.{arith}
 use lib.ListN.{length, take, drop, set, replicate, length-append, length-replicate}
 use native.Mathlib.Numerals.{add-one}
-use lib.Seq.{take_at, drop_at, set_split, drop-drop, take-nil}
+use lib.Seq.{take_at, drop_at, set_split, drop-drop, take-length, take-nil}
 use Rattle.line.specs.State.{padded}
 
 pub drop_take : (k n : ℕ) (l : List ℕ) → drop k (take n l) ≡ take (n - k) (drop k l)
@@ -51,12 +51,16 @@ padded_joined size xs ys = append_assoc xs ys (replicate (size - length (xs ++ y
 add_one_drop : (size n : ℕ) (xs : List ℕ) → drop (suc n) (padded size xs) ≡ drop 1 (drop n (padded size xs))
 add_one_drop size n xs = sym (drop-drop 1 n (padded size xs) ∙ ap (λ (k : ℕ). drop k (padded size xs)) (add-one n))
 
--- bytes laid over the front of an empty array
-pub laid_empty : (size : ℕ) (xs out to : List ℕ) → out ≡ padded size [] → to ≡ xs ++ drop (length xs) out → to ≡ padded size xs
+-- bytes copied into the front of an empty array
+pub copied_empty : (size : ℕ) (xs out to : List ℕ) → out ≡ padded size [] → to ≡ xs ++ drop (length xs) out → to ≡ padded size xs
 unfolding padded
-laid_empty size xs out to empty is =
+copied_empty size xs out to empty is =
     let z : size - 0 - length xs ≡ size - length xs = omega arith in
     is ∙ rw (empty, drop_zeros (length xs) (size - 0), z)
+
+-- bytes laid over the front of an empty array
+pub laid_empty : (size : ℕ) (xs out to : List ℕ) → out ≡ padded size [] → to ≡ take (length xs) xs ++ drop (length xs) out → to ≡ padded size xs
+laid_empty size xs out to empty is = copied_empty size xs out to empty (is ∙ rw (take-length xs))
 
 -- bytes laid behind those that an array holds
 pub laid_behind : (size n : ℕ) (xs ys : List ℕ) → length xs ≡ n

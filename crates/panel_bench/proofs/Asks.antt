@@ -1,5 +1,6 @@
 -- Laws of asking for reports: what is lent wrong stays as it is; otherwise each report leaves fewer bytes, so asking more often changes nothing.
 use Rattle.std.proofs.Common.{◌≡◌, ℕ, zero, suc, ◌-◌, ◌<◌, ◌≤◌, Bool, true, false, cond, not, ◌&&◌, List, [], ◌∷◌, length, sym, refl, ap, ◌∙◌, arith}
+use borrow.Author.Tests.{not-true}
 use Rattle.frame.specs.Frame.{longest_frame}
 use Rattle.reading.specs.Moves.{waiting, after_report}
 use Rattle.reading.proofs.Moves.{report_shorter}
@@ -60,11 +61,11 @@ no_list_judged words curves room = go (enough (length words) (length curves) (le
     go true = rw none_watched_good
     go false = refl
 
-pub none_streamed : (bytes words curves room : List ℕ) (b : Bool) → b ≡ enough (length words) (length curves) (length room) → b ≡ false
+pub none_streamed : (bytes words curves room : List ℕ) (b : Bool) → b ≡ enough (length words) (length curves) (length room) → not b ≡ true
     → sums 0 (lending words curves room none_watched) ≡ streamed bytes (lending words curves room none_watched)
 unfolding streamed
 none_streamed bytes words curves room b is badly =
-    sym (stuck_stream (lending words curves room none_watched) (no_list_judged words curves room ∙ sym is ∙ badly) (started bench_setup []).panel bytes)
+    sym (stuck_stream (lending words curves room none_watched) (no_list_judged words curves room ∙ sym is ∙ not-true b badly) (started bench_setup []).panel bytes)
 
 -- ---- A report is asked for with no words watched, and none are left
 

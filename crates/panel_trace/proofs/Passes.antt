@@ -1,7 +1,7 @@
 -- Laws of the loops that take an input and read all of it: what holds at each turn, and what it comes to.
 use mathlib.Core.Path.{◌≡◌, refl, sym, ap, subst, ◌∙◌}
 use mathlib.Core.Logic.{◌⊎◌, inl, inr}
-use mathlib.Core.Bool.{Bool, true, false, ◌&&◌, ◌||◌}
+use mathlib.Core.Bool.{Bool, true, false, ◌||◌}
 use mathlib.Core.List.{List, [], ◌++◌, append_assoc}
 use Prim.Native.Nat.{ℕ, ◌+◌, ◌-◌, ◌≤◌, ◌<◌}
 use native.Mathlib.Omega.{arith}
@@ -12,7 +12,6 @@ use lib.Seq.{drop-drop}
 use Rattle.wire.specs.Addresses.{word_count}
 use Rattle.curves.specs.Area.{curve_words}
 use Rattle.wire.proofs.Parts.{part_whole}
-use Rattle.wire.proofs.Truths.{never, and_right}
 use Rattle.telling.specs.Memory.{Memory, remembering, new_memory}
 use Rattle.trace.specs.declared.Trace.{Trace}
 use Rattle.items.specs.Records.{table_bytes}
@@ -65,18 +64,16 @@ module _ (before : Held) (input : List ℕ) (trace : Trace) (table : List ℕ) (
     pub passes_on : Passes before input after (at + used)
     passes_on = record { sound = filled.sound; within = passed_within; text = so_far.text ++ text; prints = prints_on }
 
-    pub passes_nearer : (well waiting : Bool) → waiting ≡ waits trace → (well && (ltb at (length input) || waiting)) ≡ true
+    pub passes_nearer : (waiting : Bool) → waiting ≡ waits trace → (ltb at (length input) || waiting) ≡ true
         → calls_left after (drop (at + used) input) < calls_left (holds trace table memory) (drop at input)
-    passes_nearer well waiting is_waiting so = rw (sym left_is) (filled.nearer (go (or_some (ltb at (length input)) waiting (waits trace) is_waiting (and_right well (ltb at (length input) || waiting) so))))
+    passes_nearer waiting is_waiting so = rw (sym left_is) (filled.nearer (go (or_some (ltb at (length input)) waiting (waits trace) is_waiting so)))
       where
         go : (waits trace ≡ true) ⊎ (ltb at (length input) ≡ true) → (waits trace ≡ true) ⊎ (0 < length (drop at input))
         go (inl is) = inl is
         go (inr is) = inr (simp length-drop (omega (arith, ltb-true at (length input) is)))
 
-  pub passes_all : (well waiting : Bool) → waiting ≡ waits trace → (well && (ltb at (length input) || waiting)) ≡ false
-      → well ≡ true → Passing before input (holds trace table memory)
-  passes_all well waiting is_waiting none is-well =
-      let nothing : (ltb at (length input) || waiting) ≡ false = rw is-well at none in
+  pub passes_all : (waiting : Bool) → waiting ≡ waits trace → (ltb at (length input) || waiting) ≡ false → Passing before input (holds trace table memory)
+  passes_all waiting is_waiting nothing =
       let past : length input ≤ at = omega (arith, ltb-false at (length input) (or_none_left (ltb at (length input)) waiting nothing)) in
       let all : drop at input ≡ [] = drop_of_length-le input past in
       record {
@@ -115,12 +112,3 @@ reads_on held chunk after so_far passing =
           ∙ sym (append_assoc so_far.text passing.text (output_from after rest));
       quiet = passing.quiet;
     }
-
-pub reads_if_well : (well : Bool) (held : Held) (chunk : List ℕ) (after : Held) → ReadSoFar held → (well ≡ true → Passing held chunk after) → well ≡ true → ReadSoFar after
-reads_if_well well held chunk after so_far passing is = reads_on held chunk after so_far (passing is)
-
-pub reads_kept : (well : Bool) (held : Held) → ReadSoFar held → well ≡ true → ReadSoFar held
-reads_kept well held so_far is = so_far
-
-pub reads_none : (held : Held) → false ≡ true → ReadSoFar held
-reads_none held is = never (cc)

@@ -1,13 +1,15 @@
 // From the input to lines in the room, and out.
-ghost use Rattle.std.specs.Prelude.{◌≤◌, ◌≡◌, true, length, take};
+ghost use Rattle.std.specs.Prelude.{◌≤◌, length, take, OnOk};
 ghost use Rattle.telling.specs.Memory.{remembering};
 ghost use Rattle.telling.specs.Told.{least_text};
 ghost use Rattle.trace.specs.State.{holds};
 ghost use Rattle.printing.specs.Reached.{HeldSound};
 ghost use Rattle.panel_trace.specs.Inner.{Filling, Passing};
 
+use crate::Filled;
 use crate::output::write_text;
-use crate::{Filled, Passed};
+use std::io;
+use std::time::Clock;
 use trace::{LEAST_TEXT, Trace};
 
 // Takes the input, and lays the lines of it over the front of the room, while the lines of a report fit behind them.
@@ -42,30 +44,25 @@ fn fill(
 
 // Takes all of an input, and writes the lines of it, a room full of them at a time.
 pub(crate) fn feed(
-    trace: Trace,
+    rt: &(impl Print + Clock),
+    trace: &mut Trace,
     input: &[u8],
     table: &mut [u8],
     words: &mut [u16],
     curves: &mut [u16],
     room: &mut [u8],
-) -> Passed
-    requires held_sound { HeldSound (holds trace table.old (remembering words.old curves.old)) }
+) -> io::Result<()>
+    requires held_sound { HeldSound (holds trace.old table.old (remembering words.old curves.old)) }
     requires least_text_in_bounds { least_text ≤ length room.old }
-    ensures held_sound_2 { HeldSound (holds result.trace table.new (remembering words.new curves.new)) }
-    ensures passing { result.well ≡ true → Passing (holds trace table.old (remembering words.old curves.old)) input.now (holds result.trace table.new (remembering words.new curves.new)) }
+    ensures stays_sound { HeldSound (holds trace.new table.new (remembering words.new curves.new)) }
+    ensures passing { OnOk result (Passing (holds trace.old table.old (remembering words.old curves.old)) input.now (holds trace.new table.new (remembering words.new curves.new))) }
 {
-    let mut now = trace;
     let mut at = 0;
-    let mut well = true;
-    while well & ((at < input.len()) | now.is_waiting()) {
-        let filled = fill(now, &input[at..], table, words, curves, room);
-        now = filled.trace;
+    while (at < input.len()) | trace.is_waiting() {
+        let filled = fill(*trace, &input[at..], table, words, curves, room);
+        *trace = filled.trace;
         at += filled.used;
-        let n = filled.count;
-        well = write_text(&room[0..n]);
+        write_text(rt, &room[..filled.count])?;
     }
-    Passed {
-        trace: now,
-        well: well,
-    }
+    Ok(())
 }

@@ -1,34 +1,24 @@
-// Standard input.
-ghost use Rattle.std.specs.Prelude.{◌≤◌, length};
+// Reading the input.
+ghost use Rattle.std.specs.Prelude.{◌≤◌, length, IfOk};
 
-use crate::Got;
-use crate::trying::{has_failed, say_run_out};
-use libc::STDIN_FILENO;
+use crate::trying::{pause_or_fail, run_out};
+use std::io::{self, Read};
+use std::time::Clock;
 
-// One read that is done: what has come by now, so that whoever writes to a pipe gets the answers before writing on.
-pub(crate) fn read_some(bytes: &mut [u8]) -> Got
-    ensures { result.count ≤ length bytes.new }
+// One read that is done, of what has come by now, so that whoever writes to a pipe gets the answers before writing on: how many bytes, 0 at the
+// end of the input.
+pub(crate) fn read_some<R: Read>(
+    rt: &impl Clock,
+    input: &mut R,
+    bytes: &mut [u8],
+) -> io::Result<usize>
+    ensures { IfOk result (λ count. count ≤ length bytes.new) }
 {
-    let mut turns = u64::MAX;
-    while turns > 0 {
-        let answer = libc::read(STDIN_FILENO, bytes);
-        if answer >= 0 {
-            return Got {
-                well: true,
-                count: io::count(answer, bytes),
-            };
+    for _ in 0..u64::MAX {
+        match input.read(bytes) {
+            Ok(count) => return Ok(count),
+            Err(error) => pause_or_fail(rt, error)?,
         }
-        if has_failed(answer, STDIN_FILENO) {
-            return Got {
-                well: false,
-                count: 0,
-            };
-        }
-        turns -= 1;
     }
-    say_run_out();
-    Got {
-        well: false,
-        count: 0,
-    }
+    Err(run_out())
 }

@@ -1,9 +1,9 @@
 // The trace program: reads a trace from standard input to its end and writes the lines that 01 prints for it. What a line says is the
 // library's; here words, curve area, table and room for text stand, and bytes go in and out. Where a call of the system fails, one line on standard
-// error says so and the program ends: no E and no X for a trace that was not read to its end or whose lines did not all go out.
+// error says so and the program ends with status 2: no E and no X for a trace that was not read to its end or whose lines did not all go out.
 #![tactic(auto)]
 
-ghost use Rattle.std.specs.Prelude.{◌≤◌, ◌≡◌, true, length, take, replicate};
+ghost use Rattle.std.specs.Prelude.{◌≤◌, ◌≡◌, length, take, replicate, IfOk};
 ghost use Rattle.wire.specs.Addresses.{word_count};
 ghost use Rattle.curves.specs.Area.{curve_words};
 ghost use Rattle.telling.specs.Memory.{remembering};
@@ -14,6 +14,10 @@ ghost use Rattle.trace.specs.State.{holds};
 ghost use Rattle.panel_trace.specs.Program.{ReadSoFar};
 
 use curves::CURVE_WORDS;
+use std::io::Input;
+use std::process::ExitCode;
+use std::time::Clock;
+use std::{fmt, io};
 use trace::{TABLE_BYTES, Trace};
 use wire::WORD_COUNT;
 
@@ -30,53 +34,54 @@ struct Filled {
     count: usize,
 }
 
-// A trace behind an input, and whether every call of the system was done; where not, standard error says so.
-#[derive(Clone, Copy)]
-struct Passed {
-    trace: Trace,
-    well: bool,
+// Which stream failed, and why.
+#[derive(Debug, Drop)]
+enum Failure {
+    Input(io::Error),
+    Output(io::Error),
 }
 
-// What a read gave: whether it was done, and how many bytes, 0 at the end of the input.
-#[derive(Clone, Copy)]
-struct Got {
-    well: bool,
-    count: usize,
+impl fmt::Display for Failure {
+    fn fmt<W: fmt::Write>(&self, f: &mut fmt::Formatter<W>) -> fmt::Result {
+        match self {
+            Failure::Input(why) => write!(f, "standard input: {why}"),
+            Failure::Output(why) => write!(f, "standard output: {why}"),
+        }
+    }
 }
+
+// How much is read at once, and how much room the lines have. The room is all the buffer that the output needs.
+const PIECE: usize = 65536;
+
+const ROOM: usize = 65536;
 
 // Reads standard input to its end, or until the trace has failed.
-fn read_all(table: &mut [u8], words: &mut [u16], curves: &mut [u16], room: &mut [u8]) -> Passed
+fn read_all(
+    rt: &(impl Input + Print + Clock),
+    table: &mut [u8],
+    words: &mut [u16],
+    curves: &mut [u16],
+    room: &mut [u8],
+) -> Result<Trace, Failure>
     requires { (table.old ≡ replicate table_bytes 0) × (words.old ≡ replicate word_count 0) × (curves.old ≡ replicate curve_words 0) × (least_text ≤ length room.old) }
-    ensures { result.well ≡ true → ReadSoFar (holds result.trace table.new (remembering words.new curves.new)) }
+    ensures { IfOk result (λ trace. ReadSoFar (holds trace table.new (remembering words.new curves.new))) }
 {
-    let mut bytes = io::large_buffer();
+    let mut input = rt.reader();
+    let mut bytes = [0u8; PIECE];
     let mut trace = Trace::new();
-    let mut turns = u64::MAX;
-    while turns > 0 {
-        let got = input::read_some(&mut bytes);
-        let n = got.count;
+    for _ in 0..u64::MAX {
+        let n = input::read_some(rt, &mut input, &mut bytes).map_err(Failure::Input)?;
         if n == 0 {
-            return Passed {
-                trace: trace,
-                well: got.well,
-            };
+            return Ok(trace);
         }
-        let passed = feeding::feed(trace, &bytes[0..n], table, words, curves, room);
-        trace = passed.trace;
-        if passed.well {
-            if trace.is_over() {
-                return passed;
-            }
-        } else {
-            return passed;
+        feeding::feed(rt, &mut trace, &bytes[..n], table, words, curves, room).map_err(
+            Failure::Output,
+        )?;
+        if trace.is_over() {
+            return Ok(trace);
         }
-        turns -= 1;
     }
-    trying::say_run_out();
-    Passed {
-        trace: trace,
-        well: false,
-    }
+    Err(Failure::Input(trying::run_out()))
 }
 
 // Lays the last line over the front of the room, and answers how many bytes it has: none after an X.
@@ -89,15 +94,24 @@ fn lay_end(trace: Trace, table: &[u8], room: &mut [u8]) -> usize
     ended.count
 }
 
-fn main() {
+// Reads the input and writes all lines, the last too.
+fn run(rt: &(impl Input + Print + Clock)) -> Result<(), Failure> {
     let mut table = [0u8; TABLE_BYTES];
     let mut words = [0u16; WORD_COUNT];
     let mut curves = [0u16; CURVE_WORDS];
-    let mut room = io::large_buffer();
-    let passed = read_all(&mut table, &mut words, &mut curves, &mut room);
-    if passed.well {
-        let trace = passed.trace;
-        let n = lay_end(trace, &table, &mut room);
-        output::write_text(&room[0..n]);
+    let mut room = [0u8; ROOM];
+    let trace = read_all(rt, &mut table, &mut words, &mut curves, &mut room)?;
+    let n = lay_end(trace, &table, &mut room);
+    output::write_text(rt, &room[..n]).map_err(Failure::Output)
+}
+
+fn main(rt: HostRuntime) -> ExitCode {
+    match run(&rt) {
+        Ok(()) => ExitCode::SUCCESS,
+        Err(failure) => {
+            // A standard error that fails too leaves the status alone to tell.
+            let _ = eprintln!(rt; "panel_trace: {failure}");
+            ExitCode::from(2)
+        }
     }
 }

@@ -1,23 +1,19 @@
-// Standard output.
-use crate::trying::{has_failed, say_run_out};
-use libc::STDOUT_FILENO;
+// Writing the lines.
+use crate::trying::{pause_or_fail, run_out};
+use std::io;
+use std::time::Clock;
 
-// Writes all of a text: a write that takes a part of it goes on behind that part. Answers whether all of it was taken; where not,
-// standard error says why.
-pub(crate) fn write_text(text: &[u8]) -> bool {
-    let mut gone = 0;
-    let mut turns = u64::MAX;
-    while gone < text.len() {
-        if turns == 0 {
-            say_run_out();
-            return false;
+// Writes all of a text: a write that takes a part of it goes on behind that part.
+pub(crate) fn write_text(rt: &(impl Print + Clock), text: &[u8]) -> io::Result<()> {
+    let mut rest = text;
+    for _ in 0..u64::MAX {
+        if rest.is_empty() {
+            return Ok(());
         }
-        let answer = libc::write(STDOUT_FILENO, &text[gone..]);
-        if has_failed(answer, STDOUT_FILENO) {
-            return false;
+        match rt.write_some(rest) {
+            Ok(count) => rest = &rest[count..],
+            Err(error) => pause_or_fail(rt, error)?,
         }
-        gone += io::count(answer, &text[gone..]);
-        turns -= 1;
     }
-    true
+    Err(run_out())
 }
