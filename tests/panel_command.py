@@ -96,9 +96,8 @@ def builds(folder):
     yield trouble("a build", done, 0, b"in\ndone\n")
     yield None if lines == [[b"panel: proving frame", b"2 of 3 crates"], [b"panel: proving panel_trace", b"3 of 3 crates"]] else f"a build shows {done.stderr!r}"
     yield trouble("what is built", run(script, env=around(folder, "")), 0, b"done\n", "")
-    for what, words in (("a program that says that it failed", "echo ran; echo 'panel_trace: no' >&2"), ("a program that fails", "echo ran; exit 1")):
-        built_in(folder).write_text(f"#!/bin/sh\n{words}\n")
-        yield trouble(what, run(script, env=around(folder, "")), 2, b"ran\n")
+    built_in(folder).write_text("#!/bin/sh\necho ran; echo 'panel_trace: no' >&2; exit 2\n")
+    yield trouble("a program that fails", run(script, env=around(folder, "")), 2, b"ran\n", "panel_trace: no")
     yield on_terminal(script, around(folder, ""))
     yield ended(script, around(folder, "echo $$; exec sleep 60"))
 

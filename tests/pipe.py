@@ -4,7 +4,7 @@
 PROGRAM is the built panel_trace, where none is named; where none is built, nothing is run. The talks: the traces of examples/ that are right
 to their end, each event sent as a whole and also a byte at a time; after each event the lines of it must come before more input is sent; the
 lines expected are those of the model of 01. The broken pipes: an output that is closed, full or read by nobody, an input that is closed or a
-folder: one line on standard error that begins with the program's name, and no last line. Pipes that do not block, a reader that is slow and a
+folder: one line on standard error that begins with the program's name, no last line, and the exit status 2. Pipes that do not block, a reader that is slow and a
 program that is stopped and goes on: every byte comes, and nothing is said.
 """
 import contextlib
@@ -115,6 +115,8 @@ def failing(words, what, printed=b"", **more):
         out, said = child.communicate(timeout=SECONDS)
     if not said.startswith(b"panel_trace: " + what + b": ") or said.count(b"\n") != 1 or not said.endswith(b"\n"):
         return f"due was a line 'panel_trace: {what.decode()}: ..', came {said!r}"
+    if child.returncode != 2:
+        return f"beside {said!r} came the exit status {child.returncode}, due was 2"
     return None if (out or b"") == printed else f"beside {said!r} came {out!r}"
 
 
