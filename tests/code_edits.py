@@ -40,7 +40,7 @@ SIMPLE = r"(?:\w+(?:::\w+)*(?:\.\w+)*(?:\([\w.:, ]*\))?)"
 
 def operators(text):
     """Binary operators stand between blanks in the repository's layout, a negation stands before its operand."""
-    for found in re.finditer(r"(?<= )(<=|>=|==|!=|\+=|-=|<<|>>|[-<>+*/%&|^])(?= )|!(?=[\w(])", text):
+    for found in re.finditer(r"(?<= )(<=|>=|==|!=|\+=|-=|<<|>>|[-<>+*/%&|^])(?= )|(?<!\w)!(?=[\w(])", text):
         kind = "comparison" if found.group() in COMPARISONS else "operator"
         for other in OTHERS[found.group()]:
             yield kind, found.start(), found.group(), other
