@@ -1,14 +1,13 @@
 -- Reading on: the steps that were made stand, and reading goes on from the bytes held.
 use mathlib.Core.Path.{◌≡◌, sym, ap, ◌∙◌}
-use mathlib.Core.Bool.{Bool, true, false}
-use mathlib.Core.List.{List, [], ◌∷◌, ◌++◌, append_assoc, append-nil}
+use mathlib.Core.Bool.{Bool, false}
+use mathlib.Core.List.{List, [], ◌∷◌, ◌++◌, append_assoc}
 use Prim.Native.Nat.{ℕ}
 use lib.ListN.{drop}
 use lib.Seq.{drop-append-le}
 use Rattle.reading.specs.Place.{Rules, Seen, look, is_wait}
 use Rattle.reading.specs.Stretch.{held_of}
-use Rattle.reading.proofs.Stable.{stable, true_is_not_false}
-use Rattle.reading.proofs.Waiting.{closed_goes_on}
+use Rattle.reading.proofs.Stable.{stable}
 use Rattle.course.specs.Course.{stride, seen_along, held_after}
 use Rattle.course.proofs.Course.{Walks, seen_nil, held_nil, seen_stays, held_stays, place_walks, walks_nowhere, walks_further, Through, over, stays, goes, through, gone_inside}
 use Rattle.course.proofs.ReadOff.{course_holds}
@@ -57,14 +56,3 @@ no_step_along rules (x ∷ xs) (goes seen is decided rest) =
 
 pub held_no_step : (rules : Rules) (xs : List ℕ) → seen_along rules false (held_of rules xs) ≡ []
 held_no_step rules xs = rw (sym (course_holds rules xs)) (no_step_along rules xs (through rules false xs))
-
--- nothing is left of a closed stretch
-closed_along : (rules : Rules) (xs : List ℕ) → Through rules true xs → held_after rules true xs ≡ []
-closed_along rules [] over = held_nil rules true
-closed_along rules xs (stays waits) = true_is_not_false (sym waits ∙ closed_goes_on rules xs)
-closed_along rules (x ∷ xs) (goes seen is decided rest) =
-    (place_walks rules true x xs seen is decided).left ∙ closed_along rules (drop (stride rules seen) (x ∷ xs)) rest
-
-pub closed_holds_nothing : (rules : Rules) (xs : List ℕ) → held_after rules true xs ≡ []
-closed_holds_nothing rules xs = closed_along rules xs (through rules true xs)
-

@@ -1,7 +1,7 @@
 -- The course from place to place: laws of it and of what is read off it, by which nobody else opens them.
 use mathlib.Core.Path.{◌≡◌, refl, sym, ap, subst, ◌∙◌}
 use mathlib.Core.Bool.{Bool, true, false, cond}
-use mathlib.Core.List.{List, [], ◌∷◌, ◌++◌, map, append_assoc, append-nil}
+use mathlib.Core.List.{List, [], ◌∷◌, ◌++◌, map, append_assoc}
 use Prim.Native.Nat.{ℕ, zero, suc, ◌+◌, ◌-◌, ◌≤◌, ◌<◌}
 use native.Mathlib.Omega.{arith}
 use borrow.Author.Tests.{lt-ltb, le-ltb, ltb-true, ltb-false}
@@ -226,4 +226,3 @@ gone_inside rules closed x xs (accepted body) is =
     let long : length (x ∷ xs) ≡ length rules.header + suc (length body + length begun.rest) =
     ap length begun.parts ∙ simp length-append in
     omega arith
-

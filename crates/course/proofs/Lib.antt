@@ -10,3 +10,4 @@ pub mod Moves
 pub mod Run
 pub mod Counted
 pub mod Linked
+pub mod Examples

@@ -1,7 +1,7 @@
 -- Laws of the courses of a line: of its open stretch only what is left matters, and what they report is the reading of the line.
-use mathlib.Core.Path.{◌≡◌, refl, sym, ap, ◌∙◌}
+use mathlib.Core.Path.{◌≡◌, ap, ◌∙◌}
 use mathlib.Core.Bool.{Bool, true, false}
-use mathlib.Core.List.{List, [], ◌∷◌, ◌++◌, map, append_assoc, append-nil}
+use mathlib.Core.List.{List, [], ◌∷◌, ◌++◌, append_assoc, append-nil}
 use Prim.Native.Nat.{ℕ}
 use Rattle.reading.specs.Place.{Rules, Seen, Report}
 use Rattle.reading.specs.Line.{Input, byte, mark, line_from}
@@ -9,7 +9,7 @@ use Rattle.reading.specs.Run.{closing, read_on}
 use Rattle.reading.specs.Moves.{Kept}
 use Rattle.course.specs.Course.{seen_along, reports_in, reports_along}
 use Rattle.course.specs.Lines.{line_seen, seen_on}
-use Rattle.course.proofs.Course.{Walks, seen_nil, reports_of}
+use Rattle.course.proofs.Course.{Walks, reports_of}
 use Rattle.course.proofs.ReadOff.{course_reports}
 use Rattle.course.proofs.Appending.{walks_append}
 

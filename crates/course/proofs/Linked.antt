@@ -78,4 +78,3 @@ pub link : Link
 link line reader arises =
     let keeps = arises_keeps line reader arises in
     (keeps.0, keeps.1, keeps.2, linked line keeps.0 keeps.1)
-

@@ -1,14 +1,14 @@
 -- Laws of the moves: an input that is taken, and a report that is handed over, make steps of the course, and keep the rest of it.
 use mathlib.Core.Path.{◌≡◌, refl, sym, ap, ◌∙◌}
-use mathlib.Core.Bool.{Bool, true, false, cond}
+use mathlib.Core.Bool.{Bool, true, false}
 use mathlib.Core.List.{List, [], ◌∷◌, ◌++◌, append_assoc, append-nil}
-use Prim.Native.Nat.{ℕ, ◌+◌, ◌<◌}
+use Prim.Native.Nat.{ℕ, ◌+◌}
 use native.Mathlib.Omega.{arith}
-use lib.ListN.{length, drop, length-drop}
-use Rattle.reading.specs.Place.{Rules, Seen, pass, wait, bad, accepted, Report, look, report_of, gone_by, is_wait}
+use lib.ListN.{drop}
+use Rattle.reading.specs.Place.{Rules, Seen, pass, wait, bad, accepted, Report, look, report_of, is_wait}
 use Rattle.reading.specs.Line.{Input, byte, mark}
 use Rattle.reading.specs.Moves.{Kept, is_report, settled, waiting, with_byte, with_mark, handed, after_report}
-use Rattle.reading.specs.Run.{closing, with_input, read_on}
+use Rattle.reading.specs.Run.{closing, with_input}
 use Rattle.reading.proofs.Stable.{true_is_not_false}
 use Rattle.reading.proofs.Moves.{some_kept, report_settles, nothing_changes}
 use Rattle.course.specs.Course.{stride, reports_in, gone_past}

@@ -184,4 +184,3 @@ module _ (rules : Rules) (closed : Bool) where
       let after = next_along p (drop p xs) step (through rules closed (drop p xs)) is in
       let at : p + after.0 ≡ q = omega (arith, after.1) in
       after.2 ∙ rw (drop-drop after.0 p xs, at)
-

@@ -1,14 +1,14 @@
 -- What is read off the course is what the reading says: reports, reports with their places, and what is held.
 use mathlib.Core.Path.{◌≡◌, refl, sym, ap, ◌∙◌}
-use mathlib.Core.Bool.{Bool, true, false}
-use mathlib.Core.List.{List, [], ◌∷◌, ◌++◌, map, append-nil}
+use mathlib.Core.Bool.{Bool, false}
+use mathlib.Core.List.{List, [], ◌∷◌, ◌++◌, map}
 use Prim.Native.Nat.{ℕ, zero, suc, ◌+◌}
 use native.Mathlib.Omega.{arith}
 use lib.ListN.{drop}
 use Rattle.reading.specs.Place.{Rules, Seen, Report, look, report_of, gone_by, is_wait}
 use Rattle.reading.specs.Stretch.{Placed, placed_at, read_from, reading, reports, held_from, held_of}
 use Rattle.reading.proofs.Course.{GoesOn, reports_nil, held_nil, reports_stays, held_stays, place_goes_on}
-use Rattle.course.specs.Course.{stride, Step, step_at, course_from, course, seen_along, reports_in, reports_along, held_after, placed_in, placed_along}
+use Rattle.course.specs.Course.{stride, course_from, course, seen_along, reports_in, reports_along, held_after, placed_in, placed_along}
 use Rattle.course.proofs.Course as c
 use Rattle.course.proofs.Course.{stride_is, seen_nil, seen_stays, seen_goes, course_nil, course_stays, course_goes, place_walks, Through, over, stays, goes, through}
 

@@ -4,8 +4,8 @@ use mathlib.Core.Bool.{Bool, true, false, cond}
 use mathlib.Core.List.{List, [], ◌∷◌, ◌++◌}
 use Rattle.reading.specs.Place.{Rules, Seen}
 use Rattle.reading.specs.Line.{Input}
-use Rattle.reading.specs.Moves.{Kept, fresh, waiting, handed, after_report}
-use Rattle.reading.specs.Run.{Event, offer, ask, Ran, giving, handing, with_input, run, closing}
+use Rattle.reading.specs.Moves.{Kept, fresh, waiting, after_report}
+use Rattle.reading.specs.Run.{Event, offer, ask, Ran, giving, with_input, run, closing}
 use Rattle.reading.proofs.Settling.{Settled, fresh_settled}
 use Rattle.reading.proofs.Moves.{input_settled, report_settled}
 use Rattle.course.specs.Course.{reports_in}

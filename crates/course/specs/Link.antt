@@ -1,5 +1,5 @@
 -- The link from the reader to 01. Contracts speak of every reader, of array, count and head, whatever stands in them; here is what they say of the readers that
--- there are: each method is the move of crate reading, which 01, "Reading the line", states.
+-- come from a new one by calls: each method is the move of crate reading, which 01, "Reading the line", states.
 use Rattle.std.specs.Prelude.{ℕ, ◌<◌, ◌≡◌, cond, List}
 use Rattle.wire.specs.Bytes.{Bytes}
 use Rattle.reading.specs.Moves.{Kept, fresh, waiting, with_byte, with_mark, handed, after_report}
@@ -10,7 +10,7 @@ use Rattle.line.specs.State.{rules_for, reader_of}
 use Rattle.line.specs.Methods.{busy, gives, given_byte, given_bytes, given_mark, asked}
 use Rattle.line.specs.Reached.{Reached, report_as, payload_as}
 
--- the readers that there are: nobody else can make one, so each comes from `Reader::new` by calls
+-- the readers that come from `Reader::new` by calls; the fields are private, and nothing else makes one but `Reader::none`, which stands where there is no reader
 pub data Arises (line : Line) : Reader → Type 0 where
   new : Arises line (reader_of line fresh)
   byte : {reader : Reader} (b : ℕ) → b < 256 → Arises line reader → Arises line (given_byte reader b).reader
@@ -34,6 +34,6 @@ pub record Linked (line : Line) (kept : Kept) : Type 0 where
     reader = reader_of line (after_report (rules_for line) kept);
   }
 
--- every reader that there is keeps some bytes, and is linked so
+-- every reader that comes from a new one by calls keeps some bytes, all of it is a function of these, and it is linked so
 abbrev pub Link : Type 0
 Link = (line : Line) (reader : Reader) → Arises line reader → (kept : Kept) × Reached line kept × (reader ≡ reader_of line kept) × Linked line kept
