@@ -2,14 +2,18 @@
 use mathlib.Core.Path.{◌≡◌, refl, sym, ap}
 use mathlib.Core.Bool.{false, ◌&&◌, ◌||◌}
 use mathlib.Core.List.{List}
-use Prim.Native.Nat.{ℕ, ◌+◌, ◌≤◌, ◌<◌}
+use Prim.Native.Nat.{ℕ, ◌+◌, ◌*◌, ◌≤◌, ◌<◌, min}
+use native.Mathlib.Nat.{min-eq_left, min-eq_right, le_of_lt}
+use native.Mathlib.Omega.{arith}
 use borrow.Author.Tests.{ne_eqb, lt-ltb, le-ltb}
 use lib.Dec.{eqb, leb}
+use lib.ListN.{length, set}
+use lib.Seq.{set_out}
 use Rattle.wire.specs.ByteOrder.{byte_at, word_at}
 use Rattle.touch.specs.Table.{record_bytes}
 use Rattle.items.specs.declared.Stage.{Stage}
 use Rattle.items.specs.declared.Stage.TheVariants.{Bare, Ready, Started, Over}
-use Rattle.items.specs.Items.{body_length, setup_in}
+use Rattle.items.specs.Items.{item_bytes, body_length, setup_in}
 use Rattle.items.specs.Stages.{may_come}
 use Rattle.items.specs.Records.{kept_records, record_counted}
 
@@ -62,6 +66,15 @@ unfolding setup_in
 setup_read item a b c p w h ia ib ic ip iw ih = rw (ia, ib, ic, ip, iw, ih)
 
 module _ (records : ℕ) where
+  pub kept_all : records < kept_records → records ≡ min records kept_records
+  kept_all few = sym (min-eq_left (le_of_lt few))
+
+  pub kept_most : kept_records ≤ records → kept_records ≡ min records kept_records
+  kept_most many = sym (min-eq_right many)
+
+  pub length_is : (k : ℕ) → k ≡ min records kept_records → k * record_bytes ≡ min records kept_records * record_bytes
+  length_is k is = ap (λ (j : ℕ). j * record_bytes) is
+
   pub record_more : records < kept_records → records + 1 ≡ record_counted records
   unfolding record_counted
   record_more few = rw (lt-ltb records kept_records few)
@@ -69,3 +82,6 @@ module _ (records : ℕ) where
   pub no_more : kept_records ≤ records → records ≡ record_counted records
   unfolding record_counted
   no_more many = rw (le-ltb records kept_records many)
+
+pub not_set : (item : List ℕ) (at b : ℕ) → length item ≡ item_bytes → item_bytes ≤ at → item ≡ set item at b
+not_set item at b long past = sym (set_out item at b (omega arith))

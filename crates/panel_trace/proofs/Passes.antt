@@ -115,6 +115,15 @@ reads_on before chunk after so_far passing =
       quiet = passing.quiet;
     }
 
+pub reads_if_well : (well : Bool) (before : Held) (chunk : List ℕ) (after : Held) → ReadSoFar before → (well ≡ true → Passing before chunk after) → well ≡ true → ReadSoFar after
+reads_if_well well before chunk after so_far passing is = reads_on before chunk after so_far (passing is)
+
+pub reads_kept : (well : Bool) (before : Held) → ReadSoFar before → well ≡ true → ReadSoFar before
+reads_kept well before so_far is = so_far
+
+pub reads_none : (before : Held) → false ≡ true → ReadSoFar before
+reads_none before is = cc
+
 -- what stands on Ok, where there is Ok
 pub ok_gives : {T E P : Type 0} (r : Result T E) → true ≡ is_ok r → OnOk r P → P
 ok_gives (Ok value) is p = p

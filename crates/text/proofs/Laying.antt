@@ -7,7 +7,7 @@ use borrow.Author.Tests.{le-leb, lt-leb}
 use lib.Dec.{leb}
 use lib.ListN.{length, get_or, set, take, drop, length-append}
 use borrow.Rule.Slice.PartMut.{put_mid}
-use lib.Seq.{sets-eq, take-suc, length-take-le}
+use lib.Seq.{sets-eq, take-length, take_all, take-suc, length-take-le}
 use Rattle.wire.specs.ByteOrder.{high_byte, low_byte}
 use Rattle.wire.specs.Room.{over, lays, laid}
 use Rattle.wire.proofs.Over.{over_nil, over_more, over_part, laid_not, laid_whole}
@@ -21,10 +21,14 @@ module _ (text room : List ℕ) where
   pub text_no_room : length room < length text → lays 0 room ≡ laid (leb (length text) (length room)) text room
   text_no_room small = laid_not (leb (length text) (length room)) text room (lt-leb (length text) (length room) small)
 
-  pub text_laid : (copied : List ℕ) → length text ≤ length room → copied ≡ text
-      → lays (length text) (copied ++ drop (length text) room) ≡ laid (leb (length text) (length room)) text room
+  copied : (left : List ℕ) → left ≡ take (length text) text ++ drop (length text) room → left ≡ over text room
   unfolding over
-  text_laid copied fits is =
+  copied left is = is ∙ ap (λ (s : List ℕ). s ++ drop (length text) room) (take-length text)
+
+  pub text_laid : (part : List ℕ) → length text ≤ length room → part ≡ text
+      → lays (length text) (part ++ drop (length text) room) ≡ laid (leb (length text) (length room)) text room
+  unfolding over
+  text_laid part fits is =
       laid_whole (leb (length text) (length room)) text text room _ (length text) (le-leb (length text) (length room) fits) refl refl
       (ap (λ (s : List ℕ). s ++ drop (length text) room) is)
 
@@ -41,11 +45,11 @@ module _ (head room : List ℕ) (number m : ℕ) (is_m : m ≡ length (decimal n
       laid_not (leb (length (head ++ tail)) (length room)) (head ++ tail) room (lt-leb (length (head ++ tail)) (length room) (omega (arith, whole_length)))
 
   -- the head copied, the rest laid over the part behind it
-  module _ (copied r : List ℕ) where
+  module _ (part r : List ℕ) where
     abbrev headed : List ℕ
-    headed = copied ++ drop (length head) room
+    headed = part ++ drop (length head) room
 
-    pub numbered_laid : length head + (m + 1) ≤ length room → copied ≡ head
+    pub numbered_laid : length head + (m + 1) ≤ length room → part ≡ head
         → r ≡ over tail (take (length headed - length head) (drop (length head) headed))
         → lays (length head + (m + 1)) (put_mid (length head) (length headed - length head) headed r)
         ≡ laid (leb (length (head ++ tail)) (length room)) (head ++ tail) room
@@ -123,6 +127,13 @@ spaced_more frame room₀ room i at high low is is_at more fits h l =
     (ap (λ (r : List ℕ). set (set r (at + 1) high) (at + 2) low) (over_more run room₀ 32 at long (omega arith))
     ∙ ap (λ (r : List ℕ). set r (at + 2) low) (over_more (run ++ (32 ∷ [])) room₀ high (at + 1) long' (omega arith))
     ∙ over_more ((run ++ (32 ∷ [])) ++ (high ∷ [])) room₀ low (at + 2) long'' (omega arith))
+
+pub spaced_all : (frame room₀ room : List ℕ) (i : ℕ) → room ≡ over (spaced (take i frame)) room₀ → length frame ≤ i
+    → room ≡ over (spaced frame) room₀
+spaced_all frame room₀ room i is all = rw (take_all i frame all) at is
+
+pub spaced_count : (frame : List ℕ) (i at : ℕ) → at ≡ 3 * i → length frame ≤ i → i ≤ length frame → at ≡ 3 * length frame
+spaced_count frame i at is all all' = omega arith
 
 -- the line of a frame written
 some_frame : (frame : List ℕ) → (length frame ≡ 0 → ⊥) → 0 < length frame

@@ -1,0 +1,13 @@
+pub mod Course
+pub mod ReadOff
+pub mod Sums
+pub mod Appending
+pub mod Places
+pub mod Lines
+pub mod Passing
+pub mod Settling
+pub mod Moves
+pub mod Run
+pub mod Counted
+pub mod Linked
+pub mod Examples

@@ -1,0 +1,4 @@
+pub mod Course
+pub mod Lines
+pub mod Steps
+pub mod Link
