@@ -19,7 +19,7 @@ use Rattle.clock.proofs.Moment.next.Reads as next
 use Rattle.clock.proofs.Moment.next.Kinds as next_kinds
 use Rattle.clock.proofs.digits.digits_of.Reads as digits_of
 use Rattle.clock.proofs.digits.digits_of.Kinds as digits_of_kinds
-use Rattle.clock.proofs.digits.number_of.Reads as number_of_lem
+use Rattle.clock.proofs.digits.number_of.Reads as number_of
 use Rattle.clock.proofs.digits.number_of.Kinds as number_of_kinds
 use Rattle.clock.proofs.showing.shown.Reads as shown
 use Rattle.clock.proofs.showing.shown.Kinds as shown_kinds
@@ -59,7 +59,7 @@ next_determined κs a x y s t p q = p ∙ sym q
 pub digits_of_determined : OneAnswer 0 digits_of_kinds.ps digits_of_kinds.r digits_of.Post
 digits_of_determined κs a x y s t p q = p ∙ sym q
 
-pub number_of_determined : OneAnswer 0 number_of_kinds.ps number_of_kinds.r number_of_lem.Post
+pub number_of_determined : OneAnswer 0 number_of_kinds.ps number_of_kinds.r number_of.Post
 number_of_determined κs a x y s t p q = p ∙ sym q
 
 pub shown_determined : OneAnswer 0 shown_kinds.ps shown_kinds.r shown.Post

@@ -80,19 +80,19 @@ module _ (line : Line) (bytes : List ℕ) (i n : ℕ) (held : List ℕ) (head : 
   pub fed_byte : (step : Step) (held' : List ℕ) → step ≡ step_of line (take n held ++ (get_or bytes i 0 ∷ []))
       → held' ≡ padded longest_frame (left_of line (take n held ++ (get_or bytes i 0 ∷ [])))
       → start ≡ plus (i + 1) (given_bytes (opened line held' step.len step.head) (drop (i + 1) bytes))
-  fed_byte step held' is_step is_held_lem =
-      turn (opened line held' step.len step.head) (rw (is_step, is_held_lem) (open_still line (take n held ++ (get_or bytes i 0 ∷ []))))
+  fed_byte step held' is_step held_is =
+      turn (opened line held' step.len step.head) (rw (is_step, held_is) (open_still line (take n held ++ (get_or bytes i 0 ∷ []))))
 
 -- a byte that was taken
-module _ (line : Line) (step : Step) (xs held' : List ℕ) (is_step : step ≡ step_of line xs) (is_held_lem : held' ≡ padded longest_frame (left_of line xs)) where
+module _ (line : Line) (step : Step) (xs held' : List ℕ) (is_step : step ≡ step_of line xs) (held_is : held' ≡ padded longest_frame (left_of line xs)) where
   left_long : length (left_of line xs) ≡ step.len
   left_long = sym (ap (λ (s : Step). s.len) is_step)
 
   front_left : take step.len held' ≡ left_of line xs
-  front_left = rw is_held_lem (take_padded longest_frame step.len (left_of line xs) left_long)
+  front_left = rw held_is (take_padded longest_frame step.len (left_of line xs) left_long)
 
   pub step_front : held' ≡ padded longest_frame (take step.len held')
-  step_front = is_held_lem ∙ ap (padded longest_frame) (sym front_left)
+  step_front = held_is ∙ ap (padded longest_frame) (sym front_left)
 
   pub step_blind : Blind (rules_for line) (take step.len held') step.need
   unfolding settled still_closed

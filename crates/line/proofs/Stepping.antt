@@ -32,7 +32,7 @@ module _ (n b : ℕ) (held : List ℕ) (room : n < longest_frame) (long : length
       ap (λ (l : List ℕ). set l n b) front ∙ set_behind longest_frame n b (take n held) counted room ∙ ap (padded longest_frame) (sym stored)
 
   module _ (line : Line) (rest : Rest) (held' : List ℕ) (is-rest : rest ≡ rest_of line (take (n + 1) (set held n b)))
-      (is_held_lem : held' ≡ padded longest_frame (left_of line (take (n + 1) (set held n b)))) where
+      (held_is : held' ≡ padded longest_frame (left_of line (take (n + 1) (set held n b)))) where
     rest_long : length (left_of line (take (n + 1) (set held n b))) ≡ rest.len
     rest_long = sym (ap (λ (r : Rest). r.len) is-rest)
 
@@ -42,7 +42,7 @@ module _ (n b : ℕ) (held : List ℕ) (room : n < longest_frame) (long : length
     pub rest_full : length held' ≡ longest_frame
     rest_full =
         let few : length (left_of line (take (n + 1) (set held n b))) ≤ longest_frame = omega (arith, rest_long, rest_few) in
-        rw is_held_lem (length_padded longest_frame (left_of line (take (n + 1) (set held n b))) few)
+        rw held_is (length_padded longest_frame (left_of line (take (n + 1) (set held n b))) few)
 
     pub rest_same : length held' ≡ length held
     rest_same = rest_full ∙ sym long
@@ -54,11 +54,11 @@ module _ (n b : ℕ) (held : List ℕ) (room : n < longest_frame) (long : length
     rest_counted = sym (length-take-le rest.len held' rest_inside)
 
     pub held_stepped : held' ≡ padded longest_frame (left_of line (take n held ++ (b ∷ [])))
-    held_stepped = is_held_lem ∙ ap (λ (xs : List ℕ). padded longest_frame (left_of line xs)) stored
+    held_stepped = held_is ∙ ap (λ (xs : List ℕ). padded longest_frame (left_of line xs)) stored
 
     pub step_is : (need : ℕ) → need ≡ decided_at (header_bytes line.header) (take rest.len held')
         → ◌≡◌ {A = Step} (record { len = rest.len; head = rest.head; need = need }) (step_of line (take n held ++ (b ∷ [])))
     step_is need is-need =
         let front : take rest.len held' ≡ left_of line (take (n + 1) (set held n b)) =
-        rw is_held_lem (take_padded longest_frame rest.len (left_of line (take (n + 1) (set held n b))) rest_long) in
+        rw held_is (take_padded longest_frame rest.len (left_of line (take (n + 1) (set held n b))) rest_long) in
         rw (is-need, front, is-rest, stored)

@@ -15,5 +15,8 @@ pub(crate) fn write_text(rt: &(impl Print + Clock), text: &[u8]) -> io::Result<(
             Err(error) => pause_or_fail(rt, error)?,
         }
     }
+    if rest.is_empty() {
+        return Ok(());
+    }
     Err(run_out())
 }

@@ -66,14 +66,14 @@ after_header_accepted checking closed (l ∷ xs) body is = go (ltb l (least_leng
   where
     go : (a b : Bool) → ltb l (least_length checking) ≡ a → ltb (length xs) l ≡ b
         → cond a pass (cond b (cut_short closed) (decided_by_check checking (take l xs))) ≡ accepted body → Begun checking [] (l ∷ xs) body
-    go true b at_least_lem whole is = never cc
-    go false true at_least_lem whole is = cut_short_accepts_none closed body is
-    go false false at_least_lem whole is =
+    go true b at_least whole is = never cc
+    go false true at_least whole is = cut_short_accepts_none closed body is
+    go false false at_least whole is =
         let right = check_accepted checking (take l xs) body is in
         let same : take l xs ≡ body = right.1 in
         let enough : l ≤ length xs = ltb-false (length xs) l whole in
         let long : length body ≡ l = ap length (sym same) ∙ length-take-le l xs enough in
-        let fits : least_length checking ≤ l = ltb-false l (least_length checking) at_least_lem in
+        let fits : least_length checking ≤ l = ltb-false l (least_length checking) at_least in
         record {
           rest = drop l xs;
           parts = rw (long, ← same) (ap (λ (r : List ℕ). l ∷ r) (sym (take-append-drop l xs)));
