@@ -13,16 +13,13 @@ use Rattle.reading.specs.Moves.{Kept, fresh, is_pass, passes, still_closed, sett
 use Rattle.reading.specs.Run.{Event, offer, ask, with_input, run, line_held}
 use Rattle.reading.specs.Demand3.{checked}
 use Rattle.reading.proofs.Examples.{frame}
+use Rattle.reading.proofs.Figure.{body as version_body}
 use Rattle.course.specs.Course.{stride, Step, step_at, course_from, course, seen_in, seen_along, reports_in, passed_in, inside_in, gone_past, placed_in, placed_along, first_report, next_report}
 use Rattle.course.specs.Lines.{bytes_in}
 use Rattle.course.specs.Steps.{passing, settling, giving_byte, giving_input, handing_over, going_on, ask_steps, steps_made}
 use Rattle.course.proofs.ReadOff.{course_placed}
 use Rattle.course.proofs.Places.{steps_from, course_from_place, seen_is_there, next_some}
 use Rattle.course.proofs.Counted.{given_is_passed_inside_held}
-
--- the L bytes of 004's frame
-abbrev version_body : List ℕ
-version_body = 0x81 ∷ 0x00 ∷ 0x01 ∷ 0xE0 ∷ 0x28 ∷ []
 
 -- its report
 abbrev read_version : Report

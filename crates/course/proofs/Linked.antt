@@ -3,6 +3,7 @@ use mathlib.Core.Path.{◌≡◌, refl, ap}
 use mathlib.Core.Bool.{Bool, true, false, cond}
 use mathlib.Core.List.{List, [], ◌∷◌}
 use Prim.Native.Nat.{ℕ, suc, ◌<◌}
+use native.Mathlib.Omega.{arith}
 use Rattle.wire.specs.Bytes.{Bytes}
 use Rattle.reading.specs.Moves.{Kept, fresh, waiting, with_byte, with_mark, after_report}
 use Rattle.line.specs.declared.Line.{Line}
@@ -78,3 +79,7 @@ pub link : Link
 link line reader arises =
     let keeps = arises_keeps line reader arises in
     (keeps.0, keeps.1, keeps.2, linked line keeps.0 keeps.1)
+
+-- such a reader, which `link` speaks of: a new one that was given a byte and a mark and was then asked
+pub comes_by_calls : (line : Line) → Arises line (asked (given_mark (given_byte (reader_of line fresh) 0x5A).reader).reader).reader
+comes_by_calls line = ask (mark (byte 0x5A (omega arith) new))
