@@ -1,4 +1,7 @@
 -- One answer fits each public function.
+use Prim.Native.Nat.{ℕ}
+use mir.Val.{Fits}
+use mir.Syntax.{w64}
 use Rattle.wire.specs.OneAnswer.{OneAnswer}
 use Rattle.wire.proofs.wide.Reads as wide
 use Rattle.wire.proofs.wide.Kinds as wide_kinds
@@ -6,6 +9,8 @@ use Rattle.wire.proofs.count.Reads as count
 use Rattle.wire.proofs.count.Kinds as count_kinds
 use Rattle.wire.proofs.above.Reads as above
 use Rattle.wire.proofs.above.Kinds as above_kinds
+use Rattle.wire.proofs.zeros.Reads as zeros
+use Rattle.wire.proofs.zeros.Kinds as zeros_kinds
 use Rattle.wire.proofs.high_byte.Reads as high_byte
 use Rattle.wire.proofs.high_byte.Kinds as high_byte_kinds
 use Rattle.wire.proofs.low_byte.Reads as low_byte
@@ -40,3 +45,6 @@ byte_at_determined κs a x y s t p q = cc
 
 pub word_at_determined : OneAnswer 1 word_at_kinds.ps word_at_kinds.r word_at.Post
 word_at_determined κs a x y s t p q = cc
+
+pub zeros_determined : (n : ℕ) (fits : Fits w64 n) → OneAnswer 1 (zeros_kinds.ps n fits) (zeros_kinds.r n fits) (zeros.Post n fits)
+zeros_determined n fits κs a x y s t p q = cc

@@ -2,7 +2,7 @@
 // The only place where a byte order is written out.
 #![tactic(auto)]
 
-ghost use Rattle.std.specs.Prelude.{◌≡◌, ◌-◌, ◌<◌};
+ghost use Rattle.std.specs.Prelude.{◌≡◌, ◌-◌, ◌<◌, replicate};
 ghost use Rattle.wire.specs.ByteOrder.{high_byte, low_byte, word, byte_at, word_at};
 
 // 01: "There are 256 register bytes and 28,672 variable words, 0x0000 to 0x6FFF"; `register_count` and `word_count` in specs/.
@@ -14,7 +14,7 @@ pub const WORD_COUNT: usize = 28672;
 pub fn wide(b: u8) -> u16
     ensures { result ≡ b }
 {
-    b as u16
+    u16::from(b)
 }
 
 // A byte as a count or an index.
@@ -22,14 +22,21 @@ pub fn count(b: u8) -> usize
     ensures value { result ≡ b }
     ensures upper_bound { result < 256 }
 {
-    b as usize
+    usize::from(b)
 }
 
 // How much a is above b; 0 where it is not.
 pub fn above(a: usize, b: usize) -> usize
     ensures { result ≡ a - b }
 {
-    if a < b { 0 } else { a - b }
+    a.saturating_sub(b)
+}
+
+// An array of zeros, by its length: a room that nothing has been laid in.
+pub fn zeros<const N: usize>() -> [u8; N]
+    ensures { result ≡ replicate N 0 }
+{
+    [0; N]
 }
 
 // The first of the two bytes of a number that goes high byte first.
@@ -57,7 +64,7 @@ pub fn word(high: u8, low: u8) -> u16
 pub fn byte_at(bytes: &[u8], at: usize) -> u8
     ensures { result ≡ byte_at bytes.now at }
 {
-    if at < bytes.len() { bytes[at] } else { 0 }
+    bytes.get(at).copied().unwrap_or(0)
 }
 
 // The number that stands high byte first at a place; bytes past the end count as 0.
