@@ -8,7 +8,8 @@ fn holds_point(r: Record, page: u16, point: Point) -> bool
     ensures { result ≡ holds page point.x point.y r }
 {
     let area = r.area;
-    (r.page == page) & ((area.xs <= point.x)
+    (r.page == page)
+        & ((area.xs <= point.x)
             & (point.x <= area.xe)
             & (area.ys <= point.y)
             & (point.y <= area.ye))
