@@ -6,11 +6,11 @@ use mathlib.Core.Logic.{⊎_elim}
 use Prim.Native.Nat.{ℕ, zero, suc, ◌+◌, ◌-◌, ◌≤◌, ◌<◌}
 use native.Mathlib.Nat.{sub_self}
 use native.Mathlib.Omega.{arith}
+use Rattle.std.specs.Prelude.{Option, None, Some}
 use lib.ListN.{length, set, length-set}
 use Rattle.wire.specs.Numbers.{first_said}
+use Rattle.words.specs.declared.WordAddress.{WordAddress}
 use Rattle.words.specs.Words.{word_at_address}
-use Rattle.watch.specs.declared.Due.{Due}
-use Rattle.watch.specs.declared.Due.TheVariants.{Nothing, Word}
 use Rattle.watch.specs.Watched.{Watched, watching, entry_count, address_at}
 use Rattle.watch.specs.Sending.{is_due, Sending, sends, sent, sending_from, sending, due_said, due_listed, send_said}
 use Rattle.watch.proofs.Places.{last_or_before}
@@ -27,7 +27,7 @@ module _ (words addresses uses old : List ℕ) where
   all_left = rw (sub_self (length addresses))
 
   module _ (left : ℕ) (values : List ℕ) (same : values ≡ old) (from : SendsLast left) where
-    pub none_found : left ≤ 0 → sends Nothing values ≡ sending words (watching addresses uses old)
+    pub none_found : left ≤ 0 → sends None values ≡ sending words (watching addresses uses old)
     unfolding sending_from
     none_found end =
         let all : left ≡ 0 = omega arith in
@@ -42,7 +42,7 @@ module _ (words addresses uses old : List ℕ) where
 
       pub due_found : (address word : ℕ) (after : List ℕ) → due ≡ true → address ≡ address_at addresses (length addresses - left)
           → word ≡ word_at_address words address → after ≡ cond true (set values (length addresses - left) word) values
-          → sends (Word (record { 0 = address })) after ≡ sending words (watching addresses uses old)
+          → sends (Some (record { 0 = address })) after ≡ sending words (watching addresses uses old)
       unfolding sending_from
       due_found address word after is is_address is_word is-after =
           rw (begun, ← same, ← is-due, is, is-after, is_word, is_address)
@@ -56,7 +56,7 @@ module _ (words addresses uses old : List ℕ) where
 
 -- the two ways in which a contact goes
 pub data Sends (words : List ℕ) (w : Watched) : Type 0 where
-  none_due : ((k : ℕ) → k < entry_count w → is_due words w k ≡ false) → sending words w ≡ sends Nothing w.values → Sends words w
+  none_due : ((k : ℕ) → k < entry_count w → is_due words w k ≡ false) → sending words w ≡ sends None w.values → Sends words w
   first_due : (i : ℕ) → i < entry_count w → is_due words w i ≡ true → ((k : ℕ) → k < i → is_due words w k ≡ false)
       → sending words w ≡ sent words w i → Sends words w
 
@@ -100,7 +100,7 @@ module _ (words : List ℕ) (w : Watched) where
       go true behind = refl
       go false behind = behind
 
-  pub send_said_lem : (due : Due) (values : List ℕ) → sends due values ≡ sending words w
+  pub send_said_lem : (due : Option WordAddress) (values : List ℕ) → sends due values ≡ sending words w
       → (sends due values ≡ sending words w) × (due_said due ≡ send_said words w)
   unfolding sending
   send_said_lem due values is = (is, ap (λ (s : Sending). due_said s.due) is ∙ due_as_listed 0 (entry_count w))

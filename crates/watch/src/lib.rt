@@ -2,8 +2,6 @@
 // at place i of each; a place past a slice's end reads 0.
 #![tactic(auto)]
 
-use words::WordAddress;
-
 mod judging; // 16
 mod noting; // what a line write notes
 mod sending; // the entry that is due
@@ -14,11 +12,3 @@ pub use sending::send;
 
 // "a list of up to 16 watched words"
 pub const MOST_WATCHED: usize = 16;
-
-// What is due to be sent.
-#[derive(Clone, Copy)]
-pub enum Due {
-    Nothing,
-    // The address of the word.
-    Word(WordAddress),
-}

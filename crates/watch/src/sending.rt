@@ -3,7 +3,7 @@ ghost use Rattle.std.specs.Prelude.{◌≡◌};
 ghost use Rattle.watch.specs.Watched.{watching};
 ghost use Rattle.watch.specs.Sending.{is_due, sends, sending, due_said, send_said};
 
-use crate::{Due, judging, noting};
+use crate::{judging, noting};
 use words::WordAddress;
 
 // Whether an entry is in use and its word differs from its value last sent.
@@ -14,8 +14,13 @@ fn is_due(words: &[u16], addresses: &[u16], uses: &[u8], values: &[u16], i: usiz
     judging::is_used(uses, i) & (word != judging::number_at(values, i))
 }
 
-// Finds the first entry that is due, notes its word as sent and answers its address.
-pub fn send(words: &[u16], addresses: &[u16], uses: &[u8], values: &mut [u16]) -> Due
+// Finds the first entry that is due, notes its word as sent and answers its address; where none is due, None.
+pub fn send(
+    words: &[u16],
+    addresses: &[u16],
+    uses: &[u8],
+    values: &mut [u16],
+) -> Option<WordAddress>
     ensures values_after { sends result values.new ≡ sending words.now (watching addresses.now uses.now values.old) }
     ensures result_value { due_said result ≡ send_said words.now (watching addresses.now uses.now values.old) }
 {
@@ -26,9 +31,9 @@ pub fn send(words: &[u16], addresses: &[u16], uses: &[u8], values: &mut [u16]) -
         if is_due(words, addresses, uses, values, i) {
             let address = WordAddress(judging::number_at(addresses, i));
             noting::keep(values, i, words::at(words, address), true);
-            return Due::Word(address);
+            return Some(address);
         }
         left -= 1;
     }
-    Due::Nothing
+    None
 }
