@@ -6,7 +6,7 @@ ghost use Rattle.wire.specs.Room.{over, lays, laid};
 ghost use Rattle.text.specs.Text.{line_feed, hex_digit, hex_byte, decimal, spaced, line_text, written_text};
 
 // A line of the trace but for the frames written.
-#[derive(Clone, Copy, Debug, PartialEq, Eq)]
+#[derive(Clone, Copy)]
 pub enum Line {
     // An accepted command, and the number it is answered with.
     Frame { command: u8, number: u8 },
