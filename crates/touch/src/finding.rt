@@ -8,11 +8,9 @@ fn holds_point(r: Record, page: u16, point: Point) -> bool
     ensures { result ≡ holds page point.x point.y r }
 {
     let area = r.area;
-    (r.page == page)
-        & ((area.xs <= point.x)
-            & (point.x <= area.xe)
-            & (area.ys <= point.y)
-            & (point.y <= area.ye))
+    r.page == page
+        && (area.xs..=area.xe).contains(&point.x)
+        && (area.ys..=area.ye).contains(&point.y)
 }
 
 // The first record of a page, before the table's end, whose area holds a point.

@@ -15,32 +15,25 @@ const MODES: u8 = 3;
 fn good_area(s: Setup, a: Area) -> bool
     ensures { result ≡ good_area s a }
 {
-    (a.xs <= a.xe) & (a.ys <= a.ye) & (a.xe < s.width) & (a.ye < s.height)
+    a.xs <= a.xe && a.ys <= a.ye && a.xe < s.width && a.ye < s.height
 }
 
 fn good_end(mode: u8, w: u16) -> bool
     ensures { result ≡ good_end mode w }
 {
-    (mode == 0) | (w < 256)
+    mode == 0 || w < 256
 }
 
 #[tactic(auto, unfolding(crate::specs::Judge::good_step))]
 fn good_step(mode: u8, f: StepFields) -> bool
     ensures { result ≡ good_step mode f }
 {
-    (mode < MODES)
-        & (1 <= f.step)
-        & (f.step <= 32767)
-        & good_end(mode, f.least)
-        & good_end(mode, f.greatest)
-        & stores::at_most(f.least, f.greatest)
-        & (f.once == 1)
-}
-
-fn same_area(a: Area, b: Area) -> bool
-    ensures { result ≡ same_area a b }
-{
-    (a.xs == b.xs) & (a.ys == b.ys) & (a.xe == b.xe) & (a.ye == b.ye)
+    mode < MODES
+        && (1..=32767).contains(&f.step)
+        && good_end(mode, f.least)
+        && good_end(mode, f.greatest)
+        && stores::at_most(f.least, f.greatest)
+        && f.once == 1
 }
 
 #[tactic(auto, unfolding(crate::specs::Judge::good_slider))]
@@ -48,24 +41,21 @@ fn good_slider(r: Record, f: SliderFields) -> bool
     ensures { result ≡ good_slider r f }
 {
     let digit = r.mode / 16;
-    let area = r.area;
-    let again = f.again;
-    let first = records::along(r.mode, area.xs, area.ys);
-    let last = records::along(r.mode, area.xe, area.ye);
-    (digit < MODES)
-        & (r.mode % 16 < 2)
-        & same_area(area, again)
-        & records::no_next(r)
-        & (first < last)
-        & good_end(digit, f.begin)
-        & good_end(digit, f.end)
+    let first = records::along(r.mode, r.area.xs, r.area.ys);
+    let last = records::along(r.mode, r.area.xe, r.area.ye);
+    digit < MODES
+        && r.mode % 16 < 2
+        && r.area == f.again
+        && records::no_next(r)
+        && first < last
+        && good_end(digit, f.begin)
+        && good_end(digit, f.end)
 }
 
 fn good_kind(r: Record) -> bool
     ensures { result ≡ good_kind r r.kind }
 {
-    let kind = r.kind;
-    match kind {
+    match r.kind {
         Kind::Key(_) => r.mode < MODES,
         Kind::Step(f) => good_step(r.mode, f),
         Kind::Slider(f) => good_slider(r, f),
@@ -77,13 +67,12 @@ fn good_kind(r: Record) -> bool
 pub fn good_record(s: Setup, r: Record) -> bool
     ensures { result ≡ good_record s r }
 {
-    let area = r.area;
-    (r.page < s.pages)
-        & good_area(s, area)
-        & (records::no_next(r) | (r.next < s.pages))
-        & (r.fe == 0xFE)
-        & ((r.word as usize) < wire::WORD_COUNT)
-        & good_kind(r)
+    r.page < s.pages
+        && good_area(s, r.area)
+        && (records::no_next(r) || r.next < s.pages)
+        && r.fe == 0xFE
+        && usize::from(r.word) < wire::WORD_COUNT
+        && good_kind(r)
 }
 
 fn first_wrong(s: Setup, table: &[u8]) -> Result<(), TableError>
@@ -107,7 +96,7 @@ pub fn judge(s: Setup, table: &[u8]) -> Result<(), TableError>
     ensures result_value { verdict_said result ≡ table_said s table.now }
 {
     let size = table.len();
-    if (MOST_RECORDS * RECORD_BYTES < size) | (size % RECORD_BYTES != 0) {
+    if MOST_RECORDS * RECORD_BYTES < size || !size.is_multiple_of(RECORD_BYTES) {
         return Err(TableError::NotRecords);
     }
     first_wrong(s, table)
