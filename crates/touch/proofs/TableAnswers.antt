@@ -16,6 +16,7 @@ use Rattle.touch.specs.Record.{record_of}
 use Rattle.touch.specs.Table.{Found, end_page, record_bytes, record_at, records_from, records_of, first_of}
 use Rattle.touch.specs.Judge.{Verdict, good_record, wrong, named_wrong, first_wrong, not_records, judged}
 use Rattle.touch.specs.Find.{holds, found}
+use Rattle.touch.proofs.Said.{table_said_lem}
 
 -- the part that `record_at` lends is the record's bytes
 pub record_at_is : (table : List ℕ) (i : ℕ) (r : Record)
@@ -112,6 +113,8 @@ judged_12 s table e = rw e
 pub judged_13 : (s : Setup) (table : List ℕ) (v : Verdict) → not_records table ≡ false → v ≡ first_wrong s (records_of table) → v ≡ judged s table
 unfolding judged
 judged_13 s table v e p = rw e p
+
+pub ruleset judging_laws = (judged_12, judged_13, table_said_lem)
 
 pub ruleset walk = (
   rules,

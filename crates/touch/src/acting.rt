@@ -22,6 +22,7 @@ fn slid_at(setup: Setup, r: Record, f: SliderFields, old: u16, point: Point) -> 
 }
 
 // The word at a record's address after the record acted at a point.
+#[tactic(auto, unfolding(crate::specs::Act::acted_of))]
 pub fn acted(setup: Setup, r: Record, old: u16, point: Point) -> u16
     ensures { result ≡ acted_of setup r old point.x point.y }
 {
@@ -42,6 +43,7 @@ pub fn acted(setup: Setup, r: Record, old: u16, point: Point) -> u16
 }
 
 // The word after a record that was caught is dragged to a point, which may lie outside its area. Only a slider stores.
+#[tactic(auto, unfolding(crate::specs::Act::dragged_of))]
 pub fn dragged(setup: Setup, r: Record, old: u16, point: Point) -> u16
     ensures { result ≡ dragged_of setup r old point.x point.y }
 {

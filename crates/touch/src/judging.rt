@@ -91,6 +91,7 @@ fn first_wrong(s: Setup, table: &[u8]) -> Result<(), TableError>
 }
 
 // Whether a table is good under a setup, and if not, why.
+#[tactic(auto, using(crate::proofs::TableAnswers::judging_laws))]
 pub fn judge(s: Setup, table: &[u8]) -> Result<(), TableError>
     ensures value { result ≡ judged s table.now }
     ensures result_value { verdict_said result ≡ table_said s table.now }

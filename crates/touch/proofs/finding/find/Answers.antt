@@ -7,13 +7,13 @@ pub loop-i-init : goal.loop-i-init
 loop-i-init c = search walk
 
 pub returns-then-r : goal.returns-then-r
-returns-then-r c = let both = point_said_lem _ _ _ _ _ (search walk) in record { value = both.0; result_value = both.1 }
+returns-then-r c = record { value = search walk; result_value = point_said_lem _ _ _ _ _ (search walk) }
 
 pub returns-then-holds_point : goal.returns-then-holds_point
-returns-then-holds_point c = let both = point_said_lem _ _ _ _ _ (search walk) in record { value = both.0; result_value = both.1 }
+returns-then-holds_point c = record { value = search walk; result_value = point_said_lem _ _ _ _ _ (search walk) }
 
 pub loop-i-preserved : goal.loop-i-preserved
 loop-i-preserved c = search walk
 
 pub returns : goal.returns
-returns c = let both = point_said_lem _ _ _ _ _ (search walk) in record { value = both.0; result_value = both.1 }
+returns c = record { value = search walk; result_value = point_said_lem _ _ _ _ _ (search walk) }
