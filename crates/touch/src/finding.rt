@@ -2,7 +2,7 @@
 ghost use Rattle.std.specs.Prelude.{◌≡◌};
 ghost use Rattle.touch.specs.Find.{holds, found, found_said, point_said};
 
-use crate::{END_PAGE, Point, RECORD_BYTES, Record, records};
+use crate::{Point, Record, records};
 
 fn holds_point(r: Record, page: u16, point: Point) -> bool
     ensures { result ≡ holds page point.x point.y r }
@@ -18,14 +18,5 @@ pub fn find(table: &[u8], page: u16, point: Point) -> Option<(usize, Record)>
     ensures value { result ≡ found table.now page point.x point.y }
     ensures result_value { found_said result ≡ point_said table.now page point.x point.y }
 {
-    for i in 0..table.len() / RECORD_BYTES {
-        let r = records::record_at(table, i);
-        if r.page == END_PAGE {
-            return None;
-        }
-        if holds_point(r, page, point) {
-            return Some((i, r));
-        }
-    }
-    None
+    records::first_of(table, |r| holds_point(r, page, point))
 }

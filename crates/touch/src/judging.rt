@@ -5,8 +5,8 @@ ghost use Rattle.touch.specs.Table.{records_of};
 ghost use Rattle.touch.specs.Judge.{good_area, good_step, same_area, good_slider, good_kind, good_record, first_wrong, judged, verdict_said, table_said};
 
 use crate::{
-    Area, END_PAGE, Kind, MOST_RECORDS, RECORD_BYTES, Record, Setup, SliderFields, StepFields,
-    TableError, records,
+    Area, Kind, MOST_RECORDS, RECORD_BYTES, Record, Setup, SliderFields, StepFields, TableError,
+    records,
 };
 
 // How many modes there are: "mode 0 whole word, 1 high byte, 2 low byte".
@@ -78,16 +78,10 @@ pub fn good_record(s: Setup, r: Record) -> bool
 fn first_wrong(s: Setup, table: &[u8]) -> Result<(), TableError>
     ensures { result ≡ first_wrong s (records_of table.now) }
 {
-    for i in 0..table.len() / RECORD_BYTES {
-        let r = records::record_at(table, i);
-        if r.page == END_PAGE {
-            return Ok(());
-        }
-        if !good_record(s, r) {
-            return Err(TableError::Wrong(i));
-        }
+    match records::first_of(table, |r| !good_record(s, r)) {
+        Some((i, _)) => Err(TableError::Wrong(i)),
+        None => Ok(()),
     }
-    Ok(())
 }
 
 // Whether a table is good under a setup, and if not, why.

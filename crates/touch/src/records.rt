@@ -1,9 +1,10 @@
 // How a touch record stands in its bytes, and what can be asked of any record.
-ghost use Rattle.std.specs.Prelude.{◌≡◌, ◌/◌, ◌<◌, length};
+ghost use Rattle.std.specs.Prelude.{◌≡◌, ◌/◌, ◌<◌, Bool, length};
+ghost use Rattle.touch.specs.declared.Record.{Record};
 ghost use Rattle.touch.specs.Record.{area_at, step_fields, slider_fields, kind_of, record_of, no_next, slides, along};
-ghost use Rattle.touch.specs.Table.{record_bytes, record_at};
+ghost use Rattle.touch.specs.Table.{record_bytes, record_at, records_of, first_of};
 
-use crate::{Area, Kind, RECORD_BYTES, Record, SliderFields, StepFields};
+use crate::{Area, END_PAGE, Kind, RECORD_BYTES, Record, SliderFields, StepFields};
 
 // The area whose four numbers stand from a place on.
 #[tactic(auto, unfolding(crate::specs::Record::area_at))]
@@ -73,12 +74,29 @@ pub fn record_of(bytes: &[u8]) -> Record
 }
 
 // The record with this number in a table, from 0.
-pub(crate) fn record_at(table: &[u8], i: usize) -> Record
+fn record_at(table: &[u8], i: usize) -> Record
     requires { i < length table.now / record_bytes }
     ensures { result ≡ record_at table.now i }
 {
     let at = i * RECORD_BYTES;
     record_of(&table[at..at + RECORD_BYTES])
+}
+
+// The first record before a table's end that a test picks, with its number.
+pub(crate) fn first_of<F: Fn(Record) -> bool>(table: &[u8], picks: F) -> Option<(usize, Record)>
+    requires { F.IsAlwaysCallable picks }
+    ensures { (test : Record → Bool) → ((r : Record) (b : Bool) → F.post picks r b → b ≡ test r) → result ≡ first_of test 0 (records_of table.now) }
+{
+    for i in 0..table.len() / RECORD_BYTES {
+        let r = record_at(table, i);
+        if r.page == END_PAGE {
+            return None;
+        }
+        if picks(r) {
+            return Some((i, r));
+        }
+    }
+    None
 }
 
 // Whether a record leads to no other page.
