@@ -44,7 +44,8 @@ pub enum Refusal {
     ReplyTooLong,
 }
 
-// What a command answers, what it wants done to the panel, and how long a reply it has laid.
+// What a command answers, what it wants done to the panel, and how long a reply it has laid. Four flags, since one write may ask for two things
+// and `registers_by` and the theorems of specs/ go by each.
 #[derive(Clone, Copy)]
 pub struct Performed {
     pub outcome: Result<(), Refusal>,

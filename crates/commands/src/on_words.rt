@@ -1,4 +1,5 @@
-// 0x82 and 0x83: write and read variables.
+// 0x82 and 0x83: write and read variables. What stands in on_registers.rt too stays twice: an address of a register may not reach a word (01), and the
+// tests differ in the address's bytes, the end and what a run is.
 ghost use Rattle.std.specs.Prelude.{◌≡◌, ◌+◌, ◌≤◌, length, drop, IfOk};
 ghost use Rattle.wire.specs.ByteOrder.{byte_at, word_at};
 ghost use Rattle.frame.specs.Frame.{most_data};
