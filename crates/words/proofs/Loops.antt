@@ -94,9 +94,6 @@ module _ (words room : List ℕ) (address n a m : ℕ) (is_a : a ≡ address) (i
   long_run : a + m ≤ length words → length run ≡ m
   long_run inside = rw run_same (length_word_run words address n (omega arith) ∙ sym is_m)
 
-  pub run_holds : a + m ≤ length words → m * 2 ≤ length room → length run + length run ≤ length room
-  run_holds inside small = rw (long_run inside) (omega arith)
-
   pub read_past : length words < a + m → lays 0 room ≡ words_laid words address n room
   unfolding words_laid
   read_past past =
