@@ -43,7 +43,8 @@ impl<'a> Numbers<'a> {
         requires { (place < self.now.size) × (round < self.now.rounds) }
         ensures { result ≡ get_or (column self.now place) round 0 }
     {
-        wire::word_at(self.bytes, (round * self.size + place) * 2)
+        let at = (round * self.size + place) * 2;
+        wire::word(self.bytes[at], self.bytes[at + 1])
     }
 }
 

@@ -19,16 +19,16 @@ use Rattle.words.proofs.Carried.{length_words_of, words_of_at, length_bytes_of, 
 
 -- `store_run`, a law for each goal of its loop
 pub stored_more : (run bytes : List ℕ) (i word : ℕ) → ((k : ℕ) → k < i → get_or run k 0 ≡ get_or (words_of bytes) k 0) → i < length run
-    → length run ≡ length (words_of bytes) → word ≡ word_at bytes (i * 2) → (k : ℕ) → k < i + 1 → get_or (set run i word) k 0 ≡ get_or (words_of bytes) k 0
+    → length run ≡ length bytes / 2 → word ≡ word_at bytes (i * 2) → (k : ℕ) → k < i + 1 → get_or (set run i word) k 0 ≡ get_or (words_of bytes) k 0
 stored_more run bytes i word are inside long is =
     below_more _ _
     (λ k h. let other : k ≢ i = omega arith in rw get_or-set_other (are k h))
-    (get_or-set_same run i word 0 inside ∙ is ∙ sym (words_of_at bytes i (omega arith)))
+    (get_or-set_same run i word 0 inside ∙ is ∙ sym (words_of_at bytes i (rw (length_words_of bytes) (omega arith))))
 
 -- `write`, a law for each goal
 module _ (words bytes : List ℕ) (address a : ℕ) (is_a : a ≡ address) where
-  pub run_long : a + length bytes / 2 ≤ length words → length (take (a + length bytes / 2 - a) (drop a words)) ≡ length (words_of bytes)
-  run_long fits = length-take-le (a + length bytes / 2 - a) (drop a words) (simp length-drop (omega arith)) ∙ omega (arith, length_words_of bytes)
+  pub run_long : a + length bytes / 2 ≤ length words → length (take (a + length bytes / 2 - a) (drop a words)) ≡ length bytes / 2
+  run_long fits = length-take-le (a + length bytes / 2 - a) (drop a words) (simp length-drop (omega arith)) ∙ omega arith
 
   pub stored : a + length bytes / 2 ≤ length words → (run : List ℕ) → run ≡ words_of bytes
       → put_mid a (a + length bytes / 2 - a) words run ≡ words_written words address bytes
@@ -58,18 +58,18 @@ run_begun run room = sym (over_nil room)
 
 pub run_more : (run room₀ room : List ℕ) (i word high low : ℕ) → room ≡ over (bytes_of (take i run)) room₀ → i < length run → length run + length run ≤ length room₀
     → word ≡ get_or run i 0 → high ≡ high_byte word → low ≡ low_byte word
-    → set (set room (i * 2) high) (i * 2 + 1) low ≡ over (bytes_of (take (i + 1) run)) room₀
+    → set (set room (i + i) high) (i + i + 1) low ≡ over (bytes_of (take (i + 1) run)) room₀
 run_more run room₀ room i word high low is more holds w h l =
     let laid = bytes_of (take i run) in
     let one : i + 1 ≡ suc i = omega arith in
-    let long : length laid ≡ i * 2 = length_bytes_of (take i run) ∙ rw (length-take-le i run (omega arith)) (omega arith) in
-    let long' : length (laid ++ (high ∷ [])) ≡ i * 2 + 1 = simp length-append (omega arith) in
+    let long : length laid ≡ i + i = length_bytes_of (take i run) ∙ rw (length-take-le i run (omega arith)) in
+    let long' : length (laid ++ (high ∷ [])) ≡ i + i + 1 = simp length-append (omega arith) in
     let grown : bytes_of (take (i + 1) run) ≡ (laid ++ (high ∷ [])) ++ (low ∷ []) =
     rw (one, take-suc run i 0 more, bytes_of_append (take i run) (get_or run i 0 ∷ []), one_word (get_or run i 0), ← w, ← h, ← l)
     (sym (append_assoc laid (high ∷ []) (low ∷ []))) in
     rw (is, grown)
-    (ap (λ (r : List ℕ). set r (i * 2 + 1) low) (over_more laid room₀ high (i * 2) long (omega arith))
-    ∙ over_more (laid ++ (high ∷ [])) room₀ low (i * 2 + 1) long' (omega arith))
+    (ap (λ (r : List ℕ). set r (i + i + 1) low) (over_more laid room₀ high (i + i) long (omega arith))
+    ∙ over_more (laid ++ (high ∷ [])) room₀ low (i + i + 1) long' (omega arith))
 
 pub run_whole : (run room₀ room : List ℕ) (i : ℕ) → room ≡ over (bytes_of (take i run)) room₀ → length run ≤ i → room ≡ over (bytes_of run) room₀
 run_whole run room₀ room i is all = rw (take_all i run all) at is

@@ -1,7 +1,7 @@
 // The variable words of 01, addressed by word and lent by the caller.
 #![tactic(auto)]
 
-ghost use Rattle.std.specs.Prelude.{◌≡◌, ◌+◌, ◌≤◌, ltb, length};
+ghost use Rattle.std.specs.Prelude.{◌≡◌, ◌+◌, ◌/◌, ◌≤◌, ltb, length};
 ghost use Rattle.wire.specs.Room.{over, lays};
 ghost use Rattle.words.specs.Words.{word_at_address, word_set, words_of, bytes_of, words_written, words_laid};
 
@@ -41,11 +41,11 @@ pub fn set(words: &mut [u16], address: WordAddress, word: u16)
 
 // Stores the words that the bytes carry in a run of as many.
 fn store_run(run: &mut [u16], bytes: &[u8])
-    requires { length run.old ≡ length (words_of bytes.now) }
+    requires { length run.old ≡ length bytes.now / 2 }
     ensures { run.new ≡ words_of bytes.now }
 {
     for (i, word) in run.iter_mut().enumerate() {
-        *word = wire::word_at(bytes, i * 2);
+        *word = wire::word(bytes[i * 2], bytes[i * 2 + 1]);
     }
 }
 
@@ -66,8 +66,8 @@ fn lay_run(run: &[u16], room: &mut [u8])
     ensures { room.new ≡ over (bytes_of run.now) room.old }
 {
     for (i, word) in run.iter().enumerate() {
-        room[i * 2] = wire::high_byte(*word);
-        room[i * 2 + 1] = wire::low_byte(*word);
+        room[i + i] = wire::high_byte(*word);
+        room[i + i + 1] = wire::low_byte(*word);
     }
 }
 
