@@ -65,9 +65,9 @@ fn lay_run(run: &[u16], room: &mut [u8])
     requires { length run.now + length run.now ≤ length room.old }
     ensures { room.new ≡ over (bytes_of run.now) room.old }
 {
-    for (i, word) in run.iter().enumerate() {
-        room[i + i] = wire::high_byte(*word);
-        room[i + i + 1] = wire::low_byte(*word);
+    for (i, &word) in run.iter().enumerate() {
+        room[i + i] = wire::high_byte(word);
+        room[i + i + 1] = wire::low_byte(word);
     }
 }
 
