@@ -40,8 +40,7 @@ fn day_behind<W: Write>(out: &mut W, date: Date) -> io::Result<Date>
         time: LAST_SECOND,
     };
     let next = last.next();
-    let time = next.time;
-    if time.hour != 0 || time.minute != 0 || time.second != 0 {
+    if next.time != MIDNIGHT {
         writeln!(out, "no midnight:{},{}", Shown(last), Shown(next))?;
     }
     Ok(next.date)

@@ -2,7 +2,7 @@
 // checking on and off, for three header pairs. What it must print was worked out by an independent program, tests/frame_model.py.
 #![tactic(auto)]
 
-use frame::{Header, Written};
+use frame::{Header, WriteError};
 use std::array;
 use std::io::{self, BufWriter, Write};
 
@@ -18,11 +18,11 @@ fn counting(step: u8) -> [u8; LONGEST] {
 }
 
 // The number of 01, the frame's length and the check value of the room.
-fn print_answer<W: Write>(out: &mut W, n: usize, written: Written, room: &[u8]) -> io::Result<()> {
+fn print_answer<W: Write>(out: &mut W, n: usize, written: Result<usize, WriteError>, room: &[u8]) -> io::Result<()> {
     let (number, length) = match written {
-        Written::Frame(n) => (0, n),
-        Written::DataTooLong => (3, 0),
-        Written::RoomTooSmall => (14, 0),
+        Ok(n) => (0, n),
+        Err(WriteError::DataTooLong) => (3, 0),
+        Err(WriteError::RoomTooSmall) => (14, 0),
     };
     let value = check_value::check_value(room);
     writeln!(out, "{n} {} {number} {length} {value:04x}", room.len())

@@ -1,16 +1,17 @@
 // One item: its kind, and the body whose length the kind fixes.
 ghost use Rattle.std.specs.Prelude.{◌≡◌, set};
 ghost use Rattle.wire.specs.ByteOrder.{byte_at};
-ghost use Rattle.items.specs.Items.{no_item, body_length, setup_in};
+ghost use Rattle.items.specs.Items.{no_item, setup_in};
 
 use crate::ITEM_BYTES;
-use touch::{RECORD_BYTES, Setup};
+use touch::Setup;
 
 // What is gathered between two items.
+#[tactic(auto, unfolding(crate::specs::Items::no_item))]
 pub fn no_item() -> [u8; ITEM_BYTES]
     ensures { result ≡ no_item }
 {
-    [0u8; ITEM_BYTES]
+    wire::zeros()
 }
 
 // The kind of an item. A function of its own, since an array that is indexed among lent slices makes the check long.
@@ -20,37 +21,19 @@ pub fn kind_of(item: [u8; ITEM_BYTES]) -> u8
     item[0]
 }
 
-// How long the body of an item of this kind is.
-pub fn body_length(kind: u8) -> usize
-    ensures { result ≡ body_length kind }
-{
-    if kind == 0 {
-        return 9;
-    }
-    if kind == 1 {
-        return 1;
-    }
-    if kind == 3 {
-        return 4;
-    }
-    if kind == 5 {
-        return RECORD_BYTES;
-    }
-    0
-}
-
 // An array with one byte set, where it has that place.
-pub fn with_byte(item: [u8; ITEM_BYTES], at: usize, b: u8) -> [u8; ITEM_BYTES]
+pub fn with_byte(mut item: [u8; ITEM_BYTES], at: usize, b: u8) -> [u8; ITEM_BYTES]
     ensures { result ≡ set item at b }
 {
-    let mut next = item;
+    // No `get_mut`: tried, nothing is known of an array that was lent by it.
     if at < ITEM_BYTES {
-        next[at] = b;
+        item[at] = b;
     }
-    next
+    item
 }
 
 // The setup that an item of kind 00 carries.
+#[tactic(auto, unfolding(crate::specs::Items::setup_in))]
 pub fn setup_in(item: &[u8]) -> Setup
     ensures { result ≡ setup_in item.now }
 {

@@ -4,7 +4,7 @@
 #![tactic(auto)]
 
 use std::io::{self, BufReader, BufWriter, ErrorKind, Read, Write};
-use touch::{Found, Setup, Verdict};
+use touch::{Point, Record, Setup, TableError};
 
 const HEAD: usize = 21;
 
@@ -33,16 +33,16 @@ fn say_setup<W: Write>(out: &mut W, s: Setup) -> io::Result<()> {
     Ok(())
 }
 
-fn say_verdict<W: Write>(out: &mut W, v: Verdict) -> io::Result<()> {
-    match v {
-        Verdict::Good => write!(out, "0"),
-        Verdict::NotRecords => write!(out, "12"),
-        Verdict::Wrong(i) => write!(out, "13 {i}"),
+fn say_verdict<W: Write>(out: &mut W, judged: Result<(), TableError>) -> io::Result<()> {
+    match judged {
+        Ok(()) => write!(out, "0"),
+        Err(TableError::NotRecords) => write!(out, "12"),
+        Err(TableError::Wrong(i)) => write!(out, "13 {i}"),
     }
 }
 
-fn say_found<W: Write>(out: &mut W, f: Found) -> io::Result<()> {
-    let Found::At(i, r) = f else {
+fn say_found<W: Write>(out: &mut W, found: Option<(usize, Record)>) -> io::Result<()> {
+    let Some((i, r)) = found else {
         return write!(out, "none");
     };
     write!(out, "{i}")?;
@@ -59,16 +59,18 @@ fn say_found<W: Write>(out: &mut W, f: Found) -> io::Result<()> {
 fn answer<W: Write>(out: &mut W, head: &[u8; HEAD], table: &[u8]) -> io::Result<()> {
     let s = setup_of(head);
     let page = wire::word_at(head, 13);
-    let x = wire::word_at(head, 15);
-    let y = wire::word_at(head, 17);
+    let point = Point {
+        x: wire::word_at(head, 15),
+        y: wire::word_at(head, 17),
+    };
     let old = wire::word_at(head, 19);
     let first = touch::record_of(table);
     match head[0] {
         0 => say_setup(out, s),
         1 => say_verdict(out, touch::judge(s, table)),
-        2 => say_found(out, touch::find(table, page, x, y)),
-        3 => write!(out, "{:04x}", touch::acted(s, first, old, x, y)),
-        _ => write!(out, "{:04x}", touch::dragged(s, first, old, x, y)),
+        2 => say_found(out, touch::find(table, page, point)),
+        3 => write!(out, "{:04x}", touch::acted(s, first, old, point)),
+        _ => write!(out, "{:04x}", touch::dragged(s, first, old, point)),
     }
 }
 

@@ -9,9 +9,9 @@ use borrow.Author.Tests.{eqb-false, eq-eqb, not-true}
 use lib.Dec.{eqb}
 use lib.ListN.{length, get_or}
 use lib.Seq.{get_or-set_same, get_or-set_other}
+use Rattle.std.specs.Prelude.{None}
 use Rattle.wire.proofs.Truths.{never, and_left, and_right}
 use Rattle.words.specs.Words.{word_at_address}
-use Rattle.watch.specs.declared.Due.TheVariants.{Nothing}
 use Rattle.watch.specs.Watched.{Watched, with_values, entry_count, address_at, used_at, sent_at}
 use Rattle.watch.specs.Noting.{in_run, is_noted, noted}
 use Rattle.watch.specs.Sending.{is_due, sends, sent, sending_from, sending, due_from, due_entries}
@@ -74,18 +74,18 @@ module _ (old words : List ℕ) (w : Watched) (first n i : ℕ) (inside : i < en
 
 -- the entries that are due, one after the other, and what a sending leaves of them
 module _ (words : List ℕ) (w : Watched) where
-  none_from : (i n : ℕ) → due_from words w i n ≡ [] → sending_from words w i n ≡ sends Nothing w.values
+  none_from : (i n : ℕ) → due_from words w i n ≡ [] → sending_from words w i n ≡ sends None w.values
   unfolding due_from sending_from
   none_from i zero none = refl
   none_from i (suc n) none = go (is_due words w i) none (none_from (i + 1) n)
     where
       go : (due : Bool) → cond due (i ∷ due_from words w (i + 1) n) (due_from words w (i + 1) n) ≡ []
-          → (due_from words w (i + 1) n ≡ [] → sending_from words w (i + 1) n ≡ sends Nothing w.values)
-          → cond due (sent words w i) (sending_from words w (i + 1) n) ≡ sends Nothing w.values
+          → (due_from words w (i + 1) n ≡ [] → sending_from words w (i + 1) n ≡ sends None w.values)
+          → cond due (sent words w i) (sending_from words w (i + 1) n) ≡ sends None w.values
       go true is on = never (cc)
       go false is on = on is
 
-  pub none_left : due_entries words w ≡ [] → sending words w ≡ sends Nothing w.values
+  pub none_left : due_entries words w ≡ [] → sending words w ≡ sends None w.values
   unfolding due_entries sending
   none_left = none_from 0 (entry_count w)
 
