@@ -18,7 +18,12 @@ fn counting(step: u8) -> [u8; LONGEST] {
 }
 
 // The number of 01, the frame's length and the check value of the room.
-fn print_answer<W: Write>(out: &mut W, n: usize, written: Result<usize, WriteError>, room: &[u8]) -> io::Result<()> {
+fn print_answer<W: Write>(
+    out: &mut W,
+    n: usize,
+    written: Result<usize, WriteError>,
+    room: &[u8],
+) -> io::Result<()> {
     let (number, length) = match written {
         Ok(n) => (0, n),
         Err(WriteError::DataTooLong) => (3, 0),
