@@ -6,26 +6,21 @@ use crate::sums;
 use clock::{Date, Moment, Time};
 use std::io::{self, Write};
 
-// From two seconds before midnight to one behind it.
-#[derive(Clone, Copy)]
-struct End {
-    first: Moment,
-    second: Moment,
-    third: Moment,
-    fourth: Moment,
-}
-
 // The last day that exists of a month; 0 where none does.
 fn last_day(year: u8, month: u8) -> u8
     ensures { result ≤ 31 }
 {
-    for day in (1..32).rev() {
-        let date = Date { year, month, day };
-        if date.exists() {
-            return day;
-        }
-    }
-    0
+    (1..=31)
+        .rev()
+        .find(|day| {
+            let date = Date {
+                year,
+                month,
+                day: *day,
+            };
+            date.exists()
+        })
+        .unwrap_or(0)
 }
 
 // 23:59:58 on the last day of a month.
@@ -44,45 +39,25 @@ fn before_end(year: u8, month: u8) -> Moment {
     }
 }
 
-fn end_of(year: u8, month: u8) -> End {
+// From two seconds before midnight to one behind it.
+fn end_of(year: u8, month: u8) -> [Moment; 4] {
     let first = before_end(year, month);
     let second = first.next();
     let third = second.next();
-    End {
-        first,
-        second,
-        third,
-        fourth: third.next(),
-    }
-}
-
-fn with_month(value: u64, year: u8, month: u8) -> u64 {
-    let end = end_of(year, month);
-    let by_second = sums::with_moment(sums::with_moment(value, end.first), end.second);
-    sums::with_moment(sums::with_moment(by_second, end.third), end.fourth)
+    [first, second, third, third.next()]
 }
 
 // The check value of all ends of a year's months.
 pub fn of_year(year: u8) -> u64 {
-    let mut value = sums::NONE;
-    for month in 1..13 {
-        value = with_month(value, year, month);
-    }
-    value
-}
-
-fn say_month<W: Write>(out: &mut W, year: u8, month: u8) -> io::Result<()> {
-    let end = end_of(year, month);
-    let first = Shown(end.first);
-    let second = Shown(end.second);
-    let third = Shown(end.third);
-    let fourth = Shown(end.fourth);
-    writeln!(out, "end{first},{second},{third},{fourth}")
+    (1..=12)
+        .flat_map(|month| end_of(year, month))
+        .fold(sums::NONE, sums::with_moment)
 }
 
 pub fn say_year<W: Write>(out: &mut W, year: u8) -> io::Result<()> {
-    for month in 1..13 {
-        say_month(out, year, month)?;
+    for month in 1..=12 {
+        let [first, second, third, fourth] = end_of(year, month).map(Shown);
+        writeln!(out, "end{first},{second},{third},{fourth}")?;
     }
     Ok(())
 }

@@ -13,10 +13,10 @@
 //                           the second behind the last of a day is not the first of one; there is no such line
 #![tactic(auto)]
 
-use clock::Date;
+use clock::{Date, Moment};
 use say::Shown;
 use std::io::{self, BufWriter, Write};
-use walking::Walk;
+use walking::{MIDNIGHT, Walk};
 
 mod ends;
 mod judging;
@@ -27,21 +27,16 @@ mod walking;
 // How many years the clock goes through before the first comes again.
 const YEARS: usize = 100;
 
+// A year that the clock went through.
 fn say_year<W: Write>(out: &mut W, first: Date, walk: Walk) -> io::Result<()> {
-    let year = 2000 + wire::count(first.year);
+    let year = 2000 + usize::from(first.year);
     let behind = first.day_number();
-    let days = walk.days;
-    let value = walk.value;
+    let Walk { days, value, .. } = walk;
     let ends = ends::of_year(first.year);
     writeln!(
         out,
         "year {year}: behind {behind} days, has {days}, days {value}, ends {ends}"
     )
-}
-
-fn say_walked<W: Write>(out: &mut W, days: usize, date: Date) -> io::Result<()> {
-    let shown = Shown(walking::midnight(date));
-    writeln!(out, "walked {days} days, to{shown}")
 }
 
 fn walk<W: Write>(out: &mut W) -> io::Result<()> {
@@ -57,7 +52,11 @@ fn walk<W: Write>(out: &mut W) -> io::Result<()> {
         days += walk.days;
         date = walk.date;
     }
-    say_walked(out, days, date)?;
+    let come = Moment {
+        date,
+        time: MIDNIGHT,
+    };
+    writeln!(out, "walked {days} days, to{}", Shown(come))?;
     let walk = walking::through_year(out, date)?;
     say_year(out, date, walk)
 }

@@ -10,28 +10,19 @@ pub const NONE: u64 = 0;
 pub fn with_byte(value: u64, b: u8) -> u64
     ensures { result < 2147483647 }
 {
-    (value % 2147483647 * 16807 + b as u64) % 2147483647
+    (value % 2147483647 * 16807 + u64::from(b)) % 2147483647
 }
 
 fn with_bytes(value: u64, bytes: &[u8]) -> u64 {
-    let mut sum = value;
-    for b in bytes {
-        sum = with_byte(sum, *b);
-    }
-    sum
+    bytes.iter().copied().fold(value, with_byte)
 }
 
 // The value with a day of a year more.
-pub fn with_day(value: u64, date: Date) -> u64
-    ensures { result < 2147483647 }
-{
-    let with_month = with_byte(value, date.month);
-    let with_date = with_byte(with_month, date.day);
-    with_byte(with_date, date.weekday())
+pub fn with_day(value: u64, date: Date) -> u64 {
+    with_bytes(value, &[date.month, date.day, date.weekday()])
 }
 
 // The value with the seven bytes more that show a moment.
 pub fn with_moment(value: u64, m: Moment) -> u64 {
-    let shown = clock::shown(m);
-    with_bytes(value, &shown)
+    with_bytes(value, &clock::shown(m))
 }

@@ -10,8 +10,10 @@
 
 use frame::{Header, LONGEST_FRAME, MOST_PAYLOAD};
 use line::{Answer, Reader, Report};
-use std::fmt;
 use std::io::{self, BufReader, BufWriter, Read, Write};
+
+// More bytes than a chunk has.
+const MANY: usize = 512;
 
 // What the bytes that come are for.
 #[derive(Clone, Copy)]
@@ -27,29 +29,19 @@ struct Cases {
     mode: Mode,
     // Inside a title.
     title: bool,
-    // The first digit of a byte has come.
-    half: bool,
-    high: u8,
-    gathered: [u8; 512],
+    // The first digit of a byte, where it has come.
+    high: Option<u8>,
+    // A setup of fewer than three bytes reads what stood there before: so an array with a count, and no list that is emptied.
+    gathered: [u8; MANY],
     n: usize,
 }
 
-// Bytes in hex digits, a space before each.
-#[derive(Clone, Copy)]
-struct Hex<'a>(&'a [u8]);
-
-impl fmt::Display for Hex<'_> {
-    fn fmt<W: fmt::Write>(&self, f: &mut fmt::Formatter<W>) -> fmt::Result {
-        for b in self.0 {
-            write!(f, " {b:02X}")?;
-        }
-        Ok(())
+// Bytes in hex digits, a space before each. The other programs of cases write small letters; a crate for these four lines would be longer.
+fn put_hex<W: Write>(out: &mut W, bytes: &[u8]) -> io::Result<()> {
+    for b in bytes {
+        write!(out, " {b:02X}")?;
     }
-}
-
-// The first n of these bytes, or all.
-fn front(s: &[u8], n: usize) -> &[u8] {
-    if n <= s.len() { &s[0..n] } else { s }
+    Ok(())
 }
 
 // Prints a report; answers whether there was one.
@@ -60,29 +52,14 @@ fn put_report<W: Write>(
 ) -> io::Result<bool> {
     match report {
         Report::Accepted { command, len } => {
-            let content = Hex(front(payload, len));
-            writeln!(out, "F {command:02X}{content}")?;
-            Ok(true)
+            write!(out, "F {command:02X}")?;
+            put_hex(out, &payload[..len.min(MOST_PAYLOAD)])?;
+            writeln!(out)?;
         }
-        Report::BadCheck(command) => {
-            writeln!(out, "B {command:02X}")?;
-            Ok(true)
-        }
-        Report::Nothing => Ok(false),
+        Report::BadCheck(command) => writeln!(out, "B {command:02X}")?,
+        Report::Nothing => return Ok(false),
     }
-}
-
-// No more reports can stand in what is held than the longest frame has bytes.
-fn ask_all<W: Write>(out: &mut W, start: Reader) -> io::Result<Reader> {
-    let mut reader = start;
-    for _ in 0..=LONGEST_FRAME {
-        let asked = reader.ask();
-        reader = asked.reader;
-        if !put_report(out, asked.report, &asked.payload)? {
-            break;
-        }
-    }
-    Ok(reader)
+    Ok(true)
 }
 
 fn put_answer<W: Write>(out: &mut W, answer: Answer) -> io::Result<()> {
@@ -98,9 +75,8 @@ impl Cases {
             reader: Reader::new(Header { h1: 0, h2: 0 }, false),
             mode: Mode::Single,
             title: false,
-            half: false,
-            high: 0,
-            gathered: [0u8; 512],
+            high: None,
+            gathered: [0u8; MANY],
             n: 0,
         }
     }
@@ -121,44 +97,52 @@ impl Cases {
     }
 
     fn gather(&mut self, b: u8) {
-        if self.n < 512 {
+        if self.n < MANY {
             self.gathered[self.n] = b;
             self.n += 1;
         }
     }
 
     fn take_digit<W: Write>(&mut self, out: &mut W, x: u8) -> io::Result<()> {
-        if self.half {
-            self.half = false;
-            return self.take_byte(out, self.high << 4 | x);
+        if let Some(high) = self.high.take() {
+            return self.take_byte(out, high << 4 | x);
         }
-        self.half = true;
-        self.high = x;
+        self.high = Some(x);
         Ok(())
     }
 
     // The bytes gathered are a setup.
     fn set_up<W: Write>(&mut self, out: &mut W) -> io::Result<()> {
-        let s = self.gathered;
-        self.reader = Reader::new(Header { h1: s[0], h2: s[1] }, s[2] == 1);
+        let [h1, h2, checking, ..] = self.gathered;
+        self.reader = Reader::new(Header { h1, h2 }, checking == 1);
         self.mode = Mode::Single;
-        let setup = Hex(&s[..3]);
-        writeln!(out, "={setup}")
+        writeln!(out, "= {h1:02X} {h2:02X} {checking:02X}")
     }
 
     // The bytes gathered are given at once.
     fn give_chunk<W: Write>(&mut self, out: &mut W) -> io::Result<()> {
-        let gave = self.reader.give_bytes(front(&self.gathered, self.n));
+        let gave = self.reader.give_bytes(&self.gathered[..self.n.min(MANY)]);
         self.reader = gave.reader;
         self.mode = Mode::Single;
-        let used = gave.used;
-        writeln!(out, "[{used}")
+        writeln!(out, "[{}", gave.used)
     }
 
     fn give_mark<W: Write>(&mut self, out: &mut W) -> io::Result<()> {
         let given = self.reader.give_mark();
         self.reader = given.reader;
         put_answer(out, given.answer)
+    }
+
+    // No more reports can stand in what is held than the longest frame has bytes.
+    fn ask_all<W: Write>(&mut self, out: &mut W) -> io::Result<()> {
+        for _ in 0..=LONGEST_FRAME {
+            let asked = self.reader.ask();
+            self.reader = asked.reader;
+            if !put_report(out, asked.report, &asked.payload)? {
+                break;
+            }
+        }
+        Ok(())
     }
 
     fn begin(&mut self, mode: Mode) {
@@ -169,21 +153,21 @@ impl Cases {
     // A character outside titles; all but these are passed over.
     fn take_sign<W: Write>(&mut self, out: &mut W, c: u8) -> io::Result<()> {
         match c {
-            b'0'..=b'9' => self.take_digit(out, c & 15)?,
-            b'A'..=b'F' => self.take_digit(out, (c & 15).wrapping_add(9))?,
+            b'0'..=b'9' => self.take_digit(out, c - b'0')?,
+            b'A'..=b'F' => self.take_digit(out, c - b'A' + 10)?,
             b'=' => self.begin(Mode::Setup),
             b';' => self.set_up(out)?,
             b'[' => self.begin(Mode::Chunk),
             b']' => self.give_chunk(out)?,
             b'|' => self.give_mark(out)?,
-            b'?' => self.reader = ask_all(out, self.reader)?,
+            b'?' => self.ask_all(out)?,
             _ => {}
         }
         Ok(())
     }
 
     fn take_char<W: Write>(&mut self, out: &mut W, c: u8) -> io::Result<()> {
-        if self.title | (c == b'#') {
+        if self.title || c == b'#' {
             self.title = c != b'\n';
             return out.write_all(&[c]);
         }

@@ -1,9 +1,8 @@
 // Writing what a call answers, by 01's numbers.
-use crate::say::{Words, part};
-use crate::sums;
+use crate::say::{bytes, part};
 use commands::Outcome;
 use line::Answer;
-use panel::{ContactAnswer, Contacted, Handed, LiftAnswer, Reported, StartAnswer};
+use panel::{ContactAnswer, Handed, LiftAnswer, Reported, StartAnswer};
 use std::io::{self, Write};
 
 pub fn say_start<W: Write>(out: &mut W, a: StartAnswer) -> io::Result<()> {
@@ -56,18 +55,15 @@ fn number_of(o: Outcome) -> usize {
     }
 }
 
-fn say_handed<W: Write>(
-    out: &mut W,
-    handed: Handed,
-    content: &[u8],
-    room: &[u8],
-) -> io::Result<()> {
-    match handed {
+// An ask. Acknowledgement and reply stand in the room, one behind the other.
+pub fn say_reported<W: Write>(out: &mut W, reported: &Reported, room: &[u8]) -> io::Result<()> {
+    write!(out, "? ")?;
+    match reported.handed {
         Handed::NotLent => write!(out, "14"),
         Handed::WrongList => write!(out, "16"),
         Handed::Nothing => write!(out, "nothing"),
         Handed::BadCheck(command, acknowledged) => {
-            let acknowledgement = part(room, 0, acknowledged);
+            let acknowledgement = bytes(part(room, 0, acknowledged));
             write!(out, "B {command:02x} acknowledgement{acknowledgement}")
         }
         Handed::Accepted {
@@ -78,43 +74,22 @@ fn say_handed<W: Write>(
             replied,
         } => {
             let number = number_of(outcome);
-            let given = part(content, 0, count);
+            let given = bytes(part(&reported.payload, 0, count));
             write!(out, "F {command:02x} {number} data{given}")?;
-            let acknowledgement = part(room, 0, acknowledged);
-            let reply = part(room, acknowledged, replied);
+            let acknowledgement = bytes(part(room, 0, acknowledged));
+            let reply = bytes(part(room, acknowledged, replied));
             write!(out, " acknowledgement{acknowledgement} reply{reply}")
         }
     }
 }
 
-// What a call left: a sum over the whole room, and the values last sent that were lent.
-fn say_left<W: Write>(out: &mut W, room: &[u8], values: &[u16]) -> io::Result<()> {
-    let sum = sums::of_bytes(room);
-    let sent = Words(values);
-    writeln!(out, " room {sum} values{sent}")
-}
-
-// An ask.
-pub fn say_reported<W: Write>(
-    out: &mut W,
-    reported: &Reported,
-    room: &[u8],
-    values: &[u16],
-) -> io::Result<()> {
-    write!(out, "? ")?;
-    say_handed(out, reported.handed, &reported.payload, room)?;
-    say_left(out, room, values)
-}
-
+// A contact, and the unasked reply that it wrote to the room.
 pub fn say_contacted<W: Write>(
     out: &mut W,
-    contacted: &Contacted,
+    a: ContactAnswer,
     room: &[u8],
-    values: &[u16],
+    written: usize,
 ) -> io::Result<()> {
-    say_contact(out, contacted.answer)?;
-    let n = contacted.written;
-    let written = part(room, 0, n);
-    write!(out, " written {n}{written}")?;
-    say_left(out, room, values)
+    say_contact(out, a)?;
+    write!(out, " written {written}{}", bytes(part(room, 0, written)))
 }

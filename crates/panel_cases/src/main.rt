@@ -29,6 +29,7 @@
 
 use curves::CURVE_WORDS;
 use frame::LEAST_ROOM;
+use lending::Lent;
 use panel::Panel;
 use std::io::{self, BufReader, BufWriter, Read, Write};
 use touch::Setup;
@@ -52,30 +53,17 @@ const ROOM: usize = 300;
 
 const LISTED: usize = 20;
 
-// How much of each array is lent.
-#[derive(Clone, Copy)]
-struct Lent {
-    table: usize,
-    words: usize,
-    curves: usize,
-    room: usize,
-    addresses: usize,
-    uses: usize,
-    values: usize,
-}
-
-// The panel, and the arrays that are lent at its calls.
+// The panel, and what is lent at its calls.
 #[derive(Drop)]
 struct Bench {
     panel: Panel,
-    table: [u8; TABLE],
-    words: [u16; WORDS],
-    curves: [u16; CURVES],
-    room: [u8; ROOM],
-    addresses: [u16; LISTED],
-    uses: [u8; LISTED],
-    values: [u16; LISTED],
-    lent: Lent,
+    table: Lent<u8, TABLE>,
+    words: Lent<u16, WORDS>,
+    curves: Lent<u16, CURVES>,
+    room: Lent<u8, ROOM>,
+    addresses: Lent<u16, LISTED>,
+    uses: Lent<u8, LISTED>,
+    values: Lent<u16, LISTED>,
 }
 
 impl Bench {
@@ -91,22 +79,13 @@ impl Bench {
         };
         Bench {
             panel: Panel::start(setup, b"").panel,
-            table: [0u8; TABLE],
-            words: [0u16; WORDS],
-            curves: [0xC0DEu16; CURVES],
-            room: [0xEEu8; ROOM],
-            addresses: [0u16; LISTED],
-            uses: [0u8; LISTED],
-            values: [0u16; LISTED],
-            lent: Lent {
-                table: 0,
-                words: WORD_COUNT,
-                curves: CURVE_WORDS,
-                room: LEAST_ROOM,
-                addresses: 0,
-                uses: 0,
-                values: 0,
-            },
+            table: Lent::new(0, 0),
+            words: Lent::new(0, WORD_COUNT),
+            curves: Lent::new(0xC0DE, CURVE_WORDS),
+            room: Lent::new(0xEE, LEAST_ROOM),
+            addresses: Lent::new(0, 0),
+            uses: Lent::new(0, 0),
+            values: Lent::new(0, 0),
         }
     }
 
@@ -119,25 +98,25 @@ impl Bench {
     ) -> io::Result<()> {
         match letter {
             b'#' => lending::title(script, out),
-            b'T' => lending::lend_table(self, script),
-            b'L' => lending::lend(self, script),
-            b'W' => lending::lend_list(self, script),
-            b'E' => lending::set_entry(self, script),
+            b'T' => self.lend_table(script),
+            b'L' => self.lend(script),
+            b'W' => self.lend_list(script),
+            b'E' => self.set_entry(script),
             b'K' => lending::set_word(&mut self.words, script),
             b'H' => lending::set_word(&mut self.curves, script),
-            b'S' => calls::start(self, script, out),
-            b'B' => calls::give_byte(self, script, out),
-            b'G' => calls::give_bytes(self, script, out),
-            b'M' => calls::give_mark(self, out),
-            b'P' => calls::give_second(self, out),
-            b'?' => calls::ask(self, out),
-            b'C' => calls::contact(self, script, out),
-            b'U' => calls::lift(self, out),
-            b'R' => showing::show_register(self, script, out),
-            b'V' => showing::show_word(self, script, out),
-            b'D' => showing::show_all(self, out),
-            b'I' => showing::show_moment(self, out),
-            b'N' => showing::show_channel(self, script, out),
+            b'S' => self.start(script, out),
+            b'B' => self.give_byte(script, out),
+            b'G' => self.give_bytes(script, out),
+            b'M' => self.give_mark(out),
+            b'P' => self.give_second(out),
+            b'?' => self.ask(out),
+            b'C' => self.contact(script, out),
+            b'U' => self.lift(out),
+            b'R' => self.show_register(script, out),
+            b'V' => self.show_word(script, out),
+            b'D' => self.show_all(out),
+            b'I' => self.show_moment(out),
+            b'N' => self.show_channel(script, out),
             _ => Ok(()),
         }
     }

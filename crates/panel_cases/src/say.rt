@@ -1,30 +1,27 @@
-// How bytes and words are written: in hex digits, a space before each.
+// How bytes and words are written: in hex digits, a space before each. The other programs of cases write other things so, and a crate for one loop
+// would be longer.
 use panel::Panel;
 use registers::RegisterAddress;
 use std::fmt;
 
 #[derive(Clone, Copy)]
-pub struct Bytes<'a>(pub &'a [u8]);
+pub struct Hex<'a, T, const DIGITS: usize>(&'a [T]);
 
-impl fmt::Display for Bytes<'_> {
+impl<T: fmt::Radix + Copy, const DIGITS: usize> fmt::Display for Hex<'_, T, DIGITS> {
     fn fmt<W: fmt::Write>(&self, f: &mut fmt::Formatter<W>) -> fmt::Result {
-        for b in self.0 {
-            write!(f, " {b:02x}")?;
+        for x in self.0 {
+            write!(f, " {x:0DIGITS$x}")?;
         }
         Ok(())
     }
 }
 
-#[derive(Clone, Copy)]
-pub struct Words<'a>(pub &'a [u16]);
+pub fn bytes(bytes: &[u8]) -> Hex<'_, u8, 2> {
+    Hex(bytes)
+}
 
-impl fmt::Display for Words<'_> {
-    fn fmt<W: fmt::Write>(&self, f: &mut fmt::Formatter<W>) -> fmt::Result {
-        for w in self.0 {
-            write!(f, " {w:04x}")?;
-        }
-        Ok(())
-    }
+pub fn words(words: &[u16]) -> Hex<'_, u16, 4> {
+    Hex(words)
 }
 
 // All registers of a panel.
@@ -41,13 +38,7 @@ impl fmt::Display for AllRegisters {
     }
 }
 
-// The n bytes of s from a place on, where s has them.
-pub fn part(s: &[u8], from: usize, n: usize) -> Bytes<'_> {
-    if from <= s.len() {
-        let rest = &s[from..];
-        if n <= rest.len() {
-            return Bytes(&rest[..n]);
-        }
-    }
-    Bytes(&s[..0])
+// The n elements of s from a place on; none where s has not so many.
+pub fn part<T>(s: &[T], from: usize, n: usize) -> &[T] {
+    s.get(from..).and_then(|rest| rest.get(..n)).unwrap_or(&[])
 }

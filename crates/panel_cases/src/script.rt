@@ -20,31 +20,25 @@ pub fn next_byte<R: Read>(script: &mut R) -> io::Result<u8> {
 pub fn next_word<R: Read>(script: &mut R) -> io::Result<u16> {
     let high = next_byte(script)?;
     let low = next_byte(script)?;
-    Ok(wire::word(high, low))
+    Ok(u16::from_be_bytes([high, low]))
 }
 
 // A number of one byte, and one of two, as a count or an index.
 pub fn next_small<R: Read>(script: &mut R) -> io::Result<usize> {
-    Ok(wire::count(next_byte(script)?))
+    Ok(usize::from(next_byte(script)?))
 }
 
 pub fn next_count<R: Read>(script: &mut R) -> io::Result<usize> {
-    Ok(next_word(script)? as usize)
+    Ok(usize::from(next_word(script)?))
 }
 
 pub fn next_setup<R: Read>(script: &mut R) -> io::Result<Setup> {
-    let h1 = next_byte(script)?;
-    let h2 = next_byte(script)?;
-    let flags = next_byte(script)?;
-    let pages = next_word(script)?;
-    let width = next_word(script)?;
-    let height = next_word(script)?;
     Ok(Setup {
-        h1,
-        h2,
-        flags,
-        pages,
-        width,
-        height,
+        h1: next_byte(script)?,
+        h2: next_byte(script)?,
+        flags: next_byte(script)?,
+        pages: next_word(script)?,
+        width: next_word(script)?,
+        height: next_word(script)?,
     })
 }

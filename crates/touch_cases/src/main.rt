@@ -4,17 +4,17 @@
 #![tactic(auto)]
 
 use std::io::{self, BufReader, BufWriter, ErrorKind, Read, Write};
-use touch::{Found, Setup, Verdict};
+use touch::{Point, Record, Setup, TableError};
 
 const HEAD: usize = 21;
 
 const ROOM: usize = 8192;
 
-fn setup_of(head: &[u8]) -> Setup {
+fn setup_of(head: &[u8; HEAD]) -> Setup {
     Setup {
-        h1: wire::byte_at(head, 4),
-        h2: wire::byte_at(head, 5),
-        flags: wire::byte_at(head, 6),
+        h1: head[4],
+        h2: head[5],
+        flags: head[6],
         pages: wire::word_at(head, 7),
         width: wire::word_at(head, 9),
         height: wire::word_at(head, 11),
@@ -22,11 +22,8 @@ fn setup_of(head: &[u8]) -> Setup {
 }
 
 fn say_setup<W: Write>(out: &mut W, s: Setup) -> io::Result<()> {
-    if touch::good_setup(s) {
-        write!(out, "0")?;
-    } else {
-        write!(out, "11")?;
-    }
+    let number = if touch::good_setup(s) { 0 } else { 11 };
+    write!(out, "{number}")?;
     if touch::checking(s) {
         write!(out, " checking")?;
     }
@@ -36,48 +33,44 @@ fn say_setup<W: Write>(out: &mut W, s: Setup) -> io::Result<()> {
     Ok(())
 }
 
-fn say_verdict<W: Write>(out: &mut W, v: Verdict) -> io::Result<()> {
-    match v {
-        Verdict::Good => write!(out, "0"),
-        Verdict::NotRecords => write!(out, "12"),
-        Verdict::Wrong(i) => write!(out, "13 {i}"),
+fn say_verdict<W: Write>(out: &mut W, judged: Result<(), TableError>) -> io::Result<()> {
+    match judged {
+        Ok(()) => write!(out, "0"),
+        Err(TableError::NotRecords) => write!(out, "12"),
+        Err(TableError::Wrong(i)) => write!(out, "13 {i}"),
     }
 }
 
-fn say_found<W: Write>(out: &mut W, f: Found) -> io::Result<()> {
-    match f {
-        Found::Nothing => write!(out, "none"),
-        Found::At(i, r) => {
-            write!(out, "{i}")?;
-            if touch::is_slider(r) {
-                write!(out, " caught")?;
-            }
-            if touch::no_next(r) {
-                write!(out, " stays")?;
-            }
-            Ok(())
-        }
+fn say_found<W: Write>(out: &mut W, found: Option<(usize, Record)>) -> io::Result<()> {
+    let Some((i, r)) = found else {
+        return write!(out, "none");
+    };
+    write!(out, "{i}")?;
+    if touch::is_slider(r) {
+        write!(out, " caught")?;
     }
-}
-
-fn say_word<W: Write>(out: &mut W, w: u16) -> io::Result<()> {
-    write!(out, "{w:04x}")
+    if touch::no_next(r) {
+        write!(out, " stays")?;
+    }
+    Ok(())
 }
 
 // What the library answers to a case.
-fn answer<W: Write>(out: &mut W, head: &[u8], table: &[u8]) -> io::Result<()> {
-    let kind = wire::byte_at(head, 0);
+fn answer<W: Write>(out: &mut W, head: &[u8; HEAD], table: &[u8]) -> io::Result<()> {
     let s = setup_of(head);
     let page = wire::word_at(head, 13);
-    let x = wire::word_at(head, 15);
-    let y = wire::word_at(head, 17);
+    let point = Point {
+        x: wire::word_at(head, 15),
+        y: wire::word_at(head, 17),
+    };
     let old = wire::word_at(head, 19);
-    match kind {
+    let first = touch::record_of(table);
+    match head[0] {
         0 => say_setup(out, s),
         1 => say_verdict(out, touch::judge(s, table)),
-        2 => say_found(out, touch::find(table, page, x, y)),
-        3 => say_word(out, touch::acted(s, touch::record_of(table), old, x, y)),
-        _ => say_word(out, touch::dragged(s, touch::record_of(table), old, x, y)),
+        2 => say_found(out, touch::find(table, page, point)),
+        3 => write!(out, "{:04x}", touch::acted(s, first, old, point)),
+        _ => write!(out, "{:04x}", touch::dragged(s, first, old, point)),
     }
 }
 
@@ -90,15 +83,7 @@ fn is_filled<R: Read>(input: &mut R, room: &mut [u8]) -> io::Result<bool> {
     }
 }
 
-// Writes the label and the answer of a case.
-fn show<W: Write>(out: &mut W, head: &[u8], label: &[u8], table: &[u8]) -> io::Result<()> {
-    out.write_all(label)?;
-    write!(out, ": ")?;
-    answer(out, head, table)?;
-    writeln!(out)
-}
-
-// Reads a case and answers it, or says that there is none.
+// Reads a case and writes its label and the answer, or says that there is none.
 fn is_shown<R: Read, W: Write>(input: &mut R, out: &mut W) -> io::Result<bool> {
     let mut head = [0u8; HEAD];
     let mut label = [0u8; 256];
@@ -106,17 +91,18 @@ fn is_shown<R: Read, W: Write>(input: &mut R, out: &mut W) -> io::Result<bool> {
     if !is_filled(input, &mut head)? {
         return Ok(false);
     }
-    let named = wire::count(wire::byte_at(&head, 1));
-    let size = wire::word_at(&head, 2) as usize;
-    if ROOM < size {
+    let label = &mut label[..usize::from(head[1])];
+    let Some(table) = table.get_mut(..usize::from(wire::word_at(&head, 2))) else {
+        return Ok(false);
+    };
+    if !is_filled(input, label)? || !is_filled(input, table)? {
         return Ok(false);
     }
-    let is_named = is_filled(input, &mut label[..named])?;
-    let is_whole = is_filled(input, &mut table[..size])?;
-    if is_named & is_whole {
-        show(out, &head, &label[..named], &table[..size])?;
-    }
-    Ok(is_named & is_whole)
+    out.write_all(label)?;
+    write!(out, ": ")?;
+    answer(out, &head, table)?;
+    writeln!(out)?;
+    Ok(true)
 }
 
 // A proved loop has to end, and nothing says that the input does. So the loop counts its turns, to a number that no run comes to.
