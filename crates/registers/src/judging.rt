@@ -1,11 +1,12 @@
 // A run of registers that is to be written: whether it may be, and what it asks for besides.
-ghost use Rattle.std.specs.Prelude.{◌≡◌, length};
+ghost use Rattle.std.specs.Prelude.{◌≡◌, ◌+◌, length};
 ghost use Rattle.registers.specs.Table.{writable};
 ghost use Rattle.registers.specs.Run.{covers, all_writable, sets_clock, part_of_clock, unwritable_run, byte_for, clearing, wrong_setting, wrong_clock, wrong_value, drops_catch, clear_value};
 
 use crate::{
     CLEAR_REGISTER, CLOCK_REGISTERS, LAST_CLOCK_REGISTER, RegisterAddress, Run, SET_REGISTER,
 };
+use std::ops::Range;
 
 #[tactic(auto, unfolding(crate::specs::Table::writable, crate::specs::Table::is_clock))]
 fn is_writable(register: usize) -> bool
@@ -36,25 +37,26 @@ fn is_wrong_setting(bytes: &[u8]) -> bool
     }
 }
 
-impl<'a> Run<'a> {
-    // The first register of the run.
-    fn first(self) -> usize
-        ensures { result ≡ self.entry.address.0 }
+impl Run<'_> {
+    // Its registers, by their addresses.
+    pub(crate) fn registers(self) -> Range<usize>
+        ensures { result ≡ record { start = self.entry.address.0; end = self.entry.address.0 + length self.entry.bytes.now } }
     {
-        usize::from(self.address.0)
+        let first = usize::from(self.address.0);
+        first..first + self.bytes.len()
     }
 
     #[tactic(auto, unfolding(crate::specs::Run::covers))]
     fn has(self, register: usize) -> bool
         ensures { result ≡ covers self.entry.address.0 (length self.entry.bytes.now) register }
     {
-        (self.first()..self.first() + self.bytes.len()).contains(&register)
+        self.registers().contains(&register)
     }
 
     fn is_writable(self) -> bool
         ensures { result ≡ all_writable self.entry.address.0 (length self.entry.bytes.now) }
     {
-        (self.first()..self.first() + self.bytes.len()).all(is_writable)
+        self.registers().all(is_writable)
     }
 
     // The run is the clock's eight registers and no other.
@@ -62,7 +64,7 @@ impl<'a> Run<'a> {
     fn sets_clock(self) -> bool
         ensures { result ≡ sets_clock self.entry.address.0 (length self.entry.bytes.now) }
     {
-        self.first() == SET_REGISTER && self.bytes.len() == CLOCK_REGISTERS
+        usize::from(self.address.0) == SET_REGISTER && self.bytes.len() == CLOCK_REGISTERS
     }
 
     // The run has some of the clock's registers, and is not just the eight.
@@ -70,10 +72,8 @@ impl<'a> Run<'a> {
     fn is_part_of_clock(self) -> bool
         ensures { result ≡ part_of_clock self.entry.address.0 (length self.entry.bytes.now) }
     {
-        let end = self.first() + self.bytes.len();
-        let touches = !self.bytes.is_empty()
-            && self.first() <= LAST_CLOCK_REGISTER
-            && SET_REGISTER < end;
+        let Range { start, end } = self.registers();
+        let touches = !self.bytes.is_empty() && start <= LAST_CLOCK_REGISTER && SET_REGISTER < end;
         touches && !self.sets_clock()
     }
 
@@ -82,7 +82,10 @@ impl<'a> Run<'a> {
     pub(crate) fn byte_for(self, register: usize) -> u8
         ensures { result ≡ byte_for self.entry.address.0 self.entry.bytes.now register }
     {
-        wire::byte_at(self.bytes, register.saturating_sub(self.first()))
+        wire::byte_at(
+            self.bytes,
+            register.saturating_sub(usize::from(self.address.0)),
+        )
     }
 
     // The run would set the clock, and wrongly.

@@ -19,7 +19,7 @@ fn read_as(weekday: u8, register: usize, b: u8) -> u8
     }
 }
 
-impl<'a> Run<'a> {
+impl Run<'_> {
     // The weekday of the date that the run gives to the clock.
     #[tactic(auto, unfolding(crate::specs::Run::weekday_for))]
     fn weekday(self) -> u8
