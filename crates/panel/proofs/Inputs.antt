@@ -1,4 +1,5 @@
 -- Laws of starting and of inputs: one for each way a method answers.
+use Rattle.std.specs.Prelude.{None, Ok, Err}
 use mathlib.Core.Path.{◌≡◌, sym, ap, ◌∙◌}
 use mathlib.Core.Bool.{Bool, true, false}
 use mathlib.Core.List.{List}
@@ -8,7 +9,7 @@ use Rattle.line.specs.declared.Reader.{Reader}
 use Rattle.line.specs.declared.Given.{Given}
 use Rattle.line.specs.declared.Gave.{Gave}
 use Rattle.line.specs.State.{reader_of, no_reader}
-use Rattle.line.specs.declared.Answer.TheVariants.{Done, Waits}
+use Rattle.line.specs.declared.Waiting.TheVariants.{ReportWaits}
 use Rattle.line.specs.Methods.{busy, given_byte, given_mark, given_bytes}
 use Rattle.registers.specs.Clocked.{second_passed}
 use Rattle.reading.specs.Moves.{fresh}
@@ -17,13 +18,12 @@ use Rattle.registers.specs.Table.{start_registers}
 use Rattle.curves.specs.declared.Counts.{Counts}
 use Rattle.curves.specs.Area.{no_counts}
 use Rattle.touch.specs.declared.Setup.{Setup}
-use Rattle.touch.specs.declared.Verdict.{Verdict}
-use Rattle.touch.specs.declared.Verdict.TheVariants.{Good, NotRecords, Wrong}
+use Rattle.touch.specs.Judge.{Verdict}
+use Rattle.touch.specs.declared.TableError.TheVariants.{NotRecords, Wrong}
 use Rattle.touch.specs.Setup.{checking_of, acknowledging_of, good_setup}
 use Rattle.touch.specs.Judge.{judged}
-use Rattle.contact.specs.declared.Catch.TheVariants.{Free}
 use Rattle.panel.specs.declared.Panel.{Panel}
-use Rattle.panel.specs.declared.StartAnswer.TheVariants as start
+use Rattle.panel.specs.declared.StartError.TheVariants as start_error
 use Rattle.panel.specs.declared.Start.{Start}
 use Rattle.panel.specs.declared.Fed.{Fed}
 use Rattle.panel.specs.declared.FedBytes.{FedBytes}
@@ -34,7 +34,7 @@ use Rattle.panel.specs.Inputs.{fed_byte, fed_mark, fed_second, fed_bytes}
 pub new_made : (setup : Setup) (c k : Bool) (header : Header) (registers : Registers) (counts : Counts) (reader : Reader) → c ≡ checking_of setup → k ≡ acknowledging_of setup
     → header ≡ header_for setup → registers ≡ start_registers setup.h1 setup.h2 c k → counts ≡ no_counts
     → reader ≡ reader_of (record { header = header; checking = c }) fresh
-    → ◌≡◌ {A = Panel} (record { setup = setup; registers = registers; catch = Free; counts = counts; reader = reader }) (new_panel setup)
+    → ◌≡◌ {A = Panel} (record { setup = setup; registers = registers; catch = None; counts = counts; reader = reader }) (new_panel setup)
 unfolding new_panel
 new_made setup c k header registers counts reader is_c is-k is-h is-registers is-counts is-reader =
     rw (is-registers, is-counts, is-reader, is-h, is_c, is-k)
@@ -45,7 +45,7 @@ unfolding no_panel
 none_made panel reader is none = ap (λ (p : Panel). with_reader p reader) is ∙ ap (λ (r : Reader). with_reader (new_panel (record { h1 = 0; h2 = 0; flags = 0; pages = 0; width = 0; height = 0 })) r) none
 
 module _ (setup : Setup) (table : List ℕ) (good : Bool) (is-good : good ≡ good_setup setup) where
-  pub setup_refused : (panel : Panel) → good ≡ false → panel ≡ no_panel → ◌≡◌ {A = Start} (record { answer = start.WrongSetup; panel = panel }) (started setup table)
+  pub setup_refused : (panel : Panel) → good ≡ false → panel ≡ no_panel → ◌≡◌ {A = Start} (record { answer = Err start_error.WrongSetup; panel = panel }) (started setup table)
   unfolding started
   setup_refused panel is e = rw (e, sym is-good ∙ is)
 
@@ -54,19 +54,19 @@ module _ (setup : Setup) (table : List ℕ) (good : Bool) (is-good : good ≡ go
     unfolding started
     judged_so given is = rw (sym is-good ∙ fine) (ap (λ (v : Verdict). start_judged v setup) (sym is ∙ is-verdict))
 
-    pub start_done : (panel : Panel) → verdict ≡ Good → panel ≡ new_panel setup → ◌≡◌ {A = Start} (record { answer = start.Started; panel = panel }) (started setup table)
+    pub start_done : (panel : Panel) → verdict ≡ Ok tt → panel ≡ new_panel setup → ◌≡◌ {A = Start} (record { answer = Ok tt; panel = panel }) (started setup table)
     unfolding start_judged
-    start_done panel is e = rw e (judged_so Good is)
+    start_done panel is e = rw e (judged_so (Ok tt) is)
 
-    pub start_not_records : (panel : Panel) → verdict ≡ NotRecords → panel ≡ no_panel
-        → ◌≡◌ {A = Start} (record { answer = start.NotRecords; panel = panel }) (started setup table)
+    pub start_not_records : (panel : Panel) → verdict ≡ Err NotRecords → panel ≡ no_panel
+        → ◌≡◌ {A = Start} (record { answer = Err start_error.NotRecords; panel = panel }) (started setup table)
     unfolding start_judged
-    start_not_records panel is e = rw e (judged_so NotRecords is)
+    start_not_records panel is e = rw e (judged_so (Err NotRecords) is)
 
-    pub start_wrong : (panel : Panel) (i : ℕ) → verdict ≡ Wrong i → panel ≡ no_panel
-        → ◌≡◌ {A = Start} (record { answer = start.WrongRecord i; panel = panel }) (started setup table)
+    pub start_wrong : (panel : Panel) (i : ℕ) → verdict ≡ Err (Wrong i) → panel ≡ no_panel
+        → ◌≡◌ {A = Start} (record { answer = Err (start_error.WrongRecord i); panel = panel }) (started setup table)
     unfolding start_judged
-    start_wrong panel i is e = rw e (judged_so (Wrong i) is)
+    start_wrong panel i is e = rw e (judged_so (Err (Wrong i)) is)
 
 module _ (panel : Panel) where
   pub byte_fed : (b : ℕ) (given : Given) → given ≡ given_byte panel.reader b
@@ -85,11 +85,11 @@ module _ (panel : Panel) where
   bytes_fed bytes given is = ap (λ (g : Gave). record { used = g.used; panel = with_reader panel g.reader }) is
 
 module _ (panel : Panel) (waits : Bool) (is-waits : waits ≡ busy panel.reader) where
-  pub second_refused : waits ≡ true → ◌≡◌ {A = Fed} (record { answer = Waits; panel = panel }) (fed_second panel)
+  pub second_refused : waits ≡ true → ◌≡◌ {A = Fed} (record { answer = Err ReportWaits; panel = panel }) (fed_second panel)
   unfolding fed_second
   second_refused on = rw (sym is-waits ∙ on)
 
   pub second_fed : (next : Registers) → waits ≡ false → next ≡ second_passed panel.registers
-      → ◌≡◌ {A = Fed} (record { answer = Done; panel = with_registers panel next }) (fed_second panel)
+      → ◌≡◌ {A = Fed} (record { answer = Ok tt; panel = with_registers panel next }) (fed_second panel)
   unfolding fed_second
   second_fed next off is = rw (sym is-waits ∙ off, is)

@@ -1,4 +1,6 @@
 -- Laws of asking for a report: one for each way it answers.
+use Rattle.std.specs.Prelude.{Option, None, Some, Ok, Err}
+use Rattle.line.specs.declared.Report.{Report}
 use mathlib.Core.Path.{◌≡◌, refl, sym, ap, ◌∙◌}
 use mathlib.Core.Bool.{Bool, true, false, cond, ◌&&◌}
 use mathlib.Core.List.{List, [], ◌++◌, append-nil}
@@ -16,7 +18,6 @@ use Rattle.frame.specs.Frame.{header_bytes, most_payload}
 use Rattle.line.specs.State.{padded}
 use Rattle.frame.specs.Acknowledgement.{acknowledgement}
 use Rattle.frame.specs.Writer.{least_room, acknowledgement_laid}
-use Rattle.line.specs.declared.Report.{Report}
 use Rattle.line.specs.declared.Report.TheVariants as line
 use Rattle.line.specs.declared.Asked.{Asked}
 use Rattle.line.specs.Methods.{asked}
@@ -34,10 +35,11 @@ use Rattle.commands.specs.Effect.{registers_left, counts_left}
 use Rattle.commands.specs.Perform.{Performance, performs, performance}
 use Rattle.touch.specs.declared.Setup.{Setup}
 use Rattle.touch.specs.Setup.{checking_of, acknowledging_of}
-use Rattle.contact.specs.declared.Catch.{Catch}
+use Rattle.contact.specs.Contact.{Catch}
 use Rattle.panel.specs.declared.Panel.{Panel}
-use Rattle.panel.specs.declared.Handed.{Handed}
+use Rattle.panel.specs.Answers.{AskAnswer}
 use Rattle.panel.specs.declared.Handed.TheVariants as handed
+use Rattle.panel.specs.declared.LentError.TheVariants as lent_error
 use Rattle.panel.specs.declared.Effected.{Effected}
 use Rattle.panel.specs.declared.HandedOver.{HandedOver}
 use Rattle.panel.specs.declared.Reported.{Reported}
@@ -134,20 +136,20 @@ taken_same count n payload is long = go (leb count most_payload) refl
         take_all n payload (omega arith) ∙ sym (take_all count payload (omega arith))
 
 -- a report that is handed over
-module _ (setup : Setup) (registers : Registers) (report : Report) (payload words room : List ℕ) where
-  pub over_nothing : (o : HandedOver) → report ≡ line.Nothing → o ≡ only_handed handed.Nothing → (rest : Lent)
+module _ (setup : Setup) (registers : Registers) (report : Option Report) (payload words room : List ℕ) where
+  pub over_nothing : (o : HandedOver) → report ≡ None → o ≡ only_handed (Ok None) → (rest : Lent)
       → overs o (with_words_room rest words room) ≡ handing_over setup registers report payload (with_words_room rest words room)
   unfolding handing_over
   over_nothing o is is-o rest = rw (is, is-o)
 
-  pub over_bad : (command count : ℕ) (left : List ℕ) (o : HandedOver) → report ≡ line.BadCheck command → lays count left ≡ acknowledged setup command false room
-      → o ≡ only_handed (handed.BadCheck command count) → (rest : Lent)
+  pub over_bad : (command count : ℕ) (left : List ℕ) (o : HandedOver) → report ≡ Some (line.BadCheck command) → lays count left ≡ acknowledged setup command false room
+      → o ≡ only_handed (Ok (Some (handed.BadCheck command count))) → (rest : Lent)
       → overs o (with_words_room rest words left) ≡ handing_over setup registers report payload (with_words_room rest words room)
   unfolding handing_over
   over_bad command count left o is e is-o rest =
-      rw (is, is-o) (ap (λ (l : Laid). overs (only_handed (handed.BadCheck command l.count)) (with_words_room rest words l.room)) e)
+      rw (is, is-o) (ap (λ (l : Laid). overs (only_handed (Ok (Some (handed.BadCheck command l.count)))) (with_words_room rest words l.room)) e)
 
-  pub over_accepted : (command len n : ℕ) (e : Effected) (words' left : List ℕ) (o : HandedOver) → report ≡ line.Accepted command len → n ≡ min len most_payload
+  pub over_accepted : (command len n : ℕ) (e : Effected) (words' left : List ℕ) (o : HandedOver) → report ≡ Some (line.Accepted command len) → n ≡ min len most_payload
       → length payload ≡ most_payload
       → ((rest : Lent) → effects e (with_words_room rest words' left) ≡ accepting setup registers command (take n payload) (with_words_room rest words room))
       → o ≡ accepted_over command len e → (rest : Lent)
@@ -172,7 +174,7 @@ module _ (writes adds : Bool) (counts : Counts) (content area : List ℕ) where
   drawn_nothing is off = rw (is, off)
 
 -- the data of a report, out of its array
-pub content_is : (report : Report) (payload : List ℕ) (len n : ℕ) → len ≡ length_of report → n ≡ min len most_payload → length payload ≡ most_payload
+pub content_is : (report : Option Report) (payload : List ℕ) (len n : ℕ) → len ≡ length_of report → n ≡ min len most_payload → length payload ≡ most_payload
     → take n payload ≡ take (length_of report) payload
 content_is report payload len n is-len is-n long = taken_same len n payload is-n long ∙ ap (λ (k : ℕ). take k payload) is-len
 
@@ -185,7 +187,7 @@ module _ (registers : Registers) (writes : Bool) (content : List ℕ) (after : R
   behind_unwritten is is-after = rw (is, is-after)
 
 -- what is lent is not what it must be
-pub refused_is : (given : Handed) (panel : Panel) (payload : List ℕ) → payload ≡ padded most_payload []
+pub refused_is : (given : AskAnswer) (panel : Panel) (payload : List ℕ) → payload ≡ padded most_payload []
     → ◌≡◌ {A = Reported} (record { handed = given; payload = payload; panel = panel }) (refused given panel)
 refused_is given panel payload empty = rw empty
 
@@ -213,12 +215,12 @@ module _ (panel : Panel) (words curves room : List ℕ) (watched : Watched) (l :
   abbrev lent : Lent
   lent = lending words curves room watched
 
-  pub reported_14 : (r : Reported) → l ≡ false → r ≡ refused handed.NotLent panel → reports r lent ≡ reporting panel lent
+  pub reported_14 : (r : Reported) → l ≡ false → r ≡ refused (Err lent_error.NotLent) panel → reports r lent ≡ reporting panel lent
   unfolding reporting
   reported_14 r is is-r = rw (is-r, sym is-l ∙ is)
 
   module _ (is : l ≡ true) (wrong : Bool) (is_wrong : wrong ≡ wrong_list watched) where
-    pub reported_16 : (r : Reported) → wrong ≡ true → r ≡ refused handed.WrongList panel → reports r lent ≡ reporting panel lent
+    pub reported_16 : (r : Reported) → wrong ≡ true → r ≡ refused (Err lent_error.WrongList) panel → reports r lent ≡ reporting panel lent
     unfolding reporting
     reported_16 r wrongly is-r = rw (is-r, sym is-l ∙ is, sym is_wrong ∙ wrongly)
 

@@ -1,4 +1,5 @@
 -- Laws of contacts and lifts: one for each number, in 01's order.
+use Rattle.std.specs.Prelude.{Ok, Err}
 use mathlib.Core.Path.{◌≡◌, refl, sym, ap, ◌∙◌}
 use mathlib.Core.Bool.{Bool, true, false, cond, not, true≢false}
 use mathlib.Core.List.{List}
@@ -11,8 +12,8 @@ use Rattle.wire.proofs.Truths.{or_right}
 use Rattle.frame.specs.Writer.{least_room}
 use Rattle.line.specs.Methods.{busy}
 use Rattle.registers.specs.Touched.{is_down, is_touch_off}
-use Rattle.touch.specs.declared.Verdict.{Verdict}
-use Rattle.touch.specs.declared.Verdict.TheVariants.{Good, NotRecords, Wrong}
+use Rattle.touch.specs.Judge.{Verdict}
+use Rattle.touch.specs.declared.TableError.TheVariants.{NotRecords, Wrong}
 use Rattle.touch.specs.Judge.{judged}
 use Rattle.watch.specs.Watched.{Watched}
 use Rattle.watch.specs.Judge.{wrong_list}
@@ -20,10 +21,10 @@ use Rattle.commands.specs.Lent.{Lent, lending, with_words}
 use Rattle.contact.specs.declared.Pad.{Pad}
 use Rattle.contact.specs.Contact.{Touching, touching, touched, lifted}
 use Rattle.panel.specs.declared.Panel.{Panel}
-use Rattle.panel.specs.declared.ContactAnswer.{ContactAnswer}
-use Rattle.panel.specs.declared.ContactAnswer.TheVariants as contact
+use Rattle.panel.specs.Answers.{ContactAnswer}
+use Rattle.panel.specs.declared.ContactError.TheVariants as contact_error
 use Rattle.panel.specs.declared.Contacted.{Contacted}
-use Rattle.panel.specs.declared.LiftAnswer.TheVariants as lift
+use Rattle.panel.specs.declared.LiftError.TheVariants as lift_error
 use Rattle.panel.specs.declared.Lifted.{Lifted}
 use Rattle.panel.specs.State.{pad_of, with_pad}
 use Rattle.panel.specs.Watching.{Telling, tells, telling}
@@ -36,12 +37,12 @@ module _ (panel : Panel) (table words : List ℕ) (x y : ℕ) (r : Contacted) wh
   at = contact_at table x y
 
   module _ (off : Bool) (is-off : off ≡ is_touch_off panel.registers) where
-    pub number_9 : off ≡ true → r ≡ only_answers contact.TouchOff panel → (rest : Lent) → contacts r (with_words rest words) ≡ contact_on panel at (with_words rest words)
+    pub number_9 : off ≡ true → r ≡ only_answers (Err contact_error.TouchOff) panel → (rest : Lent) → contacts r (with_words rest words) ≡ contact_on panel at (with_words rest words)
     unfolding contact_on
     number_9 is is-r rest = rw (sym is-off ∙ is, is-r)
 
     module _ (live : off ≡ false) where
-      pub number_8 : on_screen panel.setup x y ≡ false → r ≡ only_answers contact.OffScreen panel → (rest : Lent)
+      pub number_8 : on_screen panel.setup x y ≡ false → r ≡ only_answers (Err contact_error.OffScreen) panel → (rest : Lent)
           → contacts r (with_words rest words) ≡ contact_on panel at (with_words rest words)
       unfolding contact_on
       number_8 is is-r rest = rw (sym is-off ∙ live, is, is-r)
@@ -50,29 +51,29 @@ module _ (panel : Panel) (table words : List ℕ) (x y : ℕ) (r : Contacted) wh
     judged_so : (given : Verdict) → verdict ≡ given → (lent : Lent) → contact_judged given panel at lent ≡ contact_judged (judged panel.setup table) panel at lent
     judged_so given is lent = ap (λ (v : Verdict). contact_judged v panel at lent) (sym is ∙ is-verdict)
 
-    pub table_good : (left : List ℕ) → verdict ≡ Good
+    pub table_good : (left : List ℕ) → verdict ≡ Ok tt
         → ((rest : Lent) → contacts r (with_words rest left) ≡ contact_on panel at (with_words rest words)) → (rest : Lent)
         → contacts r (with_words rest left) ≡ contact_judged (judged panel.setup table) panel at (with_words rest words)
     unfolding contact_judged
-    table_good left is e rest = e rest ∙ judged_so Good is (with_words rest words)
+    table_good left is e rest = e rest ∙ judged_so (Ok tt) is (with_words rest words)
 
-    pub number_12 : verdict ≡ NotRecords → r ≡ only_answers contact.NotRecords panel → (rest : Lent)
+    pub number_12 : verdict ≡ Err NotRecords → r ≡ only_answers (Err contact_error.NotRecords) panel → (rest : Lent)
         → contacts r (with_words rest words) ≡ contact_judged (judged panel.setup table) panel at (with_words rest words)
     unfolding contact_judged
-    number_12 is is-r rest = rw is-r (judged_so NotRecords is (with_words rest words))
+    number_12 is is-r rest = rw is-r (judged_so (Err NotRecords) is (with_words rest words))
 
-    pub number_13 : (i : ℕ) → verdict ≡ Wrong i → r ≡ only_answers (contact.WrongRecord i) panel → (rest : Lent)
+    pub number_13 : (i : ℕ) → verdict ≡ Err (Wrong i) → r ≡ only_answers (Err (contact_error.WrongRecord i)) panel → (rest : Lent)
         → contacts r (with_words rest words) ≡ contact_judged (judged panel.setup table) panel at (with_words rest words)
     unfolding contact_judged
-    number_13 i is is-r rest = rw is-r (judged_so (Wrong i) is (with_words rest words))
+    number_13 i is is-r rest = rw is-r (judged_so (Err (Wrong i)) is (with_words rest words))
 
 -- the touch is done
 pub contact_done_lem : (panel : Panel) (table words : List ℕ) (x y : ℕ) (off : Bool) → off ≡ is_touch_off panel.registers → off ≡ false → (pad : Pad) (next : Panel)
     (left : List ℕ) → on_screen panel.setup x y ≡ true → touching pad left ≡ touched panel.setup (pad_of panel) table words x y → next ≡ with_pad panel pad
-    → (rest : Lent) → silent contact.Done next (with_words rest left) ≡ contact_on panel (contact_at table x y) (with_words rest words)
+    → (rest : Lent) → silent (Ok tt) next (with_words rest left) ≡ contact_on panel (contact_at table x y) (with_words rest words)
 unfolding contact_on
 contact_done_lem panel table words x y off is-off live pad next left is e is_next rest =
-    rw (sym is-off ∙ live, is, is_next) (ap (λ (t : Touching). silent contact.Done (with_pad panel t.pad) (with_words rest t.words)) e)
+    rw (sym is-off ∙ live, is, is_next) (ap (λ (t : Touching). silent (Ok tt) (with_pad panel t.pad) (with_words rest t.words)) e)
 
 -- where 14 is not given, the room holds every reply
 pub room_large : (words room : ℕ) (short : Bool) → short ≡ touch_not_lent words room → short ≡ false → least_room ≤ room
@@ -99,7 +100,7 @@ module _ (panel : Panel) (table words room : List ℕ) (watched : Watched) (x y 
     -- whatever would come behind it
     chosen : (a b d : Bool) (other : Contacting) (lent : Lent) → not (is_touch (before_table a b d)) ≡ true
         → silent (before_table a b d) panel lent
-        ≡ cond a (silent contact.NotLent panel lent) (cond b (silent contact.WrongList panel lent) (cond d (silent contact.Waits panel lent) other))
+        ≡ cond a (silent (Err contact_error.NotLent) panel lent) (cond b (silent (Err contact_error.WrongList) panel lent) (cond d (silent (Err contact_error.Waits) panel lent) other))
     unfolding before_table
     chosen true b d other lent is = refl
     chosen false true d other lent is = refl
@@ -146,16 +147,16 @@ module _ (panel : Panel) (table words room : List ℕ) (watched : Watched) (x y 
             ∙ rw (not-false (is_touch r.answer) (sym is-refuses ∙ is)) at (behind_touch curves)
 
 module _ (panel : Panel) (waits : Bool) (is-waits : waits ≡ busy panel.reader) where
-  pub lift_waits : waits ≡ true → ◌≡◌ {A = Lifted} (record { answer = lift.Waits; panel = panel }) (lifting panel)
+  pub lift_waits : waits ≡ true → ◌≡◌ {A = Lifted} (record { answer = Err lift_error.Waits; panel = panel }) (lifting panel)
   unfolding lifting
   lift_waits is = rw (sym is-waits ∙ is)
 
   module _ (free : waits ≡ false) (down : Bool) (is_down : down ≡ is_down panel.registers) where
-    pub lift_up : down ≡ false → ◌≡◌ {A = Lifted} (record { answer = lift.IsUp; panel = panel }) (lifting panel)
+    pub lift_up : down ≡ false → ◌≡◌ {A = Lifted} (record { answer = Err lift_error.IsUp; panel = panel }) (lifting panel)
     unfolding lifting
     lift_up is = rw (sym is-waits ∙ free, sym is_down ∙ is)
 
     pub lift_done : (pad : Pad) (next : Panel) → down ≡ true → pad ≡ lifted (pad_of panel) → next ≡ with_pad panel pad
-        → ◌≡◌ {A = Lifted} (record { answer = lift.Done; panel = next }) (lifting panel)
+        → ◌≡◌ {A = Lifted} (record { answer = Ok tt; panel = next }) (lifting panel)
     unfolding lifting
     lift_done pad next is e is_next = rw (sym is-waits ∙ free, sym is_down ∙ is, is_next, e)

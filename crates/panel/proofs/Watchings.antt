@@ -1,4 +1,5 @@
 -- Laws of what is noted behind a report and told behind a contact: one for each way the functions answer.
+use Rattle.std.specs.Prelude.{Option, None, Some}
 use mathlib.Core.Path.{◌≡◌, ap, ◌∙◌}
 use mathlib.Core.Bool.{Bool, true, false}
 use mathlib.Core.List.{List, [], ◌∷◌, ◌++◌}
@@ -18,8 +19,6 @@ use Rattle.words.specs.Words.{word_at_address}
 use Rattle.words.proofs.Carried.{length_words_of}
 use Rattle.touch.specs.declared.Setup.{Setup}
 use Rattle.touch.specs.Setup.{checking_of}
-use Rattle.watch.specs.declared.Due.{Due}
-use Rattle.watch.specs.declared.Due.TheVariants.{Nothing, Word}
 use Rattle.watch.specs.Watched.{watching}
 use Rattle.watch.specs.Noting.{noted}
 use Rattle.watch.specs.Sending.{Sending, sends, sending}
@@ -58,10 +57,10 @@ reply_laid false header a b c d room large =
     (omega (arith, length_frame_of false (header_bytes header) 0x83 (a ∷ b ∷ 1 ∷ c ∷ d ∷ []))))
 
 -- an unasked reply has at most eleven bytes
-pub unasked_short : (setup : Setup) (words : List ℕ) (due : Due) → length (unasked setup words due) ≤ 11
+pub unasked_short : (setup : Setup) (words : List ℕ) (due : Option WordAddress) → length (unasked setup words due) ≤ 11
 unfolding unasked header_bytes check_length
-unasked_short setup words Nothing = omega arith
-unasked_short setup words (Word address) = go (checking_of setup)
+unasked_short setup words None = omega arith
+unasked_short setup words (Some address) = go (checking_of setup)
   where
     payload : List ℕ
     payload = high_first address.0 ++ (1 ∷ high_first (word_at_address words address.0))
@@ -71,7 +70,7 @@ unasked_short setup words (Word address) = go (checking_of setup)
     go false = omega (arith, length_frame_of false (header_of setup) 0x83 payload)
 
 -- what a contact tells
-module _ (setup : Setup) (words room addresses uses values : List ℕ) (due : Due) (values' : List ℕ)
+module _ (setup : Setup) (words room addresses uses values : List ℕ) (due : Option WordAddress) (values' : List ℕ)
     (is-due : sends due values' ≡ sending words (watching addresses uses values)) where
   -- the sending that was found is the one that is told
   told_as_found : (curves : List ℕ)
@@ -81,12 +80,12 @@ module _ (setup : Setup) (words room addresses uses values : List ℕ) (due : Du
   told_as_found curves =
       ap (λ (s : Sending). tells (length (unasked setup words s.due)) (lending words curves (over (unasked setup words s.due) room) (watching addresses uses s.values))) is-due
 
-  pub none_told : due ≡ Nothing → (curves : List ℕ)
+  pub none_told : due ≡ None → (curves : List ℕ)
       → tells 0 (lending words curves room (watching addresses uses values')) ≡ telling setup (lending words curves room (watching addresses uses values))
   unfolding unasked
   none_told is curves = rw (is, over_nil room) at (told_as_found curves)
 
-  pub one_told : (a : WordAddress) (w count : ℕ) (left : List ℕ) → due ≡ Word a → least_room ≤ length room → w ≡ word_at_address words a.0
+  pub one_told : (a : WordAddress) (w count : ℕ) (left : List ℕ) → due ≡ Some a → least_room ≤ length room → w ≡ word_at_address words a.0
       → lays count left ≡ frame_laid (checking_of setup) (header_of setup) 0x83 (high_first a.0 ++ (1 ∷ high_first w)) room → (curves : List ℕ)
       → tells count (lending words curves left (watching addresses uses values')) ≡ telling setup (lending words curves room (watching addresses uses values))
   unfolding unasked
