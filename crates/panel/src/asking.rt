@@ -5,7 +5,7 @@ ghost use Rattle.frame.specs.Frame.{most_payload};
 ghost use Rattle.line.specs.State.{padded};
 ghost use Rattle.registers.specs.Table.{holding};
 ghost use Rattle.curves.specs.Area.{draws};
-ghost use Rattle.watch.specs.Watched.{watching};
+ghost use Rattle.watch.specs.Watched.{list_of, with_sent};
 ghost use Rattle.commands.specs.Lent.{Lent, lending, with_words_room};
 ghost use Rattle.commands.specs.Effect.{counts_left};
 ghost use Rattle.panel.specs.Listed.{ask_said};
@@ -20,6 +20,7 @@ use curves::{CURVE_WORDS, Counts};
 use frame::{LEAST_ROOM, MOST_PAYLOAD};
 use line::Report;
 use touch::{Record, Setup};
+use watch::WatchList;
 use wire::WORD_COUNT;
 
 impl Panel {
@@ -29,15 +30,14 @@ impl Panel {
         words: &mut [u16],
         curves: &mut [u16],
         room: &mut [u8],
-        addresses: &[u16],
-        uses: &[u8],
-        values: &mut [u16],
+        list: &mut WatchList<'_, '_>,
     ) -> Reported
-        ensures values_after { reports result (lending words.new curves.new room.new (watching addresses.now uses.now values.new)) ≡ reporting self (lending words.old curves.old room.old (watching addresses.now uses.now values.old)) }
-        ensures handed_value { handed_said result.handed ≡ ask_said self (lending words.old curves.old room.old (watching addresses.now uses.now values.old)) }
+        ensures values_after { reports result (lending words.new curves.new room.new (list_of list.new)) ≡ reporting self (lending words.old curves.old room.old (list_of list.old)) }
+        ensures list_after { list.new ≡ with_sent list.old list.new.values.now }
+        ensures handed_value { handed_said result.handed ≡ ask_said self (lending words.old curves.old room.old (list_of list.old)) }
     {
         let enough = is_lent(words.len(), curves.len(), room.len());
-        if let Err(why) = judge(enough, watch::is_wrong(addresses, uses, values)) {
+        if let Err(why) = judge(enough, list.is_wrong()) {
             return refuse(why, self);
         }
         let asked = self.reader.ask();
@@ -46,7 +46,7 @@ impl Panel {
         let done = hand_over(self.setup, &registers.bytes, asked.report, &asked.payload, words, room);
         let content = &asked.payload[..content_length(asked.report)];
         let counts = draw(done.writes, done.adds, self.counts, content, curves);
-        watching::note(done.notes, content, words, addresses, uses, values);
+        watching::note(done.notes, content, words, list);
         if done.writes {
             registers = commands::registers_left(registers, content);
         }

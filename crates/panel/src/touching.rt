@@ -1,6 +1,6 @@
 // Contact and lift. The touch itself is lent words and nothing else: what is said of it holds whatever else the caller has.
 ghost use Rattle.std.specs.Prelude.{◌≡◌, List, ℕ};
-ghost use Rattle.watch.specs.Watched.{watching};
+ghost use Rattle.watch.specs.Watched.{list_of, with_sent};
 ghost use Rattle.commands.specs.Lent.{Lent, lending, with_words};
 ghost use Rattle.touch.specs.Judge.{judged};
 ghost use Rattle.panel.specs.State.{pad_of, with_pad};
@@ -13,6 +13,7 @@ use crate::{ContactError, Contacted, LiftError, Lifted, Panel, watching};
 use contact::Pad;
 use frame::LEAST_ROOM;
 use touch::{Point, TableError};
+use watch::WatchList;
 use wire::WORD_COUNT;
 
 impl From<TableError> for ContactError {
@@ -33,17 +34,15 @@ impl Panel {
         table: &[u8],
         words: &mut [u16],
         room: &mut [u8],
-        addresses: &[u16],
-        uses: &[u8],
-        values: &mut [u16],
+        list: &mut WatchList<'_, '_>,
         point: Point,
     ) -> Contacted
-        ensures values_after { (curves : List ℕ) → contacts result (lending words.new curves room.new (watching addresses.now uses.now values.new)) ≡ contacting self (contact_at table.now point.x point.y) (lending words.old curves room.old (watching addresses.now uses.now values.old)) }
-        ensures answer_value { (curves : List ℕ) → contact_said result.answer result.written ≡ contact_answered self (contact_at table.now point.x point.y) (lending words.old curves room.old (watching addresses.now uses.now values.old)) }
+        ensures values_after { (curves : List ℕ) → contacts result (lending words.new curves room.new (list_of list.new)) ≡ contacting self (contact_at table.now point.x point.y) (lending words.old curves room.old (list_of list.old)) }
+        ensures list_after { list.new ≡ with_sent list.old list.new.values.now }
+        ensures answer_value { (curves : List ℕ) → contact_said result.answer result.written ≡ contact_answered self (contact_at table.now point.x point.y) (lending words.old curves room.old (list_of list.old)) }
     {
         let short = is_not_lent(words.len(), room.len());
-        let wrong = watch::is_wrong(addresses, uses, values);
-        if let Err(why) = judge(short, wrong, self.is_waiting()) {
+        if let Err(why) = judge(short, list.is_wrong(), self.is_waiting()) {
             return refuse(why, self);
         }
         let done = self.touch_judged(table, words, point);
@@ -51,7 +50,7 @@ impl Panel {
             return done;
         }
         Contacted {
-            written: watching::tell(self.setup, words, room, addresses, uses, values),
+            written: watching::tell(self.setup, words, room, list),
             ..done
         }
     }
