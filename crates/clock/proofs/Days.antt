@@ -41,7 +41,7 @@ month_within leap (suc m) some = (omega arith, inside (leb (suc m) 12) refl)
   where
     inside : (b : Bool) → leb (suc m) 12 ≡ b → suc m ≤ 12
     inside true is = leb-true (suc m) 12 is
-    inside false is = absurd (omega (arith, no_month leap (suc m) (suc m) refl (leb-false (suc m) 12 is)))
+    inside false is = absurd (omega (arith, no_month leap (suc m) (leb-false (suc m) 12 is)))
 
 -- ---- dates that exist
 

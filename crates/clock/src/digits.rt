@@ -3,6 +3,7 @@ ghost use Rattle.std.specs.Prelude.{◌≡◌, ◌≤◌};
 ghost use Rattle.clock.specs.Digits.{digits_of, number_of, are_digits};
 
 // The byte whose digits are the last two of a number.
+#[tactic(auto, unfolding(crate::specs::Digits::digits_of))]
 pub fn digits_of(n: u8) -> u8
     ensures { result ≡ digits_of n }
 {
@@ -10,6 +11,7 @@ pub fn digits_of(n: u8) -> u8
 }
 
 // The number whose digits a byte has.
+#[tactic(auto, unfolding(crate::specs::Digits::number_of))]
 pub fn number_of(b: u8) -> u8
     ensures { result ≡ number_of b }
 {
@@ -17,8 +19,9 @@ pub fn number_of(b: u8) -> u8
 }
 
 // Neither half is above 9.
+#[tactic(auto, unfolding(crate::specs::Digits::are_digits))]
 pub(crate) fn are_digits(b: u8) -> bool
     ensures { result ≡ are_digits b }
 {
-    (b / 16 <= 9) & (b % 16 <= 9)
+    b / 16 <= 9 && b % 16 <= 9
 }

@@ -12,7 +12,7 @@ pub use showing::{date_in, is_wrong, moment_in, shown, time_in};
 // How many bytes show a moment; `shown` in specs/ lists them.
 pub const SHOWN_BYTES: usize = 7;
 
-#[derive(Clone, Copy)]
+#[derive(Clone, Copy, Debug, PartialEq, Eq)]
 pub struct Date {
     // Since 2000.
     pub year: u8,
@@ -21,14 +21,14 @@ pub struct Date {
     pub day: u8,
 }
 
-#[derive(Clone, Copy)]
+#[derive(Clone, Copy, Debug, PartialEq, Eq)]
 pub struct Time {
     pub hour: u8,
     pub minute: u8,
     pub second: u8,
 }
 
-#[derive(Clone, Copy)]
+#[derive(Clone, Copy, Debug, PartialEq, Eq)]
 pub struct Moment {
     pub date: Date,
     pub time: Time,

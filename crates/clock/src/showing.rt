@@ -4,12 +4,12 @@ ghost use Rattle.clock.specs.Shown.{shown, date_in, time_in, moment_in, wrong_di
 
 use crate::{Date, Moment, SHOWN_BYTES, Time, digits};
 
-// Year, month, day, weekday, hour, minute, second.
+// Year, month, day, weekday, hour, minute, second. A function and no `From`: docs/CONTRACTS.md names it, and a second way to write it says no more.
+#[tactic(auto, unfolding(crate::specs::Shown::shown))]
 pub fn shown(moment: Moment) -> [u8; SHOWN_BYTES]
     ensures { result ≡ shown moment }
 {
-    let date = moment.date;
-    let time = moment.time;
+    let Moment { date, time } = moment;
     [
         digits::digits_of(date.year),
         digits::digits_of(date.month),
@@ -22,6 +22,7 @@ pub fn shown(moment: Moment) -> [u8; SHOWN_BYTES]
 }
 
 // The date that these bytes show.
+#[tactic(auto, unfolding(crate::specs::Shown::date_in))]
 pub fn date_in(year: u8, month: u8, day: u8) -> Date
     ensures { result ≡ date_in year month day }
 {
@@ -33,6 +34,7 @@ pub fn date_in(year: u8, month: u8, day: u8) -> Date
 }
 
 // The time that these bytes show.
+#[tactic(auto, unfolding(crate::specs::Shown::time_in))]
 pub fn time_in(hour: u8, minute: u8, second: u8) -> Time
     ensures { result ≡ time_in hour minute second }
 {
@@ -44,39 +46,31 @@ pub fn time_in(hour: u8, minute: u8, second: u8) -> Time
 }
 
 // The moment that these bytes show, whatever weekday stands among them; bytes past the end count as 00.
+#[tactic(auto, unfolding(crate::specs::Shown::moment_in))]
 pub fn moment_in(bytes: &[u8]) -> Moment
     ensures { result ≡ moment_in bytes.now }
 {
+    let at = |place| wire::byte_at(bytes, place);
     Moment {
-        date: date_in(
-            wire::byte_at(bytes, 0),
-            wire::byte_at(bytes, 1),
-            wire::byte_at(bytes, 2),
-        ),
-        time: time_in(
-            wire::byte_at(bytes, 4),
-            wire::byte_at(bytes, 5),
-            wire::byte_at(bytes, 6),
-        ),
+        date: date_in(at(0), at(1), at(2)),
+        time: time_in(at(4), at(5), at(6)),
     }
 }
 
 // One of the bytes but the weekday's has a half above 9.
+#[tactic(auto, unfolding(crate::specs::Shown::wrong_digits))]
 fn has_wrong_digits(bytes: &[u8]) -> bool
     ensures { result ≡ wrong_digits bytes.now }
 {
-    !digits::are_digits(wire::byte_at(bytes, 0))
-        | !digits::are_digits(wire::byte_at(bytes, 1))
-        | !digits::are_digits(wire::byte_at(bytes, 2))
-        | !digits::are_digits(wire::byte_at(bytes, 4))
-        | !digits::are_digits(wire::byte_at(bytes, 5))
-        | !digits::are_digits(wire::byte_at(bytes, 6))
+    [0, 1, 2, 4, 5, 6]
+        .iter()
+        .any(|place| !digits::are_digits(wire::byte_at(bytes, *place)))
 }
 
 // The bytes show no moment: a wrong digit, or a date or time that does not exist.
+#[tactic(auto, unfolding(crate::specs::Shown::wrong_moment))]
 pub fn is_wrong(bytes: &[u8]) -> bool
     ensures { result ≡ wrong_moment bytes.now }
 {
-    let moment = moment_in(bytes);
-    has_wrong_digits(bytes) | !moment.exists()
+    has_wrong_digits(bytes) || !moment_in(bytes).exists()
 }

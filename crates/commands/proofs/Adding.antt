@@ -10,18 +10,18 @@ use Rattle.registers.specs.Run.{covers, clear_value}
 use Rattle.curves.specs.declared.Counts.{Counts}
 use Rattle.curves.specs.Clearing.{cleared}
 use Rattle.curves.specs.Rounds.{wrong_rounds}
-use Rattle.commands.specs.declared.Outcome.{Outcome}
-use Rattle.commands.specs.declared.Outcome.TheVariants.{Done, WrongData}
+use Rattle.commands.specs.Outcome.{Outcome, is_done, add_curves_outcome}
+use Rattle.std.specs.Prelude.{Ok, Err}
+use Rattle.commands.specs.declared.Refusal.TheVariants.{WrongData}
 use Rattle.commands.specs.declared.Performed.{Performed}
-use Rattle.commands.specs.Outcome.{is_done, add_curves_outcome}
 use Rattle.commands.specs.Effect.{answered, counts_left, curves_adding}
 
 module _ (content : List ℕ) (w : Bool) (is-w : w ≡ wrong_rounds content) where
-  pub add_wrong : w ≡ true → WrongData ≡ add_curves_outcome content
+  pub add_wrong : w ≡ true → Err WrongData ≡ add_curves_outcome content
   unfolding add_curves_outcome
   add_wrong is = rw (sym is-w ∙ is)
 
-  pub add_good : w ≡ false → Done ≡ add_curves_outcome content
+  pub add_good : w ≡ false → Ok tt ≡ add_curves_outcome content
   unfolding add_curves_outcome
   add_good is = rw (sym is-w ∙ is)
 

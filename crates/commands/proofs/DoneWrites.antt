@@ -11,7 +11,8 @@ use Rattle.wire.specs.ByteOrder.{byte_at, word_at}
 use Rattle.registers.specs.Run.{unwritable_run, wrong_value}
 use Rattle.registers.proofs.Allowed.{neither}
 use Rattle.words.specs.Words.{words_of}
-use Rattle.commands.specs.declared.Outcome.TheVariants.{Done, WrongData, PastEnd, Unwritable, WrongValue}
+use Rattle.std.specs.Prelude.{Ok, Err}
+use Rattle.commands.specs.declared.Refusal.TheVariants.{WrongData, PastEnd, Unwritable, WrongValue}
 use Rattle.commands.specs.Outcome.{is_done, write_registers_outcome, write_words_outcome}
 use Rattle.commands.proofs.Reading.{peel}
 
@@ -29,14 +30,14 @@ registers_passed pages content done =
     let past : Bool = ltb 256 (byte_at content 0 + length (drop 1 content)) in
     let unwritable : Bool = unwritable_run (byte_at content 0) (length (drop 1 content)) in
     let wrong : Bool = wrong_value (byte_at content 0) (drop 1 content) pages in
-    let one = peel short WrongData (cond past PastEnd (cond unwritable Unwritable (cond wrong WrongValue Done))) refl done in
-    let two = peel past PastEnd (cond unwritable Unwritable (cond wrong WrongValue Done)) refl one.1 in
-    let three = peel unwritable Unwritable (cond wrong WrongValue Done) refl two.1 in
+    let one = peel short (Err WrongData) (cond past (Err PastEnd) (cond unwritable (Err Unwritable) (cond wrong (Err WrongValue) (Ok tt)))) refl done in
+    let two = peel past (Err PastEnd) (cond unwritable (Err Unwritable) (cond wrong (Err WrongValue) (Ok tt))) refl one.1 in
+    let three = peel unwritable (Err Unwritable) (cond wrong (Err WrongValue) (Ok tt)) refl two.1 in
     record {
       long = ltb-false (length content) 2 one.0;
       fits = ltb-false 256 (byte_at content 0 + length (drop 1 content)) two.0;
       may = three.0;
-      right = (peel wrong WrongValue Done refl three.1).0;
+      right = (peel wrong (Err WrongValue) (Ok tt) refl three.1).0;
     }
 
 -- "0x82, address (2), one or more words"
@@ -60,10 +61,10 @@ words_passed end content done =
     let short : Bool = ltb (length content) 4 in
     let odd : Bool = eqb (length content % 2) 1 in
     let past : Bool = ltb end (word_at content 0 + length (words_of (drop 2 content))) in
-    let one = peel (short || odd) WrongData (cond past PastEnd Done) refl done in
+    let one = peel (short || odd) (Err WrongData) (cond past (Err PastEnd) (Ok tt)) refl done in
     let shape = neither short odd one.0 in
     record {
       long = ltb-false (length content) 4 shape.0;
       even = not_odd (length content) (eqb-false (length content % 2) 1 shape.1);
-      fits = ltb-false end (word_at content 0 + length (words_of (drop 2 content))) (peel past PastEnd Done refl one.1).0;
+      fits = ltb-false end (word_at content 0 + length (words_of (drop 2 content))) (peel past (Err PastEnd) (Ok tt) refl one.1).0;
     }

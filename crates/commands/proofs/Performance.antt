@@ -8,7 +8,8 @@ use lib.Dec.{eqb}
 use lib.ListN.{length}
 use Rattle.registers.specs.declared.Registers.{Registers}
 use Rattle.commands.specs.declared.Fixed.{Fixed}
-use Rattle.commands.specs.declared.Outcome.TheVariants.{UnknownCommand}
+use Rattle.std.specs.Prelude.{Err}
+use Rattle.commands.specs.declared.Refusal.TheVariants.{UnknownCommand}
 use Rattle.commands.specs.declared.Performed.{Performed}
 use Rattle.commands.specs.Lent.{Lent, with_words_room}
 use Rattle.commands.specs.Outcome.{outcome}
@@ -48,7 +49,7 @@ module _ (fixed : Fixed) (registers : Registers) (command : ℕ) (content words 
           performs_84 p is e =
               rw (ne_eqb command 0x80 not-80, ne_eqb command 0x81 not-81, ne_eqb command 0x82 not-82, ne_eqb command 0x83 not-83, eq-eqb command 0x84 is, e)
 
-          pub performs_none : (p : Performed) → (command ≡ 0x84 → ⊥) → p ≡ answered UnknownCommand 0
+          pub performs_none : (p : Performed) → (command ≡ 0x84 → ⊥) → p ≡ answered (Err UnknownCommand) 0
               → performs p (with_words_room rest words room) ≡ performance fixed registers command content (with_words_room rest words room)
           unfolding performance
           performs_none p not-84 is-p =
@@ -79,4 +80,4 @@ performs_outcome fixed registers command content lent =
     of_command (λ (d : Performance). d.performed.outcome) (eqb command 0x80) (eqb command 0x81) (eqb command 0x82) (eqb command 0x83) (eqb command 0x84)
     (performs (registers_writing fixed.pages content) lent) (on_room lent (registers_replying fixed registers content lent.room))
     (on_words lent (words_writing lent.words content)) (on_room lent (words_replying fixed lent.words content lent.room))
-    (performs (curves_adding content) lent) (performs (answered UnknownCommand 0) lent)
+    (performs (curves_adding content) lent) (performs (answered (Err UnknownCommand) 0) lent)

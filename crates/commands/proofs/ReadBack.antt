@@ -19,29 +19,29 @@ use Rattle.words.proofs.Written.{words_read_back}
 use Rattle.words.proofs.Carried.{bytes_of_words_of}
 use Rattle.commands.specs.declared.Fixed.{Fixed}
 use Rattle.commands.specs.Lent.{Lent, with_words, with_room}
-use Rattle.commands.specs.declared.Outcome.{Outcome}
-use Rattle.commands.specs.declared.Outcome.TheVariants.{Done, UnknownCommand, WrongData, PastEnd, Unwritable, WrongValue, ReplyTooLong}
-use Rattle.commands.specs.Outcome.{is_done, write_registers_outcome, read_registers_outcome, write_words_outcome, read_words_outcome}
+use Rattle.commands.specs.Outcome.{Outcome, is_done, write_registers_outcome, read_registers_outcome, write_words_outcome, read_words_outcome}
+use Rattle.std.specs.Prelude.{Ok, Err}
+use Rattle.commands.specs.declared.Refusal.TheVariants.{UnknownCommand, WrongData, PastEnd, Unwritable, WrongValue, ReplyTooLong}
 use Rattle.commands.specs.Reply.{registers_reply, words_reply}
 use Rattle.commands.specs.Effect.{answered, registers_left, replying, registers_replying, words_replying}
 use Rattle.commands.specs.Perform.{Performance, performs, performance}
 use Rattle.commands.proofs.DoneWrites.{registers_passed, words_passed}
 use Rattle.commands.proofs.Named.{words_as_done}
 
-done_is : (o : Outcome) → is_done o ≡ true → o ≡ Done
-done_is Done done = refl
-done_is UnknownCommand done = cc
-done_is WrongData done = cc
-done_is PastEnd done = cc
-done_is Unwritable done = cc
-done_is WrongValue done = cc
-done_is ReplyTooLong done = cc
+done_is : (o : Outcome) → is_done o ≡ true → o ≡ Ok tt
+done_is (Ok tt) done = refl
+done_is (Err UnknownCommand) done = cc
+done_is (Err WrongData) done = cc
+done_is (Err PastEnd) done = cc
+done_is (Err Unwritable) done = cc
+done_is (Err WrongValue) done = cc
+done_is (Err ReplyTooLong) done = cc
 
 -- a read that is done: nothing changes but the room, over which the reply with this data is laid
 abbrev pub replies_with : Fixed → (command : ℕ) → (payload : List ℕ) → Lent → Performance
 replies_with fixed command payload lent =
     let laid = frame_laid fixed.checking (header_bytes fixed.header) command payload lent.room in
-    performs (answered Done laid.count) (with_room lent laid.room)
+    performs (answered (Ok tt) laid.count) (with_room lent laid.room)
 
 module _ (fixed : Fixed) (lent : Lent) where
   reads_registers : (registers : Registers) (first n : ℕ) (payload : List ℕ) → is_done (read_registers_outcome fixed.checking (first ∷ n ∷ [])) ≡ true

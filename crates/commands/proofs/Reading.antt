@@ -15,9 +15,9 @@ use Rattle.frame.proofs.Writers.{length_most}
 use Rattle.registers.specs.declared.Registers.{Registers}
 use Rattle.commands.specs.declared.Fixed.{Fixed}
 use Rattle.commands.specs.declared.Performed.{Performed}
-use Rattle.commands.specs.declared.Outcome.{Outcome}
-use Rattle.commands.specs.declared.Outcome.TheVariants.{Done, WrongData, PastEnd, ReplyTooLong}
-use Rattle.commands.specs.Outcome.{is_done, reply_too_long, read_registers_outcome, read_words_outcome}
+use Rattle.commands.specs.Outcome.{Outcome, is_done, reply_too_long, read_registers_outcome, read_words_outcome}
+use Rattle.std.specs.Prelude.{Ok, Err}
+use Rattle.commands.specs.declared.Refusal.TheVariants.{WrongData, PastEnd, ReplyTooLong}
 use Rattle.commands.specs.Reply.{registers_reply, words_reply}
 use Rattle.commands.specs.Effect.{answered, replies, replying, registers_replying, words_replying}
 
@@ -31,12 +31,12 @@ unfolding reply_too_long
 short_reply checking k is = omega (arith, ltb-false 255 (1 + k + check_length checking) is, length_most checking)
 
 -- the tests of a read, in order
-passed : (shape past long : Bool) (o : Outcome) → o ≡ cond shape WrongData (cond past PastEnd (cond long ReplyTooLong Done)) → is_done o ≡ true
+passed : (shape past long : Bool) (o : Outcome) → o ≡ cond shape (Err WrongData) (cond past (Err PastEnd) (cond long (Err ReplyTooLong) (Ok tt))) → is_done o ≡ true
     → (past ≡ false) × (long ≡ false)
 passed shape past long o is done =
-    let one = peel shape WrongData (cond past PastEnd (cond long ReplyTooLong Done)) refl (ap is_done (sym is) ∙ done) in
-    let two = peel past PastEnd (cond long ReplyTooLong Done) refl one.1 in
-    (two.0, (peel long ReplyTooLong Done refl two.1).0)
+    let one = peel shape (Err WrongData) (cond past (Err PastEnd) (cond long (Err ReplyTooLong) (Ok tt))) refl (ap is_done (sym is) ∙ done) in
+    let two = peel past (Err PastEnd) (cond long (Err ReplyTooLong) (Ok tt)) refl one.1 in
+    (two.0, (peel long (Err ReplyTooLong) (Ok tt) refl two.1).0)
 
 -- a reply laid as judged
 laid_done : (fixed : Fixed) (o : Outcome) (command : ℕ) (payload room left : List ℕ) (count : ℕ) → is_done o ≡ true

@@ -8,12 +8,12 @@ use native.Mathlib.Omega.{arith}
 use lib.Dec.{eqb}
 use lib.ListN.{length}
 use Rattle.registers.specs.declared.Registers.{Registers}
-use Rattle.commands.specs.declared.Outcome.{Outcome}
-use Rattle.commands.specs.declared.Outcome.TheVariants.{Done, UnknownCommand, WrongData, PastEnd, Unwritable, WrongValue, ReplyTooLong}
+use Rattle.commands.specs.Outcome.{Outcome, number_of_outcome, is_done, write_registers_outcome, read_registers_outcome, write_words_outcome, read_words_outcome, add_curves_outcome, outcome}
+use Rattle.std.specs.Prelude.{Ok, Err}
+use Rattle.commands.specs.declared.Refusal.TheVariants.{UnknownCommand, WrongData, PastEnd, Unwritable, WrongValue, ReplyTooLong}
 use Rattle.commands.specs.declared.Performed.{Performed}
 use Rattle.commands.specs.declared.Fixed.{Fixed}
 use Rattle.commands.specs.Lent.{Lent}
-use Rattle.commands.specs.Outcome.{number_of_outcome, is_done, write_registers_outcome, read_registers_outcome, write_words_outcome, read_words_outcome, add_curves_outcome, outcome}
 use Rattle.commands.specs.Effect.{answered, registers_writing, curves_adding, words_writing, registers_replying, words_replying}
 use Rattle.commands.specs.Perform.{performs, on_words, on_room, performance}
 use Rattle.commands.proofs.Writing.{registers_refused, words_refused}
@@ -23,37 +23,37 @@ use Rattle.commands.proofs.Reading.{registers_unread, words_unread}
 -- a number above 0 is a refusal
 pub number_refuses : (o : Outcome) → 0 < number_of_outcome o → is_done o ≡ false
 unfolding number_of_outcome
-number_refuses Done above = absurd (omega arith)
-number_refuses UnknownCommand above = refl
-number_refuses WrongData above = refl
-number_refuses PastEnd above = refl
-number_refuses Unwritable above = refl
-number_refuses WrongValue above = refl
-number_refuses ReplyTooLong above = refl
+number_refuses (Ok tt) above = absurd (omega arith)
+number_refuses (Err UnknownCommand) above = refl
+number_refuses (Err WrongData) above = refl
+number_refuses (Err PastEnd) above = refl
+number_refuses (Err Unwritable) above = refl
+number_refuses (Err WrongValue) above = refl
+number_refuses (Err ReplyTooLong) above = refl
 
 -- "Numbers 2 to 7 are answers beside a frame's report"
 pub number_at_most_7 : (o : Outcome) → number_of_outcome o ≤ 7
 unfolding number_of_outcome
-number_at_most_7 Done = omega arith
-number_at_most_7 UnknownCommand = omega arith
-number_at_most_7 WrongData = omega arith
-number_at_most_7 PastEnd = omega arith
-number_at_most_7 Unwritable = omega arith
-number_at_most_7 WrongValue = omega arith
-number_at_most_7 ReplyTooLong = omega arith
+number_at_most_7 (Ok tt) = omega arith
+number_at_most_7 (Err UnknownCommand) = omega arith
+number_at_most_7 (Err WrongData) = omega arith
+number_at_most_7 (Err PastEnd) = omega arith
+number_at_most_7 (Err Unwritable) = omega arith
+number_at_most_7 (Err WrongValue) = omega arith
+number_at_most_7 (Err ReplyTooLong) = omega arith
 
 module _ (fixed : Fixed) (registers : Registers) (content : List ℕ) (lent : Lent) where
   -- by command: 0x80, 0x81, 0x82, 0x83, 0x84 or another
   by_command_lem : (a b c d e : Bool)
       → is_done (cond a (write_registers_outcome fixed.pages content) (cond b (read_registers_outcome fixed.checking content)
       (cond c (write_words_outcome (length lent.words) content) (cond d (read_words_outcome (length lent.words) fixed.checking content)
-      (cond e (add_curves_outcome content) UnknownCommand))))) ≡ false
+      (cond e (add_curves_outcome content) (Err UnknownCommand)))))) ≡ false
       → cond a (performs (registers_writing fixed.pages content) lent) (cond b (on_room lent (registers_replying fixed registers content lent.room))
       (cond c (on_words lent (words_writing lent.words content)) (cond d (on_room lent (words_replying fixed lent.words content lent.room))
-      (cond e (performs (curves_adding content) lent) (performs (answered UnknownCommand 0) lent)))))
+      (cond e (performs (curves_adding content) lent) (performs (answered (Err UnknownCommand) 0) lent)))))
       ≡ performs (answered (cond a (write_registers_outcome fixed.pages content) (cond b (read_registers_outcome fixed.checking content)
       (cond c (write_words_outcome (length lent.words) content) (cond d (read_words_outcome (length lent.words) fixed.checking content)
-      (cond e (add_curves_outcome content) UnknownCommand))))) 0) lent
+      (cond e (add_curves_outcome content) (Err UnknownCommand)))))) 0) lent
   by_command_lem true b c d e refused =
       let o = write_registers_outcome fixed.pages content in
       ap (λ (p : Performed). performs p lent) (sym (registers_refused fixed.pages content o false refl (sym refused) (answered o 0) refl refl))

@@ -20,7 +20,8 @@ use Rattle.words.specs.Words.{words_of}
 use Rattle.curves.specs.Rounds.{wrong_rounds}
 use Rattle.commands.specs.declared.Fixed.{Fixed}
 use Rattle.commands.specs.declared.Performed.{Performed}
-use Rattle.commands.specs.declared.Outcome.TheVariants.{Done, WrongData, PastEnd, Unwritable, WrongValue, ReplyTooLong}
+use Rattle.std.specs.Prelude.{Ok, Err}
+use Rattle.commands.specs.declared.Refusal.TheVariants.{WrongData, PastEnd, Unwritable, WrongValue, ReplyTooLong}
 use Rattle.watch.specs.Watched.{none_watched}
 use Rattle.commands.specs.Lent.{Lent, lending, with_words_room}
 use Rattle.commands.specs.Outcome.{number_of_outcome, reply_too_long, write_registers_outcome, read_registers_outcome, write_words_outcome, read_words_outcome, add_curves_outcome}
@@ -57,7 +58,7 @@ reply_laid fixed command payload room k is fits =
 -- a read: 3, 4, 7 in turn, or its reply
 read_said : (fixed : Fixed) (command : ℕ) (payload room : List ℕ) (k : ℕ) (a b c : Bool)
     → (b ≡ false → c ≡ false → (length payload ≡ k) × (k ≤ most_data fixed.checking))
-    → performed_said (replying fixed (cond a WrongData (cond b PastEnd (cond c ReplyTooLong Done))) command payload room).performed
+    → performed_said (replying fixed (cond a (Err WrongData) (cond b (Err PastEnd) (cond c (Err ReplyTooLong) (Ok tt)))) command payload room).performed
     ≡ cond a (says 3 (0 ∷ [])) (cond b (says 4 (0 ∷ [])) (cond c (says 7 (0 ∷ [])) (says 0 (laid_length (length room) (frame_length fixed k) ∷ []))))
 unfolding performed_said number_of_outcome replying
 read_said fixed command payload room k true b c fits = refl
@@ -83,7 +84,7 @@ module _ (fixed : Fixed) (registers : Registers) (content : List ℕ) (lent : Le
       (wrong_value (byte_at content 0) (drop 1 content) fixed.pages))
     where
       go : (a b c d : Bool)
-          → says (number_of_outcome (cond a WrongData (cond b PastEnd (cond c Unwritable (cond d WrongValue Done))))) (0 ∷ [])
+          → says (number_of_outcome (cond a (Err WrongData) (cond b (Err PastEnd) (cond c (Err Unwritable) (cond d (Err WrongValue) (Ok tt)))))) (0 ∷ [])
           ≡ cond a (says 3 (0 ∷ [])) (cond b (says 4 (0 ∷ [])) (cond c (says 5 (0 ∷ [])) (cond d (says 6 (0 ∷ [])) (says 0 (0 ∷ [])))))
       go true b c d = refl
       go false true c d = refl
@@ -105,7 +106,7 @@ module _ (fixed : Fixed) (registers : Registers) (content : List ℕ) (lent : Le
       rw (none_laid (length lent.room))
       (go (ltb (length content) 4 || eqb (length content % 2) 1) (ltb (length lent.words) (word_at content 0 + length (words_of (drop 2 content)))))
     where
-      go : (a b : Bool) → says (number_of_outcome (cond a WrongData (cond b PastEnd Done))) (0 ∷ []) ≡ cond a (says 3 (0 ∷ [])) (cond b (says 4 (0 ∷ [])) (says 0 (0 ∷ [])))
+      go : (a b : Bool) → says (number_of_outcome (cond a (Err WrongData) (cond b (Err PastEnd) (Ok tt)))) (0 ∷ []) ≡ cond a (says 3 (0 ∷ [])) (cond b (says 4 (0 ∷ [])) (says 0 (0 ∷ [])))
       go true b = refl
       go false true = refl
       go false false = refl
@@ -125,7 +126,7 @@ module _ (fixed : Fixed) (registers : Registers) (content : List ℕ) (lent : Le
   unfolding performance curves_adding add_curves_outcome performed_said number_of_outcome perform_said perform_listed reply_length first_said not_command by_command wrong_data passes_end touches_unwritable value_wrong reply_passes
   said_84 = rw (none_laid (length lent.room)) (go (wrong_rounds content))
     where
-      go : (a : Bool) → says (number_of_outcome (cond a WrongData Done)) (0 ∷ []) ≡ cond a (says 3 (0 ∷ [])) (says 0 (0 ∷ []))
+      go : (a : Bool) → says (number_of_outcome (cond a (Err WrongData) (Ok tt))) (0 ∷ []) ≡ cond a (says 3 (0 ∷ [])) (says 0 (0 ∷ []))
       go true = refl
       go false = refl
 

@@ -13,27 +13,27 @@ use Rattle.registers.specs.declared.Registers.{Registers}
 use Rattle.wire.specs.Room.{laid_at}
 use Rattle.registers.specs.Run.{read_each, reads_as, registers_after, drops_catch}
 use Rattle.words.specs.Words.{words_written}
-use Rattle.commands.specs.declared.Outcome.{Outcome}
-use Rattle.commands.specs.declared.Outcome.TheVariants.{WrongData}
+use Rattle.commands.specs.Outcome.{Outcome, is_done, write_registers_outcome, write_words_outcome}
+use Rattle.std.specs.Prelude.{Err}
+use Rattle.commands.specs.declared.Refusal.TheVariants.{WrongData}
 use Rattle.commands.specs.declared.Performed.{Performed}
-use Rattle.commands.specs.Outcome.{is_done, write_registers_outcome, write_words_outcome}
 use Rattle.commands.specs.Effect.{answered, registers_left, catch_dropped, registers_writing, leaves_words, words_writing}
 
 -- what is refused where it is too short is done only where it is long enough
-not_short : (n least : ℕ) (o rest : Outcome) → o ≡ cond (ltb n least) WrongData rest → is_done o ≡ true → least ≤ n
+not_short : (n least : ℕ) (o rest : Outcome) → o ≡ cond (ltb n least) (Err WrongData) rest → is_done o ≡ true → least ≤ n
 not_short n least o rest is done = go (ltb n least) refl is
   where
-    go : (b : Bool) → ltb n least ≡ b → o ≡ cond b WrongData rest → least ≤ n
+    go : (b : Bool) → ltb n least ≡ b → o ≡ cond b (Err WrongData) rest → least ≤ n
     go true t e = absurd (let z : ◌≡◌ {A = ℕ} 0 1 = refused (ap is_done (sym e) ∙ done) in omega arith)
       where
         refused : ◌≡◌ {A = Bool} false true → ◌≡◌ {A = ℕ} 0 1
         refused f = cc
     go false t e = ltb-false n least t
 
-either_short : (n : ℕ) (o rest : Outcome) → o ≡ cond (ltb n 4 || eqb (n % 2) 1) WrongData rest → is_done o ≡ true → 4 ≤ n
+either_short : (n : ℕ) (o rest : Outcome) → o ≡ cond (ltb n 4 || eqb (n % 2) 1) (Err WrongData) rest → is_done o ≡ true → 4 ≤ n
 either_short n o rest is done = go (ltb n 4) refl is
   where
-    go : (b : Bool) → ltb n 4 ≡ b → o ≡ cond (b || eqb (n % 2) 1) WrongData rest → 4 ≤ n
+    go : (b : Bool) → ltb n 4 ≡ b → o ≡ cond (b || eqb (n % 2) 1) (Err WrongData) rest → 4 ≤ n
     go true t e = not_short n 4 o o (e ∙ rw t) done
     go false t e = ltb-false n 4 t
 

@@ -10,9 +10,8 @@ use Rattle.words.specs.Words.{words_written}
 use Rattle.curves.specs.declared.Counts.{Counts}
 use Rattle.curves.specs.Clearing.{cleared}
 use Rattle.commands.specs.declared.Fixed.{Fixed}
-use Rattle.commands.specs.declared.Outcome.{Outcome}
+use Rattle.commands.specs.Outcome.{Outcome, is_done, write_registers_outcome, read_registers_outcome, write_words_outcome, read_words_outcome, add_curves_outcome}
 use Rattle.commands.specs.declared.Performed.{Performed}
-use Rattle.commands.specs.Outcome.{is_done, write_registers_outcome, read_registers_outcome, write_words_outcome, read_words_outcome, add_curves_outcome}
 use Rattle.commands.specs.Reply.{registers_reply, words_reply}
 
 -- an outcome with so long a reply, of a command that leaves registers, catch and curves, and has nothing noted

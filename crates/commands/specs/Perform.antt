@@ -2,7 +2,8 @@
 use Rattle.std.specs.Prelude.{ℕ, cond, List, eqb}
 use Rattle.registers.specs.declared.Registers.{Registers}
 use Rattle.commands.specs.declared.Fixed.{Fixed}
-use Rattle.commands.specs.declared.Outcome.TheVariants.{UnknownCommand}
+use Rattle.std.specs.Prelude.{Err}
+use Rattle.commands.specs.declared.Refusal.TheVariants.{UnknownCommand}
 use Rattle.commands.specs.declared.Performed.{Performed}
 use Rattle.commands.specs.Lent.{Lent, with_words, with_room}
 use Rattle.commands.specs.Effect.{answered, registers_left, registers_writing, curves_adding, WordsWriting, words_writing, Replying, registers_replying, words_replying}
@@ -36,4 +37,4 @@ performance fixed registers command content lent =
     (cond (eqb command 0x82) (on_words lent (words_writing lent.words content))
     (cond (eqb command 0x83) (on_room lent (words_replying fixed lent.words content lent.room))
     (cond (eqb command 0x84) (performs (curves_adding content) lent)
-    (performs (answered UnknownCommand 0) lent)))))
+    (performs (answered (Err UnknownCommand) 0) lent)))))

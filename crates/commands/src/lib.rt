@@ -21,10 +21,9 @@ pub struct Fixed {
     pub pages: u16,
 }
 
-// What a command is answered with; number_of_outcome in specs/ gives 01's number for each.
-#[derive(Clone, Copy)]
-pub enum Outcome {
-    Done,
+// Why a command is refused; number_of_outcome in specs/ gives 01's number for each.
+#[derive(Clone, Copy, Debug, PartialEq, Eq)]
+pub enum Refusal {
     UnknownCommand,
     WrongData,
     PastEnd,
@@ -36,7 +35,7 @@ pub enum Outcome {
 // What a command answers, what it wants done to the panel, and how long a reply it has laid.
 #[derive(Clone, Copy)]
 pub struct Performed {
-    pub outcome: Outcome,
+    pub outcome: Result<(), Refusal>,
     // Its bytes are to be written into the registers.
     pub writes: bool,
     // The catch is to be dropped.

@@ -3,17 +3,17 @@ ghost use Rattle.std.specs.Prelude.{◌≡◌};
 ghost use Rattle.commands.specs.Outcome.{add_curves_outcome};
 ghost use Rattle.commands.specs.Effect.{counts_left, curves_adding};
 
-use crate::{Outcome, Performed, outcomes};
+use crate::{Performed, Refusal, outcomes};
 use curves::Counts;
 use registers::RegisterAddress;
 
-fn judge(content: &[u8]) -> Outcome
+fn judge(content: &[u8]) -> Result<(), Refusal>
     ensures { result ≡ add_curves_outcome content.now }
 {
     if curves::is_wrong(content) {
-        Outcome::WrongData
+        Err(Refusal::WrongData)
     } else {
-        Outcome::Done
+        Ok(())
     }
 }
 
@@ -26,7 +26,7 @@ pub fn add(content: &[u8]) -> Performed
         outcome: o,
         writes: false,
         drops: false,
-        adds: outcomes::is_done(o),
+        adds: o.is_ok(),
         notes: false,
         replied: 0,
     }

@@ -9,44 +9,44 @@ ghost use Rattle.commands.specs.Outcome.{write_registers_outcome, read_registers
 ghost use Rattle.commands.specs.Reply.{registers_reply};
 ghost use Rattle.commands.specs.Effect.{registers_left, registers_writing, replies, registers_replying};
 
-use crate::{Fixed, Outcome, Performed, outcomes};
+use crate::{Fixed, Performed, Refusal, outcomes};
 use registers::{RegisterAddress, Registers};
 
-fn judge_write(pages: u16, content: &[u8]) -> Outcome
+fn judge_write(pages: u16, content: &[u8]) -> Result<(), Refusal>
     ensures { result ≡ write_registers_outcome pages content.now }
 {
     if content.len() < 2 {
-        return Outcome::WrongData;
+        return Err(Refusal::WrongData);
     }
     let address = RegisterAddress(content[0]);
     let bytes = &content[1..];
     if address.passes_end(bytes.len()) {
-        return Outcome::PastEnd;
+        return Err(Refusal::PastEnd);
     }
     if registers::is_unwritable(address, bytes) {
-        return Outcome::Unwritable;
+        return Err(Refusal::Unwritable);
     }
     if registers::is_wrong_value(address, bytes, pages) {
-        return Outcome::WrongValue;
+        return Err(Refusal::WrongValue);
     }
-    Outcome::Done
+    Ok(())
 }
 
-fn judge_read(checking: bool, content: &[u8]) -> Outcome
+fn judge_read(checking: bool, content: &[u8]) -> Result<(), Refusal>
     ensures { result ≡ read_registers_outcome checking content.now }
 {
     if content.len() != 2 {
-        return Outcome::WrongData;
+        return Err(Refusal::WrongData);
     }
     let address = RegisterAddress(content[0]);
     let count = wire::count(content[1]);
     if address.passes_end(count) {
-        return Outcome::PastEnd;
+        return Err(Refusal::PastEnd);
     }
     if outcomes::is_reply_too_long(checking, 2 + count) {
-        return Outcome::ReplyTooLong;
+        return Err(Refusal::ReplyTooLong);
     }
-    Outcome::Done
+    Ok(())
 }
 
 // Judges a write. One that is done asks for its bytes to be written, which `registers_left` does.
@@ -54,7 +54,7 @@ pub fn write(pages: u16, content: &[u8]) -> Performed
     ensures { result ≡ registers_writing pages content.now }
 {
     let o = judge_write(pages, content);
-    if outcomes::is_done(o) {
+    if o.is_ok() {
         let address = RegisterAddress(wire::byte_at(content, 0));
         Performed {
             outcome: o,
@@ -109,7 +109,7 @@ pub fn read(fixed: Fixed, registers: &[u8], content: &[u8], room: &mut [u8]) -> 
     ensures { replies result room.new ≡ registers_replying fixed (holding registers.now) content.now room.old }
 {
     let o = judge_read(fixed.checking, content);
-    if outcomes::is_done(o) {
+    if o.is_ok() {
         let address = RegisterAddress(wire::byte_at(content, 0));
         let n = wire::byte_at(content, 1);
         let m = reply(fixed, registers, address, n, room);

@@ -7,38 +7,38 @@ ghost use Rattle.commands.specs.Outcome.{write_words_outcome, read_words_outcome
 ghost use Rattle.commands.specs.Reply.{words_reply};
 ghost use Rattle.commands.specs.Effect.{leaves_words, words_writing, replies, words_replying};
 
-use crate::{Fixed, Outcome, Performed, outcomes};
+use crate::{Fixed, Performed, Refusal, outcomes};
 use words::WordAddress;
 
-fn judge_write(end: usize, content: &[u8]) -> Outcome
+fn judge_write(end: usize, content: &[u8]) -> Result<(), Refusal>
     ensures { result ≡ write_words_outcome end content.now }
 {
     let n = content.len();
     if (n < 4) | (n % 2 == 1) {
-        return Outcome::WrongData;
+        return Err(Refusal::WrongData);
     }
     let address = WordAddress(wire::word_at(content, 0));
     if address.passes_end(n / 2 - 1, end) {
-        return Outcome::PastEnd;
+        return Err(Refusal::PastEnd);
     }
-    Outcome::Done
+    Ok(())
 }
 
-fn judge_read(end: usize, checking: bool, content: &[u8]) -> Outcome
+fn judge_read(end: usize, checking: bool, content: &[u8]) -> Result<(), Refusal>
     ensures { result ≡ read_words_outcome end checking content.now }
 {
     if content.len() != 3 {
-        return Outcome::WrongData;
+        return Err(Refusal::WrongData);
     }
     let address = WordAddress(wire::word_at(content, 0));
     let count = wire::count(content[2]);
     if address.passes_end(count, end) {
-        return Outcome::PastEnd;
+        return Err(Refusal::PastEnd);
     }
     if outcomes::is_reply_too_long(checking, 3 + (count + count)) {
-        return Outcome::ReplyTooLong;
+        return Err(Refusal::ReplyTooLong);
     }
-    Outcome::Done
+    Ok(())
 }
 
 // Judges a write and does it. One that is done asks for its words to be noted.
@@ -46,7 +46,7 @@ pub fn write(words: &mut [u16], content: &[u8]) -> Performed
     ensures { leaves_words result words.new ≡ words_writing words.old content.now }
 {
     let o = judge_write(words.len(), content);
-    if outcomes::is_done(o) {
+    if o.is_ok() {
         let address = WordAddress(wire::word_at(content, 0));
         words::write(words, address, &content[2..]);
         return Performed {
@@ -93,7 +93,7 @@ pub fn read(fixed: Fixed, words: &[u16], content: &[u8], room: &mut [u8]) -> Per
     ensures { replies result room.new ≡ words_replying fixed words.now content.now room.old }
 {
     let o = judge_read(words.len(), fixed.checking, content);
-    if outcomes::is_done(o) {
+    if o.is_ok() {
         let address = WordAddress(wire::word_at(content, 0));
         let n = wire::byte_at(content, 2);
         let m = reply(fixed, words, address, n, room);

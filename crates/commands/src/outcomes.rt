@@ -1,26 +1,12 @@
 // What an outcome says to those who go on from it, and the one number that both reads share.
 ghost use Rattle.std.specs.Prelude.{◌≡◌, ◌≤◌};
-ghost use Rattle.commands.specs.Outcome.{is_done, reply_too_long};
+ghost use Rattle.commands.specs.Outcome.{reply_too_long};
 ghost use Rattle.commands.specs.Effect.{answered};
 
-use crate::{Outcome, Performed};
-
-pub fn is_done(o: Outcome) -> bool
-    ensures { result ≡ is_done o }
-{
-    match o {
-        Outcome::Done => true,
-        Outcome::UnknownCommand => false,
-        Outcome::WrongData => false,
-        Outcome::PastEnd => false,
-        Outcome::Unwritable => false,
-        Outcome::WrongValue => false,
-        Outcome::ReplyTooLong => false,
-    }
-}
+use crate::{Performed, Refusal};
 
 // Registers, catch and curves stay, and nothing is noted.
-pub fn answer(o: Outcome, replied: usize) -> Performed
+pub fn answer(o: Result<(), Refusal>, replied: usize) -> Performed
     ensures { result ≡ answered o replied }
 {
     Performed {

@@ -5,7 +5,7 @@ ghost use Rattle.commands.specs.Lent.{Lent, with_words_room};
 ghost use Rattle.commands.specs.Listed.{performed_said, perform_said};
 ghost use Rattle.commands.specs.Perform.{performs, performance};
 
-use crate::{Fixed, Outcome, Performed, on_curves, on_registers, on_words, outcomes};
+use crate::{Fixed, Performed, Refusal, on_curves, on_registers, on_words, outcomes};
 
 // A command with its data takes effect on what is lent, or is refused with nothing changed; a reply is laid over the front of the room. The
 // registers are only read, the curves and the watch list not at all: what is to be written into them is answered.
@@ -35,5 +35,5 @@ pub fn perform(
     if command == 0x84 {
         return on_curves::add(content);
     }
-    outcomes::answer(Outcome::UnknownCommand, 0)
+    outcomes::answer(Err(Refusal::UnknownCommand), 0)
 }

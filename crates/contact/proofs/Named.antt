@@ -8,6 +8,7 @@ use native.Mathlib.Omega.{arith}
 use borrow.Author.Tests.{eqb-true, eqb-false}
 use lib.Dec.{eqb}
 use lib.ListN.{length}
+use Rattle.std.specs.Prelude.{Some, None}
 use Rattle.registers.specs.declared.Registers.{Registers}
 use Rattle.registers.specs.Table.{register_at}
 use Rattle.registers.specs.Touched.{page_of, with_page, is_down, with_status, with_place}
@@ -16,20 +17,17 @@ use Rattle.words.specs.Words.{word_at_address, word_set}
 use Rattle.words.proofs.OneWord.{other_word_stays}
 use Rattle.touch.specs.declared.Setup.{Setup}
 use Rattle.touch.specs.declared.Record.{Record}
-use Rattle.touch.specs.declared.Found.{Found}
-use Rattle.touch.specs.declared.Found.TheVariants.{Nothing, At}
 use Rattle.touch.specs.Record.{no_next}
+use Rattle.touch.specs.Table.{Found}
 use Rattle.touch.specs.Find.{found}
 use Rattle.touch.specs.Act.{acted_of, dragged_of}
-use Rattle.contact.specs.declared.Catch.{Catch}
-use Rattle.contact.specs.declared.Catch.TheVariants.{Free, Caught}
 use Rattle.contact.specs.declared.Pad.{Pad}
-use Rattle.contact.specs.Contact.{pad_with, showing, catching, acting, pressed, dragging, held_down, touched, lifted}
+use Rattle.contact.specs.Contact.{Catch, pad_with, showing, catching, acting, pressed, dragging, held_down, touched, lifted}
 
 -- the word that a touch names: that of the record which acts, or of the caught one
 pub data NamesWord (pad : Pad) (table : List ℕ) (x y k : ℕ) : Type 0 where
-  acts : (i : ℕ) (r : Record) → is_down pad.registers ≡ false → found table (page_of pad.registers) x y ≡ At i r → k ≡ r.word → NamesWord pad table x y k
-  drags : (r : Record) → is_down pad.registers ≡ true → pad.catch ≡ Caught r → k ≡ r.word → NamesWord pad table x y k
+  acts : (i : ℕ) (r : Record) → is_down pad.registers ≡ false → found table (page_of pad.registers) x y ≡ Some (i, r) → k ≡ r.word → NamesWord pad table x y k
+  drags : (r : Record) → is_down pad.registers ≡ true → pad.catch ≡ Some r → k ≡ r.word → NamesWord pad table x y k
 
 -- one word set: another stays
 one_set : {B : Type 0} (words : List ℕ) (address word k : ℕ) → (k ≡ address → B)
@@ -51,8 +49,8 @@ module _ (setup : Setup) (pad : Pad) (table words : List ℕ) (x y : ℕ) where
 
       go : (f : Found) → found table (page_of pad.registers) x y ≡ f
           → (word_at_address (acting setup f now pad.catch words x y).words k ≡ word_at_address words k) ⊎ NamesWord pad table x y k
-      go Nothing is = inl refl
-      go (At i r) is = one_set words r.word (acted_of setup r (word_at_address words r.word) x y) k (acts i r up is)
+      go None is = inl refl
+      go (Some (i, r)) is = one_set words r.word (acted_of setup r (word_at_address words r.word) x y) k (acts i r up is)
 
   held_down_word : is_down pad.registers ≡ true → (k : ℕ)
       → (word_at_address (held_down setup pad words x y).words k ≡ word_at_address words k) ⊎ NamesWord pad table x y k
@@ -60,8 +58,8 @@ module _ (setup : Setup) (pad : Pad) (table words : List ℕ) (x y : ℕ) where
   held_down_word down k = go pad.catch refl
     where
       go : (c : Catch) → pad.catch ≡ c → (word_at_address (dragging setup c words x y) k ≡ word_at_address words k) ⊎ NamesWord pad table x y k
-      go Free is = inl refl
-      go (Caught r) is = one_set words r.word (dragged_of setup r (word_at_address words r.word) x y) k (drags r down is)
+      go None is = inl refl
+      go (Some r) is = one_set words r.word (dragged_of setup r (word_at_address words r.word) x y) k (drags r down is)
 
   -- a word stays, or it is the word of the record that acts or is caught
   pub word_named : (k : ℕ) → (word_at_address (touched setup pad table words x y).words k ≡ word_at_address words k) ⊎ NamesWord pad table x y k
@@ -119,7 +117,7 @@ module _ (setup : Setup) (pad : Pad) (whole : length pad.registers.bytes ≡ 256
   showing_register r registers catch long = go (no_next r)
     where
       go : (b : Bool)
-          → register_at (cond b (pad_with registers catch) (pad_with (with_page registers r.next) Free)).registers address
+          → register_at (cond b (pad_with registers catch) (pad_with (with_page registers r.next) None)).registers address
           ≡ register_at registers address
       go true = refl
       go false = page_only registers long r.next address behind_page
@@ -127,8 +125,8 @@ module _ (setup : Setup) (pad : Pad) (whole : length pad.registers.bytes ≡ 256
   acting_register : (f : Found) (registers : Registers) (catch : Catch) → length registers.bytes ≡ 256
       → register_at (acting setup f registers catch words x y).pad.registers address ≡ register_at registers address
   unfolding acting
-  acting_register Nothing registers catch long = refl
-  acting_register (At i r) registers catch long = showing_register r registers (catching r catch) long
+  acting_register None registers catch long = refl
+  acting_register (Some (i, r)) registers catch long = showing_register r registers (catching r catch) long
 
   pub other_register_stays : register_at (touched setup pad table words x y).pad.registers address ≡ register_at pad.registers address
   unfolding touched held_down pressed

@@ -6,24 +6,21 @@ use mathlib.Core.List.{List}
 use Prim.Native.Nat.{ℕ, ◌<◌}
 use native.Mathlib.Omega.{arith}
 use lib.ListN.{length}
+use Rattle.std.specs.Prelude.{Some, None, Ok}
 use Rattle.registers.specs.declared.Registers.{Registers}
 use Rattle.registers.specs.Table.{register_at}
 use Rattle.registers.specs.Touched.{page_of, with_page, is_down, with_status, with_place}
 use Rattle.registers.proofs.Touched.{length_with_status, status_only, length_with_page, page_now, same_page}
 use Rattle.touch.specs.declared.Setup.{Setup}
 use Rattle.touch.specs.declared.Record.{Record}
-use Rattle.touch.specs.declared.Found.{Found}
-use Rattle.touch.specs.declared.Found.TheVariants.{Nothing, At}
-use Rattle.touch.specs.declared.Verdict.TheVariants.{Good}
 use Rattle.touch.specs.Record.{no_next, slides}
 use Rattle.touch.specs.Judge.{good_record, judged}
+use Rattle.touch.specs.Table.{Found}
 use Rattle.touch.specs.Find.{found}
 use Rattle.touch.proofs.Tables.{found_good}
 use Rattle.touch.proofs.GoodFields.{good_next}
-use Rattle.contact.specs.declared.Catch.{Catch}
-use Rattle.contact.specs.declared.Catch.TheVariants.{Free, Caught}
 use Rattle.contact.specs.declared.Pad.{Pad}
-use Rattle.contact.specs.Contact.{pad_with, showing, catching, acting, pressed, held_down, touched, lifted}
+use Rattle.contact.specs.Contact.{Catch, pad_with, showing, catching, acting, pressed, held_down, touched, lifted}
 use Rattle.contact.specs.Sound.{Sound}
 use Rattle.contact.proofs.Named.{length_marked, marked_status, marked_only}
 
@@ -39,9 +36,9 @@ unfolding is_down
 down_by_3 registers is = rw is
 
 abbrev CaughtGood : Setup → Catch → Type 0
-CaughtGood setup catch = (r : Record) → catch ≡ Caught r → (good_record setup r ≡ true) × (slides r ≡ true)
+CaughtGood setup catch = (r : Record) → catch ≡ Some r → (good_record setup r ≡ true) × (slides r ≡ true)
 
-free_good : (setup : Setup) → CaughtGood setup Free
+free_good : (setup : Setup) → CaughtGood setup None
 free_good setup r is = absurd (let z : ◌≡◌ {A = ℕ} 0 1 = cc in omega arith)
 
 -- while down, any good catch is sound
@@ -78,7 +75,7 @@ module _ (setup : Setup) (pad : Pad) (sound : Sound setup pad) (x y : ℕ) where
   unfolding catching
   caught_by r good = go (slides r) refl
     where
-      go : (b : Bool) → slides r ≡ b → CaughtGood setup (cond b (Caught r) pad.catch)
+      go : (b : Bool) → slides r ≡ b → CaughtGood setup (cond b (Some r) pad.catch)
       go true is q e =
           let same : r ≡ q = cc in
           (ap (good_record setup) (sym same) ∙ good, ap slides (sym same) ∙ is)
@@ -88,7 +85,7 @@ module _ (setup : Setup) (pad : Pad) (sound : Sound setup pad) (x y : ℕ) where
   unfolding showing
   shown_sound r good = go (no_next r) refl
     where
-      go : (b : Bool) → no_next r ≡ b → Sound setup (cond b (pad_with now (catching r pad.catch)) (pad_with (with_page now r.next) Free))
+      go : (b : Bool) → no_next r ≡ b → Sound setup (cond b (pad_with now (catching r pad.catch)) (pad_with (with_page now r.next) None))
       go true is = now_sound (catching r pad.catch) (caught_by r good)
       go false is =
           let long : length now.bytes ≡ 256 = length_marked pad.registers whole' 0x01 x y in
@@ -99,14 +96,14 @@ module _ (setup : Setup) (pad : Pad) (sound : Sound setup pad) (x y : ℕ) where
             caught_good = free_good setup;
           }
 
-  module _ (table words : List ℕ) (good : judged setup table ≡ Good) where
+  module _ (table words : List ℕ) (good : judged setup table ≡ Ok tt) where
     pressed_sound : Sound setup (pressed setup pad table words x y).pad
     unfolding pressed acting
     pressed_sound = go (found table (page_of pad.registers) x y) refl
       where
         go : (f : Found) → found table (page_of pad.registers) x y ≡ f → Sound setup (acting setup f now pad.catch words x y).pad
-        go Nothing is = now_sound pad.catch sound.caught_good
-        go (At i r) is = shown_sound r (found_good setup table (page_of pad.registers) x y i r good is)
+        go None is = now_sound pad.catch sound.caught_good
+        go (Some (i, r)) is = shown_sound r (found_good setup table (page_of pad.registers) x y i r good is)
 
     -- a contact with a table judged good
     pub touched_sound : Sound setup (touched setup pad table words x y).pad

@@ -1,34 +1,32 @@
 -- Laws of contacts and lifts: one for each way a function answers.
-use mathlib.Core.Path.{◌≡◌, sym, ap, ◌∙◌}
+use mathlib.Core.Path.{◌≡◌, refl, sym, ap, ◌∙◌}
 use mathlib.Core.Bool.{Bool, true, false}
 use mathlib.Core.List.{List}
 use Prim.Native.Nat.{ℕ}
+use Rattle.std.specs.Prelude.{Some, None}
 use Rattle.registers.specs.declared.Registers.{Registers}
 use Rattle.registers.specs.Touched.{page_of, with_page, is_down, with_status, with_place}
 use Rattle.words.specs.Words.{word_at_address, word_set}
 use Rattle.touch.specs.declared.Setup.{Setup}
 use Rattle.touch.specs.declared.Record.{Record}
-use Rattle.touch.specs.declared.Found.{Found}
-use Rattle.touch.specs.declared.Found.TheVariants.{Nothing, At}
 use Rattle.touch.specs.Record.{no_next, slides}
+use Rattle.touch.specs.Table.{Found}
 use Rattle.touch.specs.Find.{found}
 use Rattle.touch.specs.Act.{acted_of, dragged_of}
-use Rattle.contact.specs.declared.Catch.{Catch}
-use Rattle.contact.specs.declared.Catch.TheVariants.{Free, Caught}
 use Rattle.contact.specs.declared.Pad.{Pad}
-use Rattle.contact.specs.Contact.{pad_with, touching, showing, catching, acting, pressed, dragging, held_down, touched, lifted}
+use Rattle.contact.specs.Contact.{Catch, pad_with, touching, showing, catching, acting, pressed, dragging, held_down, touched, lifted}
 
 module _ (r : Record) (registers : Registers) (catch : Catch) (b : Bool) (is_b : b ≡ no_next r) where
   pub shows_none : b ≡ true → pad_with registers catch ≡ showing r registers catch
   unfolding showing
   shows_none is = rw (sym is_b ∙ is)
 
-  pub shows_next : (next : Registers) → b ≡ false → next ≡ with_page registers r.next → pad_with next Free ≡ showing r registers catch
+  pub shows_next : (next : Registers) → b ≡ false → next ≡ with_page registers r.next → pad_with next None ≡ showing r registers catch
   unfolding showing
   shows_next next is e = rw (sym is_b ∙ is, e)
 
 module _ (r : Record) (catch : Catch) (b : Bool) (is_b : b ≡ slides r) where
-  pub catches : b ≡ true → Caught r ≡ catching r catch
+  pub catches : b ≡ true → Some r ≡ catching r catch
   unfolding catching
   catches is = rw (sym is_b ∙ is)
 
@@ -37,11 +35,11 @@ module _ (r : Record) (catch : Catch) (b : Bool) (is_b : b ≡ slides r) where
   catches_not is = rw (sym is_b ∙ is)
 
 module _ (setup : Setup) (f : Found) (registers : Registers) (catch : Catch) (words : List ℕ) (x y : ℕ) where
-  pub acts_none : f ≡ Nothing → touching (pad_with registers catch) words ≡ acting setup f registers catch words x y
+  pub acts_none : f ≡ None → touching (pad_with registers catch) words ≡ acting setup f registers catch words x y
   unfolding acting
   acts_none is = ap (λ (g : Found). acting setup g registers catch words x y) (sym is)
 
-  pub acts : (i : ℕ) (r : Record) (old new : ℕ) (left : List ℕ) (c : Catch) (pad : Pad) → f ≡ At i r → old ≡ word_at_address words r.word
+  pub acts : (i : ℕ) (r : Record) (old new : ℕ) (left : List ℕ) (c : Catch) (pad : Pad) → f ≡ Some (i, r) → old ≡ word_at_address words r.word
       → new ≡ acted_of setup r old x y → left ≡ word_set words r.word new → c ≡ catching r catch → pad ≡ showing r registers c
       → touching pad left ≡ acting setup f registers catch words x y
   unfolding acting
@@ -49,11 +47,12 @@ module _ (setup : Setup) (f : Found) (registers : Registers) (catch : Catch) (wo
       rw (u, t, s, q, p) (ap (λ (g : Found). acting setup g registers catch words x y) (sym is))
 
 module _ (setup : Setup) (words : List ℕ) (x y : ℕ) where
-  pub drags_none : (catch : Catch) → catch ≡ Free → words ≡ dragging setup catch words x y
+  pub drags_none : (catch : Catch) → ((r : Record) → catch ≡ Some r → ⊥) → words ≡ dragging setup catch words x y
   unfolding dragging
-  drags_none catch is = ap (λ (c : Catch). dragging setup c words x y) (sym is)
+  drags_none None none = refl
+  drags_none (Some r) none = absurd (none r refl)
 
-  pub drags : (catch : Catch) (r : Record) (old new : ℕ) (left : List ℕ) → catch ≡ Caught r → old ≡ word_at_address words r.word
+  pub drags : (catch : Catch) (r : Record) (old new : ℕ) (left : List ℕ) → catch ≡ Some r → old ≡ word_at_address words r.word
       → new ≡ dragged_of setup r old x y → left ≡ word_set words r.word new → left ≡ dragging setup catch words x y
   unfolding dragging
   drags catch r old new left is p q s = s ∙ rw (q, p) (ap (λ (c : Catch). dragging setup c words x y) (sym is))
@@ -79,6 +78,6 @@ module _ (setup : Setup) (pad : Pad) (table words : List ℕ) (x y : ℕ) where
     unfolding touched
     touches_up is e = rw (sym is_down ∙ is) e
 
-pub lifts : (pad : Pad) (marked : Registers) → marked ≡ with_status pad.registers 0x02 → pad_with marked Free ≡ lifted pad
+pub lifts : (pad : Pad) (marked : Registers) → marked ≡ with_status pad.registers 0x02 → pad_with marked None ≡ lifted pad
 unfolding lifted
 lifts pad marked is = rw is

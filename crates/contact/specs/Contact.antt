@@ -1,18 +1,19 @@
 -- 01, "Contact and lift": what a contact that is not refused, and a lift, leave.
-use Rattle.std.specs.Prelude.{ℕ, cond, List}
+use Rattle.std.specs.Prelude.{ℕ, cond, List, Option, Some, None}
 use Rattle.registers.specs.declared.Registers.{Registers}
 use Rattle.registers.specs.Touched.{page_of, with_page, is_down, with_status, with_place}
 use Rattle.words.specs.Words.{word_at_address, word_set}
 use Rattle.touch.specs.declared.Setup.{Setup}
 use Rattle.touch.specs.declared.Record.{Record}
-use Rattle.touch.specs.declared.Found.{Found}
-use Rattle.touch.specs.declared.Found.TheVariants.{Nothing, At}
 use Rattle.touch.specs.Record.{no_next, slides}
+use Rattle.touch.specs.Table.{Found}
 use Rattle.touch.specs.Find.{found}
 use Rattle.touch.specs.Act.{acted_of, dragged_of}
-use Rattle.contact.specs.declared.Catch.{Catch}
-use Rattle.contact.specs.declared.Catch.TheVariants.{Free, Caught}
 use Rattle.contact.specs.declared.Pad.{Pad}
+
+-- "A slider that acted is caught: the panel keeps a copy of its record.": that copy, or none
+abbrev pub Catch : Type 0
+Catch = Option Record
 
 -- builds what a touch sets of a panel: the registers and the catch
 abbrev pub pad_with : Registers → Catch → Pad
@@ -29,16 +30,16 @@ touching pad words = record { pad = pad; words = words }
 
 -- "then its next page is shown"; "Every page write by a command or a next page, even of the same number, drops the catch."
 unfoldable pub showing : Record → Registers → Catch → Pad
-showing r registers catch = cond (no_next r) (pad_with registers catch) (pad_with (with_page registers r.next) Free)
+showing r registers catch = cond (no_next r) (pad_with registers catch) (pad_with (with_page registers r.next) None)
 
 -- "A slider that acted is caught: the panel keeps a copy of its record."
 unfoldable pub catching : Record → Catch → Catch
-catching r catch = cond (slides r) (Caught r) catch
+catching r catch = cond (slides r) (Some r) catch
 
 -- "The first record of the current page holding the point acts, then its next page is shown."
 unfoldable pub acting : Setup → Found → Registers → Catch → List ℕ → (x y : ℕ) → Touching
-acting setup Nothing registers catch words x y = touching (pad_with registers catch) words
-acting setup (At i r) registers catch words x y =
+acting setup None registers catch words x y = touching (pad_with registers catch) words
+acting setup (Some (i, r)) registers catch words x y =
     touching (showing r registers (catching r catch)) (word_set words r.word (acted_of setup r (word_at_address words r.word) x y))
 
 -- "Contact while up: status 01, and if the flag isn't 5A, X and Y are stored and the flag becomes 5A."
@@ -49,8 +50,8 @@ pressed setup pad table words x y =
 
 -- "a caught slider stores for the point moved to the nearest place in its area; nothing else acts"
 unfoldable pub dragging : Setup → Catch → List ℕ → (x y : ℕ) → List ℕ
-dragging setup Free words x y = words
-dragging setup (Caught r) words x y = word_set words r.word (dragged_of setup r (word_at_address words r.word) x y)
+dragging setup None words x y = words
+dragging setup (Some r) words x y = word_set words r.word (dragged_of setup r (word_at_address words r.word) x y)
 
 -- "Contact while down: status 03, flag and place by the same rule"
 unfoldable pub held_down : Setup → Pad → List ℕ → (x y : ℕ) → Touching
@@ -64,4 +65,4 @@ touched setup pad table words x y = cond (is_down pad.registers) (held_down setu
 
 -- "Lift: status 02, the catch is dropped."
 unfoldable pub lifted : Pad → Pad
-lifted pad = pad_with (with_status pad.registers 0x02) Free
+lifted pad = pad_with (with_status pad.registers 0x02) None

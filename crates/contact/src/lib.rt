@@ -5,124 +5,100 @@ ghost use Rattle.std.specs.Prelude.{◌≡◌};
 ghost use Rattle.contact.specs.Contact.{touching, showing, catching, acting, pressed, dragging, held_down, touched, lifted};
 
 use registers::Registers;
-use touch::{Found, Record, Setup};
+use touch::{Point, Record, Setup};
 use words::WordAddress;
-
-// A slider that is being dragged, as a copy of its record.
-#[derive(Clone, Copy)]
-pub enum Catch {
-    Free,
-    Caught(Record),
-}
 
 // What a touch reads and sets, beside the words.
 #[derive(Clone, Copy)]
 pub struct Pad {
     pub registers: Registers,
-    pub catch: Catch,
+    // A copy of the record of the slider that is being dragged.
+    pub catch: Option<Record>,
 }
 
-fn show(r: Record, registers: Registers, catch: Catch) -> Pad
+fn show(r: Record, registers: Registers, catch: Option<Record>) -> Pad
     ensures { result ≡ showing r registers catch }
 {
     if touch::no_next(r) {
-        Pad {
-            registers: registers,
-            catch: catch,
-        }
+        Pad { registers, catch }
     } else {
         Pad {
             registers: registers.with_page(r.next),
-            catch: Catch::Free,
+            catch: None,
         }
     }
 }
 
-fn catch_with(r: Record, catch: Catch) -> Catch
+fn catch_with(r: Record, catch: Option<Record>) -> Option<Record>
     ensures { result ≡ catching r catch }
 {
-    if touch::is_slider(r) {
-        Catch::Caught(r)
-    } else {
-        catch
-    }
+    if touch::is_slider(r) { Some(r) } else { catch }
 }
 
 fn act(
     setup: Setup,
-    f: Found,
+    found: Option<(usize, Record)>,
     registers: Registers,
-    catch: Catch,
+    catch: Option<Record>,
     words: &mut [u16],
-    x: u16,
-    y: u16,
+    point: Point,
 ) -> Pad
-    ensures { touching result words.new ≡ acting setup f registers catch words.old x y }
+    ensures { touching result words.new ≡ acting setup found registers catch words.old point.x point.y }
 {
-    match f {
-        Found::Nothing => Pad {
-            registers: registers,
-            catch: catch,
-        },
-        Found::At(_, r) => {
+    match found {
+        None => Pad { registers, catch },
+        Some((_, r)) => {
             let old = words::at(words, WordAddress(r.word));
             words::set(
                 words,
                 WordAddress(r.word),
-                touch::acted(setup, r, old, x, y),
+                touch::acted(setup, r, old, point),
             );
             show(r, registers, catch_with(r, catch))
         }
     }
 }
 
-fn press(setup: Setup, pad: Pad, table: &[u8], words: &mut [u16], x: u16, y: u16) -> Pad
-    ensures { touching result words.new ≡ pressed setup pad table.now words.old x y }
+fn press(setup: Setup, pad: Pad, table: &[u8], words: &mut [u16], point: Point) -> Pad
+    ensures { touching result words.new ≡ pressed setup pad table.now words.old point.x point.y }
 {
     let before = pad.registers;
-    let catch = pad.catch;
-    let f = touch::find(table, before.page(), x, y);
-    let after = before.with_status(0x01).with_place(x, y);
-    act(setup, f, after, catch, words, x, y)
+    let found = touch::find(table, before.page(), point);
+    let after = before.with_status(0x01).with_place(point.x, point.y);
+    act(setup, found, after, pad.catch, words, point)
 }
 
-fn drag(setup: Setup, catch: Catch, words: &mut [u16], x: u16, y: u16)
-    ensures { words.new ≡ dragging setup catch words.old x y }
+fn drag(setup: Setup, catch: Option<Record>, words: &mut [u16], point: Point)
+    ensures { words.new ≡ dragging setup catch words.old point.x point.y }
 {
-    match catch {
-        Catch::Free => {}
-        Catch::Caught(r) => {
-            let old = words::at(words, WordAddress(r.word));
-            words::set(
-                words,
-                WordAddress(r.word),
-                touch::dragged(setup, r, old, x, y),
-            );
-        }
+    if let Some(r) = catch {
+        let old = words::at(words, WordAddress(r.word));
+        words::set(
+            words,
+            WordAddress(r.word),
+            touch::dragged(setup, r, old, point),
+        );
     }
 }
 
-fn hold_down(setup: Setup, pad: Pad, words: &mut [u16], x: u16, y: u16) -> Pad
-    ensures { touching result words.new ≡ held_down setup pad words.old x y }
+fn hold_down(setup: Setup, pad: Pad, words: &mut [u16], point: Point) -> Pad
+    ensures { touching result words.new ≡ held_down setup pad words.old point.x point.y }
 {
-    let before = pad.registers;
-    let catch = pad.catch;
-    drag(setup, catch, words, x, y);
+    drag(setup, pad.catch, words, point);
     Pad {
-        registers: before.with_status(0x03).with_place(x, y),
-        catch: catch,
+        registers: pad.registers.with_status(0x03).with_place(point.x, point.y),
+        catch: pad.catch,
     }
 }
 
 // A contact on the screen of a panel set up so, with touch on and a good table.
-pub fn touch_down(setup: Setup, pad: Pad, table: &[u8], words: &mut [u16], x: u16, y: u16) -> Pad
-    ensures { touching result words.new ≡ touched setup pad table.now words.old x y }
+pub fn touch_down(setup: Setup, pad: Pad, table: &[u8], words: &mut [u16], point: Point) -> Pad
+    ensures { touching result words.new ≡ touched setup pad table.now words.old point.x point.y }
 {
-    let registers = pad.registers;
-    if registers.is_down() {
-        hold_down(setup, pad, words, x, y)
+    if pad.registers.is_down() {
+        hold_down(setup, pad, words, point)
     } else {
-        press(setup, pad, table, words, x, y)
+        press(setup, pad, table, words, point)
     }
 }
 
@@ -130,9 +106,8 @@ pub fn touch_down(setup: Setup, pad: Pad, table: &[u8], words: &mut [u16], x: u1
 pub fn lift_up(pad: Pad) -> Pad
     ensures { result ≡ lifted pad }
 {
-    let before = pad.registers;
     Pad {
-        registers: before.with_status(0x02),
-        catch: Catch::Free,
+        registers: pad.registers.with_status(0x02),
+        catch: None,
     }
 }

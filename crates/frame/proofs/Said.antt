@@ -5,12 +5,12 @@ use mathlib.Core.List.{List, [], ◌∷◌}
 use Prim.Native.Nat.{ℕ}
 use lib.Dec.{ltb}
 use lib.ListN.{length}
+use Rattle.std.specs.Prelude.{Ok, Err}
 use Rattle.wire.specs.Numbers.{says, first_said}
 use Rattle.wire.specs.Room.{over}
-use Rattle.frame.specs.declared.Written.{Written}
-use Rattle.frame.specs.declared.Written.TheVariants.{Frame, DataTooLong, RoomTooSmall}
+use Rattle.frame.specs.declared.WriteError.TheVariants.{DataTooLong, RoomTooSmall}
 use Rattle.frame.specs.Frame.{frame_of, most_data}
-use Rattle.frame.specs.Writer.{least_room, number_of_written, written_said, writer_listed, writer_said, Writing, answers, writing}
+use Rattle.frame.specs.Writer.{Written, least_room, number_of_written, written_said, writer_listed, writer_said, Writing, answers, writing}
 use Rattle.frame.proofs.Writers.{length_frame_of}
 
 written_as_listed : (checking : Bool) (header : List ℕ) (command : ℕ) (payload room : List ℕ)
@@ -23,7 +23,7 @@ written_as_listed checking header command payload room =
     frame = frame_of checking header command payload
 
     go : (a b : Bool)
-        → written_said (cond a (answers RoomTooSmall room) (cond b (answers DataTooLong room) (answers (Frame (length frame)) (over frame room)))).answer
+        → written_said (cond a (answers (Err RoomTooSmall) room) (cond b (answers (Err DataTooLong) room) (answers (Ok (length frame)) (over frame room)))).answer
         ≡ cond a (says 14 []) (cond b (says 3 []) (says 0 (length frame ∷ [])))
     go true b = refl
     go false true = refl

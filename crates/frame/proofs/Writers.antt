@@ -10,11 +10,12 @@ use borrow.Author.Tests.{lt-ltb, le-ltb, lt-leb, le-leb}
 use lib.Dec.{leb}
 use lib.ListN.{length, take, drop, length-drop}
 use lib.Seq.{length-take-le}
+use Rattle.std.specs.Prelude.{Ok, Err}
 use Rattle.wire.specs.Room.{over, Laid, lays, laid}
 use Rattle.wire.proofs.Parts.{part_whole}
 use Rattle.wire.proofs.Over.{drop_over, and_true, left_false, right_false, laid_not, laid_whole}
 use Rattle.frame.specs.declared.Header.{Header}
-use Rattle.frame.specs.declared.Written.TheVariants.{Frame, DataTooLong, RoomTooSmall}
+use Rattle.frame.specs.declared.WriteError.TheVariants.{DataTooLong, RoomTooSmall}
 use Rattle.frame.specs.Frame.{header_bytes, check_length, check_bytes, length_byte, enclosed, framed, frame_of, most_data}
 use Rattle.frame.specs.Acknowledgement.{acknowledgement_length, verdict, acknowledgement}
 use Rattle.frame.specs.Writer.{least_room, answers, writing, frame_laid, acknowledgement_laid, closed_laid}
@@ -172,19 +173,19 @@ module _ (checking : Bool) (header : List ℕ) (n m : ℕ) (room : List ℕ) (is
         (enclosed_laid checking header (n + c) h standing room l r is-header is-l laid-r)
 
 module _ (checking : Bool) (header : List ℕ) (command : ℕ) (payload room : List ℕ) where
-  pub writer_no_room : length room < least_room → answers RoomTooSmall room ≡ writing checking header command payload room
+  pub writer_no_room : length room < least_room → answers (Err RoomTooSmall) room ≡ writing checking header command payload room
   unfolding writing
   writer_no_room small = rw (lt-ltb (length room) least_room small)
 
   module _ (m : ℕ) (is-most : m ≡ most_data checking) (roomy : least_room ≤ length room) where
-    pub writer_too_long : m < length payload → answers DataTooLong room ≡ writing checking header command payload room
+    pub writer_too_long : m < length payload → answers (Err DataTooLong) room ≡ writing checking header command payload room
     unfolding writing
     writer_too_long long = rw (le-ltb (length room) least_room roomy, lt-ltb (most_data checking) (length payload) (rw is-most at long))
 
     -- 265 bytes hold every frame
     pub writer_done : (r : ℕ) (room' : List ℕ) → length header ≤ 2 → length payload ≤ m
         → lays r room' ≡ frame_laid checking header command payload room
-        → answers (Frame r) room' ≡ writing checking header command payload room
+        → answers (Ok r) room' ≡ writing checking header command payload room
     unfolding writing
     writer_done r room' short within is-laid =
         let within' : length payload ≤ most_data checking = rw is-most at within in
@@ -192,4 +193,4 @@ module _ (checking : Bool) (header : List ℕ) (command : ℕ) (payload room : L
         omega (arith, length_frame_of checking header command payload, length_most checking) in
         let is : lays r room' ≡ lays (length (frame_of checking header command payload)) (over (frame_of checking header command payload) room) =
         is-laid ∙ frame_laid_lem checking header command payload room within' size in
-        rw (le-ltb (length room) least_room roomy, le-ltb (most_data checking) (length payload) within') (ap (λ (l : Laid). answers (Frame l.count) l.room) is)
+        rw (le-ltb (length room) least_room roomy, le-ltb (most_data checking) (length payload) within') (ap (λ (l : Laid). answers (Ok l.count) l.room) is)

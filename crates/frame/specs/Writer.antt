@@ -1,10 +1,10 @@
 -- 01, "Frame": "The frame writer takes any header pair, checking choice, command byte, data and room; it refuses with 14, then 3, else
 -- answers the frame's length; room past the frame stays."
-use Rattle.std.specs.Prelude.{ℕ, ◌+◌, Bool, cond, ◌&&◌, List, [], ◌∷◌, leb, ltb, length, take, drop}
+use Rattle.std.specs.Prelude.{ℕ, ◌+◌, Bool, cond, ◌&&◌, List, [], ◌∷◌, Result, Ok, Err, leb, ltb, length, take, drop}
 use Rattle.wire.specs.Numbers.{Said, says, Listed, ◌when◌, first_said}
 use Rattle.wire.specs.Room.{over, Laid, laid}
-use Rattle.frame.specs.declared.Written.{Written}
-use Rattle.frame.specs.declared.Written.TheVariants.{Frame, DataTooLong, RoomTooSmall}
+use Rattle.frame.specs.declared.WriteError.{WriteError}
+use Rattle.frame.specs.declared.WriteError.TheVariants.{DataTooLong, RoomTooSmall}
 use Rattle.frame.specs.Frame.{check_length, framed, frame_of, most_data}
 use Rattle.frame.specs.Acknowledgement.{acknowledgement}
 
@@ -12,17 +12,20 @@ use Rattle.frame.specs.Acknowledgement.{acknowledgement}
 abbrev pub least_room : ℕ
 least_room = 265
 
+-- "it refuses with 14, then 3, else answers the frame's length"
+abbrev pub Written : Type 0
+Written = Result ℕ WriteError
+
 -- "it refuses with 14, then 3, else answers the frame's length": the number of each answer, "0: done" with the length
 unfoldable pub number_of_written : Written → ℕ
-number_of_written (Frame n) = 0
-number_of_written DataTooLong = 3
-number_of_written RoomTooSmall = 14
+number_of_written (Ok n) = 0
+number_of_written (Err DataTooLong) = 3
+number_of_written (Err RoomTooSmall) = 14
 
 -- beside the number: "else answers the frame's length"
 unfoldable pub written_said : Written → Said
-written_said (Frame n) = says (number_of_written (Frame n)) (n ∷ [])
-written_said DataTooLong = says (number_of_written DataTooLong) []
-written_said RoomTooSmall = says (number_of_written RoomTooSmall) []
+written_said (Ok n) = says (number_of_written (Ok n)) (n ∷ [])
+written_said (Err e) = says (number_of_written (Err e)) []
 
 -- "it refuses with 14, then 3": "writer's room below 265"; "data over the limit"
 unfoldable pub writer_listed : Bool → (payload room : List ℕ) → List Listed
@@ -47,9 +50,9 @@ answers answer room = record { answer = answer; room = room }
 unfoldable pub writing : Bool → List ℕ → ℕ → List ℕ → List ℕ → Writing
 writing checking header command payload room =
     let frame = frame_of checking header command payload in
-    cond (ltb (length room) least_room) (answers RoomTooSmall room)
-    (cond (ltb (most_data checking) (length payload)) (answers DataTooLong room)
-    (answers (Frame (length frame)) (over frame room)))
+    cond (ltb (length room) least_room) (answers (Err RoomTooSmall) room)
+    (cond (ltb (most_data checking) (length payload)) (answers (Err DataTooLong) room)
+    (answers (Ok (length frame)) (over frame room)))
 
 -- The inner writers lay a frame whole over the front of the room, or, where it may not or cannot stand there, leave the room and answer 0.
 

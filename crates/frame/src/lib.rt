@@ -8,17 +8,15 @@ ghost use Rattle.frame.specs.Acknowledgement.{verdict};
 ghost use Rattle.frame.specs.Writer.{written_said, writer_said, answers, writing, frame_laid, acknowledgement_laid, closed_laid};
 
 // The header set up for the line.
-#[derive(Clone, Copy)]
+#[derive(Clone, Copy, Debug, PartialEq, Eq)]
 pub struct Header {
     pub h1: u8,
     pub h2: u8,
 }
 
-// What the frame writer answers.
-#[derive(Clone, Copy)]
-pub enum Written {
-    // Done: the frame's length.
-    Frame(usize),
+// Why the frame writer refuses.
+#[derive(Clone, Copy, Debug, PartialEq, Eq)]
+pub enum WriteError {
     // The data is over the limit.
     DataTooLong,
     // The room is below 265 bytes.
@@ -197,16 +195,15 @@ pub fn write_frame(
     command: u8,
     payload: &[u8],
     room: &mut [u8],
-) -> Written
+) -> Result<usize, WriteError>
     ensures room_after { answers result room.new ≡ writing checking (header_bytes header) command payload.now room.old }
     ensures result_value { written_said result ≡ writer_said checking (header_bytes header) payload.now room.old }
 {
     if room.len() < LEAST_ROOM {
-        return Written::RoomTooSmall;
+        return Err(WriteError::RoomTooSmall);
     }
     if most_data(checking) < payload.len() {
-        return Written::DataTooLong;
+        return Err(WriteError::DataTooLong);
     }
-    let n = put_frame(header, checking, command, payload, room);
-    Written::Frame(n)
+    Ok(put_frame(header, checking, command, payload, room))
 }

@@ -2,7 +2,7 @@
 // checking on and off, for three header pairs. What it must print was worked out by an independent program, tests/frame_model.py.
 #![tactic(auto)]
 
-use frame::{Header, Written};
+use frame::{Header, WriteError};
 use std::io::{self, BufWriter, Write};
 
 const DATA: [usize; 10] = [0, 1, 2, 251, 252, 253, 254, 255, 256, 300];
@@ -10,20 +10,16 @@ const DATA: [usize; 10] = [0, 1, 2, 251, 252, 253, 254, 255, 256, 300];
 const ROOMS: [usize; 6] = [0, 7, 264, 265, 266, 300];
 
 // The numbers of 01.
-fn number(w: Written) -> u64 {
+fn number(w: Result<usize, WriteError>) -> u64 {
     match w {
-        Written::Frame(_) => 0,
-        Written::DataTooLong => 3,
-        Written::RoomTooSmall => 14,
+        Ok(_) => 0,
+        Err(WriteError::DataTooLong) => 3,
+        Err(WriteError::RoomTooSmall) => 14,
     }
 }
 
-fn length(w: Written) -> usize {
-    match w {
-        Written::Frame(n) => n,
-        Written::DataTooLong => 0,
-        Written::RoomTooSmall => 0,
-    }
+fn length(w: Result<usize, WriteError>) -> usize {
+    w.unwrap_or(0)
 }
 
 fn fill(step: usize, list: &mut [u8]) {
@@ -34,7 +30,12 @@ fn fill(step: usize, list: &mut [u8]) {
     }
 }
 
-fn print_answer<W: Write>(out: &mut W, n: usize, w: Written, room: &[u8]) -> io::Result<()> {
+fn print_answer<W: Write>(
+    out: &mut W,
+    n: usize,
+    w: Result<usize, WriteError>,
+    room: &[u8],
+) -> io::Result<()> {
     let lent = room.len();
     let number = number(w);
     let length = length(w);

@@ -2,12 +2,17 @@
 use mathlib.Core.Path.{sym, ap, ◌∙◌}
 use Rattle.wire.specs.OneAnswer.{OneAnswer, OneAnswerLeft}
 use Rattle.wire.specs.Room.{Laid}
+use Rattle.items.proofs.KindBytes.{decodes_once}
 use Rattle.items.proofs.item.no_item.Reads as no_item
 use Rattle.items.proofs.item.no_item.Kinds as no_item_kinds
 use Rattle.items.proofs.item.kind_of.Reads as kind_of
 use Rattle.items.proofs.item.kind_of.Kinds as kind_of_kinds
-use Rattle.items.proofs.item.body_length.Reads as body_length
-use Rattle.items.proofs.item.body_length.Kinds as body_length_kinds
+use Rattle.items.proofs.decoding.KindTryFromU8.try_from.Reads as try_from
+use Rattle.items.proofs.decoding.KindTryFromU8.try_from.Kinds as try_from_kinds
+use Rattle.items.proofs.Kind.body_length.Reads as kind_body_length
+use Rattle.items.proofs.Kind.body_length.Kinds as kind_body_length_kinds
+use Rattle.items.proofs.decoding.body_length.Reads as body_length
+use Rattle.items.proofs.decoding.body_length.Kinds as body_length_kinds
 use Rattle.items.proofs.item.with_byte.Reads as with_byte
 use Rattle.items.proofs.item.with_byte.Kinds as with_byte_kinds
 use Rattle.items.proofs.item.setup_in.Reads as setup_in
@@ -30,6 +35,12 @@ no_item_determined κs a x y s t p q = p ∙ sym q
 
 pub kind_of_determined : OneAnswer 0 kind_of_kinds.ps kind_of_kinds.r kind_of.Post
 kind_of_determined κs a x y s t p q = p ∙ sym q
+
+pub try_from_determined : OneAnswer 0 try_from_kinds.ps try_from_kinds.r try_from.Post
+try_from_determined κs a x y s t p q = decodes_once _ x y p q
+
+pub kind_body_length_determined : OneAnswer 0 kind_body_length_kinds.ps kind_body_length_kinds.r kind_body_length.Post
+kind_body_length_determined κs a x y s t p q = p ∙ sym q
 
 pub body_length_determined : OneAnswer 0 body_length_kinds.ps body_length_kinds.r body_length.Post
 body_length_determined κs a x y s t p q = p ∙ sym q

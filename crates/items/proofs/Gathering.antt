@@ -68,9 +68,6 @@ module _ (run input : List ℕ) (n : ℕ) (more : (ltb n (length run) && ltb n (
   pub run_inside : 2 * n + 1 < length input
   run_inside = omega (arith, ltb-true n (length input / 2) (and_right (ltb n (length run)) (ltb n (length input / 2)) more))
 
-  pub kind_inside : 2 * n < length input
-  kind_inside = omega (arith, run_inside)
-
 module _ (input room run : List ℕ) (n : ℕ) (g : Gathering input room run n) where
   front_long : length (take n run) ≡ n
   front_long = length-take-le n run (omega (arith, g.few, g.long))
@@ -91,9 +88,6 @@ module _ (input room run : List ℕ) (n : ℕ) (g : Gathering input room run n) 
         let a : length room - n ≡ suc (length room - (n + 1)) = omega (arith, run_room run input n more, g.long) in
         ap (λ (m : ℕ). line_run m (drop (2 * n) input)) a
         ∙ ap (λ (l : List ℕ). line_run (suc (length room - (n + 1))) l) (pair_front input n (run_inside run input n more))
-
-    pub run_less : length room - (n + 1) < length room - n
-    run_less = omega (arith, run_room run input n more, g.long)
 
     pub run_stops : (get_or input (2 * n) 0 ≡ 1 → ⊥) → lays n run ≡ gathered input room
     run_stops other =

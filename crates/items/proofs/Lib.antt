@@ -1,3 +1,4 @@
 pub mod Answers
+pub mod KindBytes
 pub mod Gathering
 pub mod Determined

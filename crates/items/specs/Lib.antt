@@ -1,4 +1,5 @@
 pub mod Items
+pub mod KindBytes
 pub mod Stages
 pub mod Records
 pub mod Runs

@@ -1,10 +1,10 @@
 // One item: its kind, and the body whose length the kind fixes.
 ghost use Rattle.std.specs.Prelude.{◌≡◌, set};
 ghost use Rattle.wire.specs.ByteOrder.{byte_at};
-ghost use Rattle.items.specs.Items.{no_item, body_length, setup_in};
+ghost use Rattle.items.specs.Items.{no_item, setup_in};
 
 use crate::ITEM_BYTES;
-use touch::{RECORD_BYTES, Setup};
+use touch::Setup;
 
 // What is gathered between two items.
 pub fn no_item() -> [u8; ITEM_BYTES]
@@ -18,25 +18,6 @@ pub fn kind_of(item: [u8; ITEM_BYTES]) -> u8
     ensures { result ≡ byte_at item 0 }
 {
     item[0]
-}
-
-// How long the body of an item of this kind is.
-pub fn body_length(kind: u8) -> usize
-    ensures { result ≡ body_length kind }
-{
-    if kind == 0 {
-        return 9;
-    }
-    if kind == 1 {
-        return 1;
-    }
-    if kind == 3 {
-        return 4;
-    }
-    if kind == 5 {
-        return RECORD_BYTES;
-    }
-    0
 }
 
 // An array with one byte set, where it has that place.

@@ -2,40 +2,33 @@
 ghost use Rattle.std.specs.Prelude.{◌≡◌};
 ghost use Rattle.items.specs.Stages.{is_started, is_over, may_come};
 
-use crate::Stage;
+use crate::{Kind, Stage};
 
 #[tactic(auto, unfolding(crate::specs::Stages::is_started))]
 pub fn is_started(stage: Stage) -> bool
     ensures { result ≡ is_started stage }
 {
-    match stage {
-        Stage::Bare => false,
-        Stage::Ready => false,
-        Stage::Started => true,
-        Stage::Over => false,
-    }
+    stage == Stage::Started
 }
 
 #[tactic(auto, unfolding(crate::specs::Stages::is_over))]
 pub fn is_over(stage: Stage) -> bool
     ensures { result ≡ is_over stage }
 {
-    match stage {
-        Stage::Bare => false,
-        Stage::Ready => false,
-        Stage::Started => false,
-        Stage::Over => true,
-    }
+    stage == Stage::Over
 }
 
 // Whether an item of this kind may come.
+#[tactic(auto, unfolding(crate::specs::Stages::may_come))]
 pub fn may_come(stage: Stage, kind: u8) -> bool
     ensures { result ≡ may_come stage kind }
 {
-    match stage {
-        Stage::Bare => kind == 0,
-        Stage::Ready => (1 <= kind) & (kind <= 6),
-        Stage::Started => ((1 <= kind) & (kind <= 4)) | (kind == 6),
-        Stage::Over => false,
+    let Ok(kind) = Kind::try_from(kind) else {
+        return false;
+    };
+    match kind {
+        Kind::Setup => stage == Stage::Bare,
+        Kind::Record => stage == Stage::Ready,
+        _ => matches!(stage, Stage::Ready | Stage::Started),
     }
 }

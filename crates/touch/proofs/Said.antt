@@ -6,15 +6,13 @@ use Prim.Native.Nat.{ℕ, zero, suc, ◌+◌, ◌/◌}
 use lib.ListN.{length}
 use Rattle.wire.specs.Numbers.{says, first_said}
 use Rattle.touch.specs.declared.Setup.{Setup}
-use Rattle.touch.specs.declared.Verdict.{Verdict}
-use Rattle.touch.specs.declared.Verdict.TheVariants.{NotRecords}
-use Rattle.touch.specs.declared.Found.{Found}
-use Rattle.touch.specs.declared.Found.TheVariants.{Nothing, At}
+use Rattle.std.specs.Prelude.{Some, None, Err}
+use Rattle.touch.specs.declared.TableError.TheVariants.{NotRecords}
 use Rattle.touch.specs.Setup.{good_setup, number_of_setup, setup_listed, setup_said}
 use Rattle.touch.specs.declared.Record.{Record}
-use Rattle.touch.specs.Table.{record_bytes, record_at, ends, records_from, records_of, first_of}
+use Rattle.touch.specs.Table.{Found, record_bytes, record_at, ends, records_from, records_of, first_of}
 use Rattle.touch.specs.Find.{holds, found, found_said, point_listed, point_said}
-use Rattle.touch.specs.Judge.{wrong, named_wrong, not_records, judged, verdict_said, is_found, number_found, table_listed, table_said}
+use Rattle.touch.specs.Judge.{Verdict, wrong, named_wrong, not_records, judged, verdict_said, is_found, number_found, table_listed, table_said}
 
 pub setup_said_lem : (s : Setup) (good : Bool) → good ≡ good_setup s → (good ≡ good_setup s) × (says (number_of_setup good) [] ≡ setup_said s)
 unfolding setup_listed first_said
@@ -28,10 +26,10 @@ said_as_listed : (s : Setup) (table : List ℕ) → verdict_said (judged s table
 unfolding judged verdict_said table_listed first_said
 said_as_listed s table = go (not_records table) (first_of (wrong s) 0 (records_of table))
   where
-    go : (b : Bool) (f : Found) → verdict_said (cond b NotRecords (named_wrong f)) ≡ cond b (says 12 []) (cond (is_found f) (says 13 (number_found f)) (says 0 []))
+    go : (b : Bool) (f : Found) → verdict_said (cond b (Err NotRecords) (named_wrong f)) ≡ cond b (says 12 []) (cond (is_found f) (says 13 (number_found f)) (says 0 []))
     go true f = refl
-    go false Nothing = refl
-    go false (At i r) = refl
+    go false None = refl
+    go false (Some (i, r)) = refl
 
 pub table_said_lem : (s : Setup) (table : List ℕ) (verdict : Verdict) → verdict ≡ judged s table
     → (verdict ≡ judged s table) × (verdict_said verdict ≡ table_said s table)

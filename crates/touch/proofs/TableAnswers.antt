@@ -10,13 +10,11 @@ use borrow.Author.Rules.{rules}
 use borrow.Author.Tests.{eq-eqb, ne_eqb}
 use Rattle.touch.specs.declared.Setup.{Setup}
 use Rattle.touch.specs.declared.Record.{Record}
-use Rattle.touch.specs.declared.Verdict.{Verdict}
-use Rattle.touch.specs.declared.Verdict.TheVariants.{Good, NotRecords, Wrong}
-use Rattle.touch.specs.declared.Found.{Found}
-use Rattle.touch.specs.declared.Found.TheVariants.{Nothing, At}
+use Rattle.std.specs.Prelude.{Some, None, Ok, Err}
+use Rattle.touch.specs.declared.TableError.TheVariants.{NotRecords, Wrong}
 use Rattle.touch.specs.Record.{record_of}
-use Rattle.touch.specs.Table.{end_page, record_bytes, record_at, records_from, records_of, first_of}
-use Rattle.touch.specs.Judge.{good_record, wrong, named_wrong, first_wrong, not_records, judged}
+use Rattle.touch.specs.Table.{Found, end_page, record_bytes, record_at, records_from, records_of, first_of}
+use Rattle.touch.specs.Judge.{Verdict, good_record, wrong, named_wrong, first_wrong, not_records, judged}
 use Rattle.touch.specs.Find.{holds, found}
 
 -- the part that `record_at` lends is the record's bytes
@@ -34,7 +32,7 @@ picked_start : (picks : Record → Bool) (table : List ℕ) (n : ℕ) → first_
 picked_start picks table n = rw (sub-zero n)
 
 module _ (picks : Record → Bool) (table : List ℕ) (i n : ℕ) where
-  picked_done : n ≤ i → picked picks table i n ≡ Nothing
+  picked_done : n ≤ i → picked picks table i n ≡ None
   unfolding first_of records_from
   picked_done h = let e : n - i ≡ 0 = omega arith in rw e
 
@@ -42,12 +40,12 @@ module _ (picks : Record → Bool) (table : List ℕ) (i n : ℕ) where
     next : n - i ≡ suc (n - (i + 1))
     next = omega arith
 
-    picked_ends : r.page ≡ end_page → picked picks table i n ≡ Nothing
+    picked_ends : r.page ≡ end_page → picked picks table i n ≡ None
     unfolding first_of records_from
     picked_ends e = rw (next, ← is, eq-eqb r.page end_page e)
 
     module _ (goes : r.page ≡ end_page → ⊥) where
-      picked_here : picks r ≡ true → picked picks table i n ≡ At i r
+      picked_here : picks r ≡ true → picked picks table i n ≡ Some (i, r)
       unfolding first_of records_from
       picked_here e = rw (next, ← is, ne_eqb r.page end_page goes, e)
 
@@ -68,15 +66,15 @@ pub wrong_start : (s : Setup) (table : List ℕ) → first_of (wrong s) 0 (recor
 wrong_start s table = picked_start (wrong s) table (length table / record_bytes)
 
 module _ (s : Setup) (table : List ℕ) (i n : ℕ) (F : Found) (left : F ≡ picked (wrong s) table i n) where
-  pub none_wrong : n ≤ i → Good ≡ named_wrong F
+  pub none_wrong : n ≤ i → Ok tt ≡ named_wrong F
   none_wrong h = sym (ap named_wrong (left ∙ picked_done (wrong s) table i n h))
 
   module _ (r : Record) (more : i < n) (is : r ≡ record_at table i) where
-    pub ends_good : r.page ≡ end_page → Good ≡ named_wrong F
+    pub ends_good : r.page ≡ end_page → Ok tt ≡ named_wrong F
     ends_good e = sym (ap named_wrong (left ∙ picked_ends (wrong s) table i n r more is e))
 
     module _ (goes : r.page ≡ end_page → ⊥) (b : Bool) (told : b ≡ good_record s r) where
-      pub first_wrong_here : b ≡ false → Wrong i ≡ named_wrong F
+      pub first_wrong_here : b ≡ false → Err (Wrong i) ≡ named_wrong F
       first_wrong_here e =
           let p : wrong s r ≡ true = is_wrong s r b told e in
           sym (ap named_wrong (left ∙ picked_here (wrong s) table i n r more is goes p))
@@ -88,15 +86,15 @@ module _ (s : Setup) (table : List ℕ) (i n : ℕ) (F : Found) (left : F ≡ pi
 
 -- `find`: the first record of the page that holds the point
 module _ (page x y : ℕ) (table : List ℕ) (i n : ℕ) (F : Found) (left : F ≡ picked (holds page x y) table i n) where
-  pub none_found : n ≤ i → Nothing ≡ F
+  pub none_found : n ≤ i → None ≡ F
   none_found h = sym (left ∙ picked_done (holds page x y) table i n h)
 
   module _ (r : Record) (more : i < n) (is : r ≡ record_at table i) where
-    pub ends_unfound : r.page ≡ end_page → Nothing ≡ F
+    pub ends_unfound : r.page ≡ end_page → None ≡ F
     ends_unfound e = sym (left ∙ picked_ends (holds page x y) table i n r more is e)
 
     module _ (goes : r.page ≡ end_page → ⊥) (b : Bool) (told : b ≡ holds page x y r) where
-      pub found_here : b ≡ true → At i r ≡ F
+      pub found_here : b ≡ true → Some (i, r) ≡ F
       found_here e = sym (left ∙ picked_here (holds page x y) table i n r more is goes (sym told ∙ e))
 
       pub found_on : b ≡ false → F ≡ picked (holds page x y) table (i + 1) n
@@ -107,7 +105,7 @@ unfolding found
 found_start page x y table = picked_start (holds page x y) table (length table / record_bytes)
 
 -- `judge`
-pub judged_12 : (s : Setup) (table : List ℕ) → not_records table ≡ true → NotRecords ≡ judged s table
+pub judged_12 : (s : Setup) (table : List ℕ) → not_records table ≡ true → Err NotRecords ≡ judged s table
 unfolding judged
 judged_12 s table e = rw e
 

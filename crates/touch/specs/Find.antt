@@ -1,11 +1,9 @@
 -- 01, "Contact and lift": "The first record of the current page holding the point acts".
-use Rattle.std.specs.Prelude.{ℕ, zero, suc, ◌+◌, ◌/◌, Bool, ◌&&◌, List, [], ◌∷◌, leb, eqb, length}
+use Rattle.std.specs.Prelude.{ℕ, zero, suc, ◌+◌, ◌/◌, Bool, ◌&&◌, List, [], ◌∷◌, leb, eqb, length, Some, None}
 use Rattle.wire.specs.Numbers.{Entry, ◌when◌, first_said}
 use Rattle.touch.specs.declared.Area.{Area}
 use Rattle.touch.specs.declared.Record.{Record}
-use Rattle.touch.specs.declared.Found.{Found}
-use Rattle.touch.specs.declared.Found.TheVariants.{Nothing, At}
-use Rattle.touch.specs.Table.{record_bytes, record_at, ends, first_of, records_of}
+use Rattle.touch.specs.Table.{Found, record_bytes, record_at, ends, first_of, records_of}
 
 -- "Edges belong to the area."
 abbrev pub in_area : Area → (x y : ℕ) → Bool
@@ -21,8 +19,8 @@ found table page x y = first_of (holds page x y) 0 (records_of table)
 
 -- 01 gives these answers no number: what is said are the values, the record's number and the record
 unfoldable pub found_said : Found → List (ℕ × Record)
-found_said Nothing = []
-found_said (At i r) = (i, r) ∷ []
+found_said None = []
+found_said (Some (i, r)) = (i, r) ∷ []
 
 -- the records in their order, n of them from number i on: "A record with page FFFF ends it", "The first record of the current page holding the point"
 unfoldable pub point_listed : List ℕ → (page x y : ℕ) → (i n : ℕ) → List (Entry (List (ℕ × Record)))

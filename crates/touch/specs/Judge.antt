@@ -1,5 +1,5 @@
 -- 01, "Setup and touch table", which records and which tables are good. "A field outside what is printed makes the record wrong."
-use Rattle.std.specs.Prelude.{ℕ, ◌*◌, ◌%◌, Bool, true, false, ◌&&◌, ◌||◌, not, cond, List, [], ◌∷◌, ltb, leb, eqb, length}
+use Rattle.std.specs.Prelude.{ℕ, ◌*◌, ◌%◌, Bool, true, false, ◌&&◌, ◌||◌, not, cond, List, [], ◌∷◌, ltb, leb, eqb, length, Result, Ok, Err, Some, None}
 use Rattle.std.specs.Int.Signed.{le_z}
 use Rattle.touch.specs.declared.Setup.{Setup}
 use Rattle.touch.specs.declared.Area.{Area}
@@ -8,15 +8,13 @@ use Rattle.touch.specs.declared.SliderFields.{SliderFields}
 use Rattle.touch.specs.declared.Kind.{Kind}
 use Rattle.touch.specs.declared.Kind.TheVariants.{Key, Step, Slider, Other}
 use Rattle.touch.specs.declared.Record.{Record}
-use Rattle.touch.specs.declared.Verdict.{Verdict}
-use Rattle.touch.specs.declared.Verdict.TheVariants.{Good, NotRecords, Wrong}
-use Rattle.touch.specs.declared.Found.{Found}
-use Rattle.touch.specs.declared.Found.TheVariants.{Nothing, At}
+use Rattle.touch.specs.declared.TableError.{TableError}
+use Rattle.touch.specs.declared.TableError.TheVariants.{NotRecords, Wrong}
 use Rattle.wire.specs.Addresses.{word_count}
 use Rattle.stores.specs.Store.{signed, good_end}
 use Rattle.touch.specs.Record.{no_next, digit_mode, first_edge, last_edge}
 use Rattle.wire.specs.Numbers.{Said, says, Listed, ◌when◌, first_said}
-use Rattle.touch.specs.Table.{first_of, records_of, record_bytes, most_records}
+use Rattle.touch.specs.Table.{Found, first_of, records_of, record_bytes, most_records}
 
 -- "the area on the screen with Xs ≤ Xe, Ys ≤ Ye"
 abbrev pub good_area : Setup → Area → Bool
@@ -70,10 +68,14 @@ good_record s r =
 unfoldable pub wrong : Setup → Record → Bool
 wrong s r = not (good_record s r)
 
+-- "12: table longer than 128 records or not whole records", "13: a record is wrong", or neither: what `judge` answers
+abbrev pub Verdict : Type 0
+Verdict = Result Unit TableError
+
 -- "the first wrong one is named": the verdict on what was found among the wrong ones
 abbrev pub named_wrong : Found → Verdict
-named_wrong Nothing = Good
-named_wrong (At i r) = Wrong i
+named_wrong None = Ok tt
+named_wrong (Some (i, r)) = Err (Wrong i)
 
 -- "13: a record is wrong; the first wrong one is named"
 abbrev pub first_wrong : Setup → List Record → Verdict
@@ -85,19 +87,19 @@ not_records table = ltb (most_records * record_bytes) (length table) || not (eqb
 
 -- "judged again by 12 and 13": of the two numbers, 12 is given first
 unfoldable pub judged : Setup → List ℕ → Verdict
-judged s table = cond (not_records table) NotRecords (first_wrong s (records_of table))
+judged s table = cond (not_records table) (Err NotRecords) (first_wrong s (records_of table))
 
 -- "0: done", "12: table longer than 128 records or not whole records", "13: a record is wrong; ..": the number of each verdict
 abbrev pub number_of_verdict : Verdict → ℕ
-number_of_verdict Good = 0
-number_of_verdict NotRecords = 12
-number_of_verdict (Wrong i) = 13
+number_of_verdict (Ok tt) = 0
+number_of_verdict (Err NotRecords) = 12
+number_of_verdict (Err (Wrong i)) = 13
 
 -- "the first wrong one is named": what is named beside the number
 abbrev pub named_by_verdict : Verdict → List ℕ
-named_by_verdict Good = []
-named_by_verdict NotRecords = []
-named_by_verdict (Wrong i) = i ∷ []
+named_by_verdict (Ok tt) = []
+named_by_verdict (Err NotRecords) = []
+named_by_verdict (Err (Wrong i)) = i ∷ []
 
 -- "a definition gives this paper's number and values for each of its cases"
 unfoldable pub verdict_said : Verdict → Said
@@ -105,13 +107,13 @@ verdict_said verdict = says (number_of_verdict verdict) (named_by_verdict verdic
 
 -- whether there is a first one
 abbrev pub is_found : Found → Bool
-is_found Nothing = false
-is_found (At i r) = true
+is_found None = false
+is_found (Some (i, r)) = true
 
 -- "the first wrong one is named": its number
 abbrev pub number_found : Found → List ℕ
-number_found Nothing = []
-number_found (At i r) = i ∷ []
+number_found None = []
+number_found (Some (i, r)) = i ∷ []
 
 -- the list by which a table is judged: "12: table longer than 128 records or not whole records", "13: a record is wrong; the first wrong one is named"
 unfoldable pub table_listed : Setup → List ℕ → List Listed

@@ -1,8 +1,6 @@
 -- 01, "Setup and touch table", the records of a table.
-use Rattle.std.specs.Prelude.{ℕ, zero, suc, ◌+◌, ◌*◌, ◌/◌, Bool, cond, List, [], ◌∷◌, eqb, length, take, drop}
+use Rattle.std.specs.Prelude.{ℕ, zero, suc, ◌+◌, ◌*◌, ◌/◌, Bool, cond, List, [], ◌∷◌, eqb, length, take, drop, Option, Some, None}
 use Rattle.touch.specs.declared.Record.{Record}
-use Rattle.touch.specs.declared.Found.{Found}
-use Rattle.touch.specs.declared.Found.TheVariants.{Nothing, At}
 use Rattle.touch.specs.Record.{record_of}
 
 -- "The table has up to 128 records"
@@ -35,7 +33,11 @@ records_from table i (suc n) =
 abbrev pub records_of : List ℕ → List Record
 records_of table = records_from table 0 (length table / record_bytes)
 
+-- a record found in a table, with its number, or none: what `find` answers
+abbrev pub Found : Type 0
+Found = Option (ℕ × Record)
+
 -- the first record that a test picks, with its number, where the first of the list has number i
 unfoldable pub first_of : (Record → Bool) → (i : ℕ) → List Record → Found
-first_of picks i [] = Nothing
-first_of picks i (r ∷ rs) = cond (picks r) (At i r) (first_of picks (i + 1) rs)
+first_of picks i [] = None
+first_of picks i (r ∷ rs) = cond (picks r) (Some (i, r)) (first_of picks (i + 1) rs)

@@ -3,16 +3,16 @@ ghost use Rattle.std.specs.Prelude.{◌≡◌};
 ghost use Rattle.touch.specs.Rounding.{rounding_of};
 ghost use Rattle.touch.specs.Act.{slid_at, acted_of, dragged_of};
 
-use crate::{Kind, Record, Setup, SliderFields, records, setups};
+use crate::{Kind, Point, Record, Setup, SliderFields, records, setups};
 
 #[tactic(auto, unfolding(crate::specs::Rounding::rounding_of))]
-fn slid_at(setup: Setup, r: Record, f: SliderFields, old: u16, x: u16, y: u16) -> u16
-    ensures { result ≡ slid_at (rounding_of setup) r f old x y }
+fn slid_at(setup: Setup, r: Record, f: SliderFields, old: u16, point: Point) -> u16
+    ensures { result ≡ slid_at (rounding_of setup) r f old point.x point.y }
 {
     let area = r.area;
     let first = records::along(r.mode, area.xs, area.ys);
     let last = records::along(r.mode, area.xe, area.ye);
-    let at = records::along(r.mode, x, y);
+    let at = records::along(r.mode, point.x, point.y);
     stores::slider_stores(
         setups::sheet(setup),
         r.mode / 16,
@@ -26,8 +26,8 @@ fn slid_at(setup: Setup, r: Record, f: SliderFields, old: u16, x: u16, y: u16) -
 }
 
 // The word at a record's address after the record acted at a point.
-pub fn acted(setup: Setup, r: Record, old: u16, x: u16, y: u16) -> u16
-    ensures { result ≡ acted_of setup r old x y }
+pub fn acted(setup: Setup, r: Record, old: u16, point: Point) -> u16
+    ensures { result ≡ acted_of setup r old point.x point.y }
 {
     let kind = r.kind;
     match kind {
@@ -41,17 +41,17 @@ pub fn acted(setup: Setup, r: Record, old: u16, x: u16, y: u16) -> u16
             f.least,
             f.greatest,
         ),
-        Kind::Slider(f) => slid_at(setup, r, f, old, x, y),
+        Kind::Slider(f) => slid_at(setup, r, f, old, point),
         Kind::Other => old,
     }
 }
 
 // The word after a record that was caught is dragged to a point, which may lie outside its area. Only a slider stores.
-pub fn dragged(setup: Setup, r: Record, old: u16, x: u16, y: u16) -> u16
-    ensures { result ≡ dragged_of setup r old x y }
+pub fn dragged(setup: Setup, r: Record, old: u16, point: Point) -> u16
+    ensures { result ≡ dragged_of setup r old point.x point.y }
 {
     if records::is_slider(r) {
-        acted(setup, r, old, x, y)
+        acted(setup, r, old, point)
     } else {
         old
     }

@@ -2,32 +2,32 @@
 ghost use Rattle.std.specs.Prelude.{◌≡◌};
 ghost use Rattle.touch.specs.Find.{holds, found, found_said, point_said};
 
-use crate::{END_PAGE, Found, RECORD_BYTES, Record, records};
+use crate::{END_PAGE, Point, RECORD_BYTES, Record, records};
 
-fn holds_point(r: Record, page: u16, x: u16, y: u16) -> bool
-    ensures { result ≡ holds page x y r }
+fn holds_point(r: Record, page: u16, point: Point) -> bool
+    ensures { result ≡ holds page point.x point.y r }
 {
     let area = r.area;
-    (r.page == page) & ((area.xs <= x) & (x <= area.xe) & (area.ys <= y) & (y <= area.ye))
+    (r.page == page)
+        & ((area.xs <= point.x)
+            & (point.x <= area.xe)
+            & (area.ys <= point.y)
+            & (point.y <= area.ye))
 }
 
 // The first record of a page, before the table's end, whose area holds a point.
-pub fn find(table: &[u8], page: u16, x: u16, y: u16) -> Found
-    ensures value { result ≡ found table.now page x y }
-    ensures result_value { found_said result ≡ point_said table.now page x y }
+pub fn find(table: &[u8], page: u16, point: Point) -> Option<(usize, Record)>
+    ensures value { result ≡ found table.now page point.x point.y }
+    ensures result_value { found_said result ≡ point_said table.now page point.x point.y }
 {
-    let count = table.len() / RECORD_BYTES;
-    let mut i: usize = 0;
-    while i < count {
+    for i in 0..table.len() / RECORD_BYTES {
         let r = records::record_at(table, i);
         if r.page == END_PAGE {
-            return Found::Nothing;
+            return None;
         }
-        if holds_point(r, page, x, y) {
-            return Found::At(i, r);
-        } else {
-            i += 1;
+        if holds_point(r, page, point) {
+            return Some((i, r));
         }
     }
-    Found::Nothing
+    None
 }

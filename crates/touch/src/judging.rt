@@ -6,7 +6,7 @@ ghost use Rattle.touch.specs.Judge.{good_area, good_step, same_area, good_slider
 
 use crate::{
     Area, END_PAGE, Kind, MOST_RECORDS, RECORD_BYTES, Record, Setup, SliderFields, StepFields,
-    Verdict, records,
+    TableError, records,
 };
 
 // How many modes there are: "mode 0 whole word, 1 high byte, 2 low byte".
@@ -86,33 +86,29 @@ pub fn good_record(s: Setup, r: Record) -> bool
         & good_kind(r)
 }
 
-fn first_wrong(s: Setup, table: &[u8]) -> Verdict
+fn first_wrong(s: Setup, table: &[u8]) -> Result<(), TableError>
     ensures { result ≡ first_wrong s (records_of table.now) }
 {
-    let count = table.len() / RECORD_BYTES;
-    let mut number: usize = 0;
-    while number < count {
-        let r = records::record_at(table, number);
+    for i in 0..table.len() / RECORD_BYTES {
+        let r = records::record_at(table, i);
         if r.page == END_PAGE {
-            return Verdict::Good;
+            return Ok(());
         }
-        if good_record(s, r) {
-            number += 1;
-        } else {
-            return Verdict::Wrong(number);
+        if !good_record(s, r) {
+            return Err(TableError::Wrong(i));
         }
     }
-    Verdict::Good
+    Ok(())
 }
 
 // Whether a table is good under a setup, and if not, why.
-pub fn judge(s: Setup, table: &[u8]) -> Verdict
+pub fn judge(s: Setup, table: &[u8]) -> Result<(), TableError>
     ensures value { result ≡ judged s table.now }
     ensures result_value { verdict_said result ≡ table_said s table.now }
 {
     let size = table.len();
     if (MOST_RECORDS * RECORD_BYTES < size) | (size % RECORD_BYTES != 0) {
-        return Verdict::NotRecords;
+        return Err(TableError::NotRecords);
     }
     first_wrong(s, table)
 }

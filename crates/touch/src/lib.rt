@@ -32,6 +32,13 @@ pub struct Setup {
     pub height: u16,
 }
 
+// A place on the screen, from its upper left corner.
+#[derive(Clone, Copy)]
+pub struct Point {
+    pub x: u16,
+    pub y: u16,
+}
+
 // From the first point to the last, edges included.
 #[derive(Clone, Copy)]
 pub struct Area {
@@ -78,17 +85,10 @@ pub struct Record {
     pub mode: u8,
 }
 
+// Why a table is not good.
 #[derive(Clone, Copy)]
-pub enum Verdict {
-    Good,
+pub enum TableError {
     NotRecords,
     // The number of the first wrong record, from 0.
     Wrong(usize),
-}
-
-#[derive(Clone, Copy)]
-pub enum Found {
-    Nothing,
-    // The number of the record, from 0, and the record.
-    At(usize, Record),
 }

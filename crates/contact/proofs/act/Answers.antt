@@ -2,8 +2,8 @@
 use Rattle.contact.proofs.Touches.{acts_none, acts}
 use Rattle.contact.proofs.act.Goals as goal
 
-pub returns-in-Nothing : goal.returns-in-Nothing
-returns-in-Nothing c = search acts_none
+pub returns-in-None : goal.returns-in-None
+returns-in-None c = search acts_none
 
-pub returns-in-At : goal.returns-in-At
-returns-in-At c = search acts
+pub returns-in-Some : goal.returns-in-Some
+returns-in-Some c = search acts

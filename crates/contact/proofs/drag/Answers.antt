@@ -2,8 +2,8 @@
 use Rattle.contact.proofs.Touches.{drags_none, drags}
 use Rattle.contact.proofs.drag.Goals as goal
 
-pub returns-in-Free : goal.returns-in-Free
-returns-in-Free c = search drags_none
+pub returns-in_default : goal.returns-in_default
+returns-in_default c = search drags_none
 
-pub returns-in-Caught : goal.returns-in-Caught
-returns-in-Caught c = search drags
+pub returns-in-Some : goal.returns-in-Some
+returns-in-Some c = search drags

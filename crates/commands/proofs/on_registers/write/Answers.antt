@@ -9,8 +9,8 @@ slice_bounds-drops_catch-count c = search registers_long
 pub slice_bounds-drops_catch-start : goal.slice_bounds-drops_catch-start
 slice_bounds-drops_catch-start c = search (rules, registers_long)
 
-pub returns-then-is_done : goal.returns-then-is_done
-returns-then-is_done c = search registers_done
+pub returns-then-is_ok : goal.returns-then-is_ok
+returns-then-is_ok c = search registers_done
 
-pub returns-else-is_done : goal.returns-else-is_done
-returns-else-is_done c = search registers_refused
+pub returns-else-is_ok : goal.returns-else-is_ok
+returns-else-is_ok c = search registers_refused

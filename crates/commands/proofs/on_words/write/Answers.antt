@@ -9,8 +9,8 @@ slice_bounds-write-count c = search words_long
 pub slice_bounds-write-start : goal.slice_bounds-write-start
 slice_bounds-write-start c = search (rules, words_long)
 
-pub returns-then-is_done : goal.returns-then-is_done
-returns-then-is_done c = search words_done
+pub returns-then-is_ok : goal.returns-then-is_ok
+returns-then-is_ok c = search words_done
 
 pub returns : goal.returns
 returns c = search words_refused
