@@ -2,6 +2,7 @@
 use mathlib.Core.Path.{◌≡◌, refl, ap}
 use mathlib.Core.Bool.{Bool, true, false, cond}
 use mathlib.Core.List.{List, [], ◌∷◌}
+use Rattle.std.specs.Prelude.{Ok, Err}
 use Prim.Native.Nat.{ℕ, suc, ◌<◌}
 use native.Mathlib.Omega.{arith}
 use Rattle.wire.specs.Bytes.{Bytes}
@@ -9,7 +10,7 @@ use Rattle.reading.specs.Moves.{Kept, fresh, waiting, with_byte, with_mark, afte
 use Rattle.line.specs.declared.Line.{Line}
 use Rattle.line.specs.declared.Reader.{Reader}
 use Rattle.line.specs.declared.Asked.{Asked}
-use Rattle.line.specs.declared.Answer.TheVariants.{Done, Waits}
+use Rattle.line.specs.declared.Waiting.TheVariants.{ReportWaits}
 use Rattle.line.specs.State.{rules_for, reader_of}
 use Rattle.line.specs.Methods.{busy, gives, gave, plus, given_byte, given_bytes, given_mark, asked}
 use Rattle.line.specs.Reached.{Reached}
@@ -25,7 +26,7 @@ module _ (line : Line) where
   byte_keeps b is kept reached = go (waiting (rules_for line) kept) refl
     where
       byte_leaves : (w : Bool) → waiting (rules_for line) kept ≡ w
-          → (given_byte (reader_of line kept) b).reader ≡ (cond w (gives Waits (reader_of line kept)) (gives Done (reader_of line (with_byte (rules_for line) kept b)))).reader
+          → (given_byte (reader_of line kept) b).reader ≡ (cond w (gives (Err ReportWaits) (reader_of line kept)) (gives (Ok tt) (reader_of line (with_byte (rules_for line) kept b)))).reader
       byte_leaves w is-w = rw (byte_carried line kept b reached, is-w)
 
       go : (w : Bool) → waiting (rules_for line) kept ≡ w → Keeps line ((given_byte (reader_of line kept) b).reader)
@@ -36,7 +37,7 @@ module _ (line : Line) where
   mark_keeps kept reached = go (waiting (rules_for line) kept) refl
     where
       mark_leaves : (w : Bool) → waiting (rules_for line) kept ≡ w
-          → (given_mark (reader_of line kept)).reader ≡ (cond w (gives Waits (reader_of line kept)) (gives Done (reader_of line (with_mark (rules_for line) kept)))).reader
+          → (given_mark (reader_of line kept)).reader ≡ (cond w (gives (Err ReportWaits) (reader_of line kept)) (gives (Ok tt) (reader_of line (with_mark (rules_for line) kept)))).reader
       mark_leaves w is-w = rw (mark_carried line kept reached, is-w)
 
       go : (w : Bool) → waiting (rules_for line) kept ≡ w → Keeps line ((given_mark (reader_of line kept)).reader)

@@ -1,11 +1,11 @@
 -- The link from the reader to 01. Contracts speak of every reader, of array, count and head, whatever stands in them; here is what they say of the readers that
 -- come from a new one by calls: each method is the move of crate reading, which 01, "Reading the line", states.
-use Rattle.std.specs.Prelude.{ℕ, ◌<◌, ◌≡◌, cond, List}
+use Rattle.std.specs.Prelude.{ℕ, ◌<◌, ◌≡◌, cond, List, Ok, Err}
 use Rattle.wire.specs.Bytes.{Bytes}
 use Rattle.reading.specs.Moves.{Kept, fresh, waiting, with_byte, with_mark, handed, after_report}
 use Rattle.line.specs.declared.Line.{Line}
 use Rattle.line.specs.declared.Reader.{Reader}
-use Rattle.line.specs.declared.Answer.TheVariants.{Done, Waits}
+use Rattle.line.specs.declared.Waiting.TheVariants.{ReportWaits}
 use Rattle.line.specs.State.{rules_for, reader_of}
 use Rattle.line.specs.Methods.{busy, gives, given_byte, given_bytes, given_mark, asked}
 use Rattle.line.specs.Reached.{Reached, report_as, payload_as}
@@ -24,9 +24,9 @@ pub record Linked (line : Line) (kept : Kept) : Type 0 where
   pub waits : busy (reader_of line kept) ≡ waiting (rules_for line) kept
   -- "Bytes or marks are given one at a time"; "An input refused with 1 was not given"
   pub byte : (b : ℕ) → given_byte (reader_of line kept) b
-      ≡ cond (waiting (rules_for line) kept) (gives Waits (reader_of line kept)) (gives Done (reader_of line (with_byte (rules_for line) kept b)))
+      ≡ cond (waiting (rules_for line) kept) (gives (Err ReportWaits) (reader_of line kept)) (gives (Ok tt) (reader_of line (with_byte (rules_for line) kept b)))
   pub mark : given_mark (reader_of line kept)
-      ≡ cond (waiting (rules_for line) kept) (gives Waits (reader_of line kept)) (gives Done (reader_of line (with_mark (rules_for line) kept)))
+      ≡ cond (waiting (rules_for line) kept) (gives (Err ReportWaits) (reader_of line kept)) (gives (Ok tt) (reader_of line (with_mark (rules_for line) kept)))
   -- "reports are then asked for one at a time": the report that is handed over with its data, and what is kept then
   pub ask : asked (reader_of line kept) ≡ record {
     report = report_as (handed (rules_for line) kept);

@@ -2,6 +2,7 @@
 use mathlib.Core.Path.{◌≡◌, refl, sym}
 use mathlib.Core.Bool.{Bool, true, false, cond, ◌||◌}
 use mathlib.Core.List.{List, []}
+use Rattle.std.specs.Prelude.{Option, None}
 use Prim.Native.Nat.{ℕ, ◌+◌, ◌-◌, ◌≤◌}
 use native.Mathlib.Omega.{arith}
 use borrow.Author.Tests.{ltb-false}
@@ -13,7 +14,6 @@ use Rattle.place.specs.declared.Look.{Look}
 use Rattle.place.specs.declared.Look.TheVariants.{Pass, Wait, Bad, Good}
 use Rattle.line.specs.declared.Reader.{Reader}
 use Rattle.line.specs.declared.Report.{Report}
-use Rattle.line.specs.declared.Report.TheVariants.{Nothing}
 use Rattle.line.specs.declared.Asked.{Asked}
 use Rattle.line.specs.State.{padded, settled_reader}
 use Rattle.line.specs.Methods.{body_length, span, told, asked}
@@ -21,7 +21,7 @@ use Rattle.line.proofs.Padding.{drop_take}
 use Rattle.wire.proofs.Truths.{or_left, or_right}
 
 -- an answer to an ask
-abbrev pub ask_gives : Report → List ℕ → Reader → Asked
+abbrev pub ask_gives : Option Report → List ℕ → Reader → Asked
 ask_gives report payload reader = record { report = report; payload = payload; reader = reader }
 
 -- a head that is obeyed: its frame is all held
@@ -52,11 +52,11 @@ body_held header (Good l) n held fits =
 
 module _ (reader : Reader) (k : ℕ) (is-k : k ≡ span (header_bytes reader.line.header) reader.head) where
   pub nothing_asked : (payload : List ℕ) → (eqb k 0 || ltb reader.len k || ltb longest_frame reader.len) ≡ true → payload ≡ padded most_payload []
-      → ask_gives Nothing payload reader ≡ asked reader
+      → ask_gives None payload reader ≡ asked reader
   unfolding asked
   nothing_asked payload none empty = rw (← is-k, none, empty)
 
-  pub report_asked : (h l : ℕ) (report : Report) (payload : List ℕ) (next : Reader)
+  pub report_asked : (h l : ℕ) (report : Option Report) (payload : List ℕ) (next : Reader)
       → (eqb k 0 || ltb reader.len k || ltb longest_frame reader.len) ≡ false → h ≡ length (header_bytes reader.line.header)
       → l ≡ body_length reader.head
       → report ≡ told reader.line.checking reader.head (take (h + 1 + l - (h + 1)) (drop (h + 1) reader.held))
@@ -76,22 +76,22 @@ module _ (reader : Reader) (k : ℕ) (is-k : k ≡ span (header_bytes reader.lin
       rw (is-report, is-payload, is_next, body, rest, ← is-k, obeyed)
 
 -- "'Nothing' changes nothing."
-none_there : (header : List ℕ) (checking : Bool) (head : Look) (body : List ℕ) (n : ℕ) → told checking head body ≡ Nothing
+none_there : (header : List ℕ) (checking : Bool) (head : Look) (body : List ℕ) (n : ℕ) → told checking head body ≡ None
     → (eqb (span header head) 0 || ltb n (span header head) || ltb longest_frame n) ≡ true
 none_there header checking Pass body n none = refl
 none_there header checking Wait body n none = refl
 none_there header checking (Bad command) body n none = absurd (let z : ◌≡◌ {A = ℕ} 0 1 = cc in omega arith)
 none_there header checking (Good l) body n none = absurd (let z : ◌≡◌ {A = ℕ} 0 1 = cc in omega arith)
 
-keeps_if : (none : Bool) (reader next : Reader) (report : Report) (payload empty : List ℕ) → (report ≡ Nothing → none ≡ true)
-    → (cond none (ask_gives Nothing empty reader) (ask_gives report payload next)).report ≡ Nothing
-    → (cond none (ask_gives Nothing empty reader) (ask_gives report payload next)).reader ≡ reader
+keeps_if : (none : Bool) (reader next : Reader) (report : Option Report) (payload empty : List ℕ) → (report ≡ None → none ≡ true)
+    → (cond none (ask_gives None empty reader) (ask_gives report payload next)).report ≡ None
+    → (cond none (ask_gives None empty reader) (ask_gives report payload next)).reader ≡ reader
 keeps_if true reader next report payload empty only is = refl
 keeps_if false reader next report payload empty only is =
     let e : false ≡ true = only is in
     absurd (let z : ◌≡◌ {A = ℕ} 0 1 = cc in omega arith)
 
-pub nothing_keeps : (reader : Reader) → (asked reader).report ≡ Nothing → (asked reader).reader ≡ reader
+pub nothing_keeps : (reader : Reader) → (asked reader).report ≡ None → (asked reader).reader ≡ reader
 unfolding asked
 nothing_keeps reader is =
     let header : List ℕ = header_bytes reader.line.header in

@@ -2,6 +2,7 @@
 use mathlib.Core.Path.{◌≡◌, refl, sym, ap, ◌∙◌}
 use mathlib.Core.Bool.{Bool, true, false, cond, not, ◌&&◌}
 use mathlib.Core.List.{List, [], ◌∷◌, ◌++◌, append_assoc}
+use Rattle.std.specs.Prelude.{None, Ok, Err}
 use Prim.Native.Nat.{ℕ, suc, ◌+◌, ◌-◌, ◌≤◌, ◌<◌}
 use native.Mathlib.Omega.{arith}
 use borrow.Author.Tests.{lt-ltb, le-ltb, ne_eqb}
@@ -25,9 +26,8 @@ use Rattle.place.specs.Looks.{shown}
 use Rattle.place.proofs.Stops.{look_nothing}
 use Rattle.line.specs.declared.Line.{Line}
 use Rattle.line.specs.declared.Reader.{Reader}
-use Rattle.line.specs.declared.Answer.TheVariants.{Done, Waits}
+use Rattle.line.specs.declared.Waiting.TheVariants.{ReportWaits}
 use Rattle.line.specs.declared.Asked.{Asked}
-use Rattle.line.specs.declared.Report.TheVariants.{Nothing}
 use Rattle.line.specs.State.{rules_for, padded, reader_of, kept_of}
 use Rattle.line.specs.Methods.{is_answer, busy, gives, given_byte, given_mark, asked}
 use Rattle.line.specs.Reached.{Reached, report_as, payload_as}
@@ -91,12 +91,12 @@ waiting_is line kept reached = go (waiting (rules_for line) kept) refl
 
 -- a byte and a mark
 pub byte_carried : (line : Line) (kept : Kept) (b : ℕ) → Reached line kept → given_byte (reader_of line kept) b
-    ≡ cond (waiting (rules_for line) kept) (gives Waits (reader_of line kept)) (gives Done (reader_of line (with_byte (rules_for line) kept b)))
+    ≡ cond (waiting (rules_for line) kept) (gives (Err ReportWaits) (reader_of line kept)) (gives (Ok tt) (reader_of line (with_byte (rules_for line) kept b)))
 unfolding given_byte
 byte_carried line kept b reached = rw (waiting_is line kept reached, take_padded longest_frame (length kept.bytes) kept.bytes refl)
 
 pub mark_carried : (line : Line) (kept : Kept) → Reached line kept → given_mark (reader_of line kept)
-    ≡ cond (waiting (rules_for line) kept) (gives Waits (reader_of line kept)) (gives Done (reader_of line (with_mark (rules_for line) kept)))
+    ≡ cond (waiting (rules_for line) kept) (gives (Err ReportWaits) (reader_of line kept)) (gives (Ok tt) (reader_of line (with_mark (rules_for line) kept)))
 unfolding given_mark
 mark_carried line kept reached = rw (waiting_is line kept reached, take_padded longest_frame (length kept.bytes) kept.bytes refl)
 
@@ -173,8 +173,8 @@ answered line kept seen =
     }
 
 none_handed : (line : Line) (kept : Kept) (seen : Seen) → look (rules_for line) kept.closed kept.bytes ≡ seen
-    → ask_gives Nothing (padded most_payload []) (headed line kept seen) ≡ ask_gives Nothing (padded most_payload []) (reader_of line kept)
-none_handed line kept seen is = ap (λ (s : Seen). ask_gives Nothing (padded most_payload []) (headed line kept s)) (sym is)
+    → ask_gives None (padded most_payload []) (headed line kept seen) ≡ ask_gives None (padded most_payload []) (reader_of line kept)
+none_handed line kept seen is = ap (λ (s : Seen). ask_gives None (padded most_payload []) (headed line kept s)) (sym is)
 
 no_content : (checking : Bool) → content_of checking [] ≡ []
 unfolding content_of

@@ -2,6 +2,7 @@
 use mathlib.Core.Path.{◌≡◌, sym, ap, ◌∙◌}
 use mathlib.Core.Bool.{Bool, not, ◌&&◌}
 use mathlib.Core.List.{List}
+use Rattle.std.specs.Prelude.{Some}
 use Prim.Native.Nat.{ℕ, ◌+◌, ◌-◌, ◌≤◌, ◌<◌}
 use native.Mathlib.Omega.{arith}
 use borrow.Author.Tests.{lt-ltb, le-ltb}
@@ -47,11 +48,11 @@ content_part checking body c end is_c is-end =
     let same : length body - check_length checking ≡ end = omega arith in
     rw same (drop_take 1 end body)
 
-pub told_bad : (checking : Bool) (look : Look) (body : List ℕ) (command : ℕ) → look ≡ Bad command → BadCheck command ≡ told checking look body
+pub told_bad : (checking : Bool) (look : Look) (body : List ℕ) (command : ℕ) → look ≡ Bad command → Some (BadCheck command) ≡ told checking look body
 told_bad checking look body command is = rw is
 
 pub told_good : (checking : Bool) (look : Look) (body : List ℕ) (l command n c : ℕ) → look ≡ Good l → command ≡ get_or body 0 0
-    → c ≡ check_length checking → n ≡ length body - (1 + c) → Accepted command n ≡ told checking look body
+    → c ≡ check_length checking → n ≡ length body - (1 + c) → Some (Accepted command n) ≡ told checking look body
 told_good checking look body l command n c is is-command is_c is-n =
     let long : n ≡ length (drop 1 (content_of checking body)) = is-n ∙ ap (λ (k : ℕ). length body - (1 + k)) is_c ∙ sym (content_long checking body) in
     rw (is, is-command, long)

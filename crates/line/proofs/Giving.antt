@@ -2,6 +2,7 @@
 use mathlib.Core.Path.{◌≡◌, sym, ap, ◌∙◌}
 use mathlib.Core.Bool.{Bool, true, false, not}
 use mathlib.Core.List.{List, [], ◌∷◌, ◌++◌}
+use Rattle.std.specs.Prelude.{Ok, Err}
 use Prim.Native.Nat.{ℕ, ◌+◌, ◌≤◌, ◌<◌}
 use native.Mathlib.Omega.{arith}
 use native.Mathlib.Numerals.{add-one}
@@ -18,7 +19,7 @@ use Rattle.place.specs.declared.Look.TheVariants.{Wait}
 use Rattle.place.proofs.Stops.{look_nothing}
 use Rattle.line.specs.declared.Line.{Line}
 use Rattle.line.specs.declared.Reader.{Reader}
-use Rattle.line.specs.declared.Answer.TheVariants.{Done, Waits}
+use Rattle.line.specs.declared.Waiting.TheVariants.{ReportWaits}
 use Rattle.line.specs.State.{rules_for, padded, reader_of, settled_reader, no_reader}
 use Rattle.line.specs.Methods.{is_answer, takes, busy, gives, given_byte, given_mark}
 use Rattle.wire.proofs.Truths.{and_left}
@@ -69,24 +70,24 @@ module _ (reader : Reader) (r : Bool) (is : r ≡ takes reader.len reader.head) 
 
   pub byte_taken : (b : ℕ) (next : Reader) → r ≡ true → length reader.held ≡ longest_frame
       → next ≡ settled_reader reader.line false (take (reader.len + 1) (set reader.held reader.len b))
-      → gives Done next ≡ given_byte reader b
+      → gives (Ok tt) next ≡ given_byte reader b
   unfolding given_byte with_byte
   byte_taken b next free long is_next =
       let room : reader.len < longest_frame = below_full reader.len reader.head r is free in
       let inside : reader.len < length reader.held = omega arith in
       let more : take (reader.len + 1) (set reader.held reader.len b) ≡ take reader.len reader.held ++ (b ∷ []) =
       rw (add-one reader.len) (take-suc-set reader.held reader.len b inside) in
-      rw (is_busy, free) (ap (gives Done) (is_next ∙ ap (settled_reader reader.line false) more))
+      rw (is_busy, free) (ap (gives (Ok tt)) (is_next ∙ ap (settled_reader reader.line false) more))
 
-  pub byte_refused : (b : ℕ) → r ≡ false → gives Waits reader ≡ given_byte reader b
+  pub byte_refused : (b : ℕ) → r ≡ false → gives (Err ReportWaits) reader ≡ given_byte reader b
   unfolding given_byte
   byte_refused b full = rw (is_busy, full)
 
   pub mark_taken : (next : Reader) → r ≡ true → next ≡ settled_reader reader.line true (take reader.len reader.held)
-      → gives Done next ≡ given_mark reader
+      → gives (Ok tt) next ≡ given_mark reader
   unfolding given_mark with_mark
-  mark_taken next free is_next = rw (is_busy, free) (ap (gives Done) is_next)
+  mark_taken next free is_next = rw (is_busy, free) (ap (gives (Ok tt)) is_next)
 
-  pub mark_refused : r ≡ false → gives Waits reader ≡ given_mark reader
+  pub mark_refused : r ≡ false → gives (Err ReportWaits) reader ≡ given_mark reader
   unfolding given_mark
   mark_refused full = rw (is_busy, full)

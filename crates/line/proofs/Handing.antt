@@ -2,6 +2,7 @@
 use mathlib.Core.Path.{◌≡◌, refl, sym, ap, ◌∙◌}
 use mathlib.Core.Bool.{Bool, true, false, ◌&&◌, ◌||◌}
 use mathlib.Core.List.{List, [], ◌∷◌, ◌++◌, append-nil}
+use Rattle.std.specs.Prelude.{Option, None}
 use Prim.Native.Nat.{ℕ, ◌+◌, ◌-◌, ◌≤◌, ◌<◌}
 use native.Mathlib.Nat.{sub-zero}
 use native.Mathlib.Omega.{arith}
@@ -21,7 +22,6 @@ use Rattle.place.proofs.Stops.{look_nothing}
 use Rattle.line.specs.declared.Line.{Line}
 use Rattle.line.specs.declared.Reader.{Reader}
 use Rattle.line.specs.declared.Report.{Report}
-use Rattle.line.specs.declared.Report.TheVariants.{Nothing}
 use Rattle.line.specs.declared.Handover.{Handover}
 use Rattle.line.specs.declared.Asked.{Asked}
 use Rattle.line.specs.declared.Fed.{Fed}
@@ -198,7 +198,7 @@ module _ (line : Line) (closed : Bool) (n k : ℕ) (held : List ℕ) (stop : Sto
       rw (rest_long, z) at (settled_is line closed (take (n - k) (drop k held)) stop is left' front)
 
 -- the report, its data and what is left
-pub report_handed : (reader : Reader) (h l k len : ℕ) (look : Look) (report : Report) (payload left : List ℕ)
+pub report_handed : (reader : Reader) (h l k len : ℕ) (look : Look) (report : Option Report) (payload left : List ℕ)
     → k ≡ span (header_bytes reader.line.header) reader.head → h ≡ length (header_bytes reader.line.header) → l ≡ body_length reader.head
     → report ≡ told reader.line.checking reader.head (take (h + 1 + l - (h + 1)) (drop (h + 1) reader.held))
     → payload
@@ -219,7 +219,7 @@ report_handed reader h l k len look report payload left is-k is-h is-l is-report
 
 module _ (reader : Reader) (k : ℕ) (is-k : k ≡ span (header_bytes reader.line.header) reader.head) where
   pub nothing_handed_asked : (t : Handover) (payload left : List ℕ) → (eqb k 0 || ltb reader.len k || ltb longest_frame reader.len) ≡ true → payload ≡ padded most_payload []
-      → t ≡ record { report = Nothing; len = reader.len; closed = reader.closed; head = reader.head } → left ≡ reader.held
+      → t ≡ record { report = None; len = reader.len; closed = reader.closed; head = reader.head } → left ≡ reader.held
       → asked_with reader.line t payload left ≡ asked reader
   nothing_handed_asked t payload left none empty is-t is-left = rw (is-t, is-left) (nothing_asked reader k is-k payload none empty)
 

@@ -2,6 +2,7 @@
 use mathlib.Core.Path.{◌≡◌, refl, ap, ◌∙◌}
 use mathlib.Core.Bool.{Bool, true, false, cond, not, ◌||◌}
 use mathlib.Core.List.{List, [], ◌∷◌}
+use Rattle.std.specs.Prelude.{Some, None, Ok, Err}
 use Prim.Native.Nat.{ℕ, ◌+◌}
 use native.Mathlib.Omega.{arith}
 use borrow.Author.Tests.{ne_eqb}
@@ -13,8 +14,8 @@ use Rattle.place.specs.declared.Look.{Look}
 use Rattle.place.specs.declared.Look.TheVariants.{Pass, Wait, Bad, Good}
 use Rattle.line.specs.declared.Reader.{Reader}
 use Rattle.line.specs.declared.Given.{Given}
-use Rattle.line.specs.declared.Answer.TheVariants.{Done, Waits}
-use Rattle.line.specs.declared.Report.TheVariants.{Accepted, BadCheck, Nothing}
+use Rattle.line.specs.declared.Waiting.TheVariants.{ReportWaits}
+use Rattle.line.specs.declared.Report.TheVariants.{Accepted, BadCheck}
 use Rattle.line.specs.declared.Asked.{Asked}
 use Rattle.line.specs.State.{padded}
 use Rattle.line.specs.Methods.{number_of_answer, busy, gives, answer_said, input_listed, input_said, given_byte, given_mark, is_answer, span, told, asked}
@@ -22,7 +23,7 @@ use Rattle.line.specs.Front.{report_said, hands_nothing, is_bad, bad_command, fr
 use Rattle.line.proofs.Asking.{ask_gives}
 
 refused_or_done : (reader next : Reader) (w : Bool) → busy reader ≡ w
-    → answer_said (cond w (gives Waits reader) (gives Done next)).answer ≡ input_said reader
+    → answer_said (cond w (gives (Err ReportWaits) reader) (gives (Ok tt) next)).answer ≡ input_said reader
 unfolding answer_said number_of_answer input_listed first_said
 refused_or_done reader next true is = rw is
 refused_or_done reader next false is = rw is
@@ -44,8 +45,8 @@ nothing_same header (Good l) = ne_eqb (length header + 1 + l) 0 (λ e. omega ari
 
 -- what is handed over, by what stands at the front
 pub front_report : (reader : Reader) → (asked reader).report
-    ≡ cond (hands_nothing reader) Nothing
-    (cond (is_bad reader.head) (BadCheck (bad_command reader.head)) (Accepted (front_command reader) (length (front_content reader))))
+    ≡ cond (hands_nothing reader) None
+    (cond (is_bad reader.head) (Some (BadCheck (bad_command reader.head))) (Some (Accepted (front_command reader) (length (front_content reader)))))
 unfolding asked hands_nothing front_command front_content
 front_report reader =
     let header : List ℕ = header_bytes reader.line.header in
@@ -56,9 +57,9 @@ front_report reader =
     checking = reader.line.checking
 
     go : (head : Look) (a b : Bool) (body empty payload : List ℕ) (next : Reader)
-        → (cond (not (is_answer head) || a || b) (ask_gives Nothing empty reader) (ask_gives (told checking head body) payload next)).report
-        ≡ cond (not (is_answer head) || a || b) Nothing
-        (cond (is_bad head) (BadCheck (bad_command head)) (Accepted (get_or body 0 0) (length (drop 1 (content_of checking body)))))
+        → (cond (not (is_answer head) || a || b) (ask_gives None empty reader) (ask_gives (told checking head body) payload next)).report
+        ≡ cond (not (is_answer head) || a || b) None
+        (cond (is_bad head) (Some (BadCheck (bad_command head))) (Some (Accepted (get_or body 0 0) (length (drop 1 (content_of checking body))))))
     go Pass a b body empty payload next = refl
     go Wait a b body empty payload next = refl
     go (Bad command) true b body empty payload next = refl
@@ -78,7 +79,7 @@ unfolding report_said front_listed first_said
 front_as_listed reader = ap report_said (front_report reader) ∙ go (hands_nothing reader) (is_bad reader.head) _ _ _
   where
     go : (none bad : Bool) (c x y : ℕ)
-        → report_said (cond none Nothing (cond bad (BadCheck c) (Accepted x y))) ≡ cond none [] (cond bad (c ∷ []) (x ∷ y ∷ []))
+        → report_said (cond none None (cond bad (Some (BadCheck c)) (Some (Accepted x y)))) ≡ cond none [] (cond bad (c ∷ []) (x ∷ y ∷ []))
     go true bad c x y = refl
     go false true c x y = refl
     go false false c x y = refl

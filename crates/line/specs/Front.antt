@@ -1,20 +1,20 @@
 -- 01, "Reading the line": what an ask is answered, by what stands at the front. 01 gives a report no number, so what is said are its values.
-use Rattle.std.specs.Prelude.{ℕ, ◌+◌, Bool, true, false, not, ◌||◌, List, [], ◌∷◌, ltb, length, get_or, take, drop}
+use Rattle.std.specs.Prelude.{ℕ, ◌+◌, Bool, true, false, not, ◌||◌, List, [], ◌∷◌, ltb, length, get_or, take, drop, Option, Some, None}
 use Rattle.wire.specs.Numbers.{Entry, ◌when◌, first_said}
 use Rattle.frame.specs.Frame.{header_bytes, content_of, longest_frame}
 use Rattle.place.specs.declared.Look.{Look}
 use Rattle.place.specs.declared.Look.TheVariants.{Pass, Wait, Bad, Good}
 use Rattle.line.specs.declared.Reader.{Reader}
 use Rattle.line.specs.declared.Report.{Report}
-use Rattle.line.specs.declared.Report.TheVariants.{Accepted, BadCheck, Nothing}
+use Rattle.line.specs.declared.Report.TheVariants.{Accepted, BadCheck}
 use Rattle.line.specs.State.{kept_of}
 use Rattle.line.specs.Methods.{is_answer, body_length, span}
 
 -- each report: "a bad check with the command byte"; "an accepted frame with its command and data", how much data there is
-unfoldable pub report_said : Report → List ℕ
-report_said Nothing = []
-report_said (BadCheck command) = command ∷ []
-report_said (Accepted command count) = command ∷ count ∷ []
+unfoldable pub report_said : Option Report → List ℕ
+report_said None = []
+report_said (Some (BadCheck command)) = command ∷ []
+report_said (Some (Accepted command count)) = command ∷ count ∷ []
 
 -- "nothing": no report stands at the front, or its frame is not all held, as in no reader that is reached
 unfoldable pub hands_nothing : Reader → Bool

@@ -1,24 +1,28 @@
 -- What each method of the reader answers, on every reader.
-use Rattle.std.specs.Prelude.{ℕ, ◌+◌, Bool, true, false, cond, not, ◌&&◌, ◌||◌, List, [], ◌∷◌, eqb, ltb, length, get_or, take, drop}
+use Rattle.std.specs.Prelude.{ℕ, ◌+◌, Bool, true, false, cond, not, ◌&&◌, ◌||◌, List, [], ◌∷◌, eqb, ltb, length, get_or, take, drop, Option, Some, None, Result, Ok, Err}
 use Rattle.frame.specs.Frame.{header_bytes, content_of, longest_frame, most_payload}
 use Rattle.reading.specs.Moves.{with_byte, with_mark}
 use Rattle.place.specs.declared.Look.{Look}
 use Rattle.place.specs.declared.Look.TheVariants.{Pass, Wait, Bad, Good}
 use Rattle.line.specs.declared.Reader.{Reader}
-use Rattle.line.specs.declared.Answer.{Answer}
-use Rattle.line.specs.declared.Answer.TheVariants.{Done, Waits}
+use Rattle.line.specs.declared.Waiting.{Waiting}
+use Rattle.line.specs.declared.Waiting.TheVariants.{ReportWaits}
 use Rattle.line.specs.declared.Given.{Given}
 use Rattle.line.specs.declared.Gave.{Gave}
 use Rattle.line.specs.declared.Report.{Report}
-use Rattle.line.specs.declared.Report.TheVariants.{Accepted, BadCheck, Nothing}
+use Rattle.line.specs.declared.Report.TheVariants.{Accepted, BadCheck}
 use Rattle.line.specs.declared.Asked.{Asked}
 use Rattle.wire.specs.Numbers.{Said, says, Listed, ◌when◌, first_said}
 use Rattle.line.specs.State.{rules_for, padded, reader_of, kept_of, settled_reader}
 
+-- what an input is answered: it is taken, or a report waits
+abbrev pub Answer : Type 0
+Answer = Result Unit Waiting
+
 -- "0: done", "1: an input comes while a report waits": the number of each answer
 unfoldable pub number_of_answer : Answer → ℕ
-number_of_answer Done = 0
-number_of_answer Waits = 1
+number_of_answer (Ok tt) = 0
+number_of_answer (Err ReportWaits) = 1
 
 -- "report a bad check"; "report an accepted frame": whether what stands there is a report
 abbrev pub is_answer : Look → Bool
@@ -54,12 +58,12 @@ input_said reader = first_said (input_listed reader) (says 0 [])
 -- "Bytes or marks are given one at a time"; "otherwise a refusal changes nothing"
 unfoldable pub given_byte : Reader → ℕ → Given
 given_byte reader b =
-    cond (busy reader) (gives Waits reader) (gives Done (reader_of reader.line (with_byte (rules_for reader.line) (kept_of reader) b)))
+    cond (busy reader) (gives (Err ReportWaits) reader) (gives (Ok tt) (reader_of reader.line (with_byte (rules_for reader.line) (kept_of reader) b)))
 
 -- "Bytes or marks are given one at a time"; "otherwise a refusal changes nothing"
 unfoldable pub given_mark : Reader → Given
 given_mark reader =
-    cond (busy reader) (gives Waits reader) (gives Done (reader_of reader.line (with_mark (rules_for reader.line) (kept_of reader))))
+    cond (busy reader) (gives (Err ReportWaits) reader) (gives (Ok tt) (reader_of reader.line (with_mark (rules_for reader.line) (kept_of reader))))
 
 -- builds what a block of bytes is answered: how many of them were taken, and the reader as it is then
 abbrev pub gave : ℕ → Reader → Gave
@@ -90,11 +94,11 @@ span header (Bad command) = 1
 span header (Good l) = length header + 1 + l
 
 -- "report a bad check with the command byte"; "report an accepted frame with its command and data"; `body` is its L bytes
-abbrev pub told : Bool → Look → List ℕ → Report
-told checking Pass body = Nothing
-told checking Wait body = Nothing
-told checking (Bad command) body = BadCheck command
-told checking (Good l) body = Accepted (get_or body 0 0) (length (drop 1 (content_of checking body)))
+abbrev pub told : Bool → Look → List ℕ → Option Report
+told checking Pass body = None
+told checking Wait body = None
+told checking (Bad command) body = Some (BadCheck command)
+told checking (Good l) body = Some (Accepted (get_or body 0 0) (length (drop 1 (content_of checking body))))
 
 -- "'Nothing' changes nothing." A head whose frame is not all held belongs to no reader that is reached, and hands nothing over.
 unfoldable pub asked : Reader → Asked
@@ -105,7 +109,7 @@ asked reader =
     let k = span header reader.head in
     let body = take (body_length reader.head) (drop (length header + 1) xs) in
     cond (eqb k 0 || ltb reader.len k || ltb longest_frame reader.len)
-    (record { report = Nothing; payload = padded most_payload []; reader = reader })
+    (record { report = None; payload = padded most_payload []; reader = reader })
     (record {
       report = told checking reader.head body;
       payload = padded most_payload (drop 1 (content_of checking body));

@@ -1,8 +1,7 @@
 // Asking: the next report is handed over with its data, and what is behind it settles.
-ghost use Rattle.std.specs.Prelude.{◌≡◌, [], ◌+◌, ◌-◌, ◌≤◌, length, take, drop};
+ghost use Rattle.std.specs.Prelude.{◌≡◌, [], ◌+◌, ◌-◌, ◌≤◌, length, take, drop, None};
 ghost use Rattle.frame.specs.Frame.{header_bytes, content_of, longest_frame, most_payload};
 ghost use Rattle.line.specs.State.{padded};
-ghost use Rattle.line.specs.declared.Report.TheVariants.{Nothing};
 ghost use Rattle.line.specs.Front.{report_said, front_said};
 ghost use Rattle.line.specs.Inner.{asked_with, answer_with_report};
 ghost use Rattle.line.specs.Methods.{body_length, span, told, asked};
@@ -12,19 +11,16 @@ use frame::LONGEST_FRAME;
 use place::Look;
 
 // The report on a frame, by what stands there and its L bytes.
-fn report_on(checking: bool, look: Look, body: &[u8]) -> Report
+fn report_on(checking: bool, look: Look, body: &[u8]) -> Option<Report>
     ensures { result ≡ told checking look body.now }
 {
     let command = wire::byte_at(body, 0);
     let len = wire::above(body.len(), 1 + frame::check_length(checking));
     match look {
-        Look::Pass => Report::Nothing,
-        Look::Wait => Report::Nothing,
-        Look::Bad(c) => Report::BadCheck(c),
-        Look::Good(_) => Report::Accepted {
-            command: command,
-            len: len,
-        },
+        Look::Pass => None,
+        Look::Wait => None,
+        Look::Bad(c) => Some(Report::BadCheck(c)),
+        Look::Good(_) => Some(Report::Accepted { command, len }),
     }
 }
 
@@ -68,12 +64,12 @@ fn put_payload(reader: Reader, out: &mut [u8])
 // Nothing is handed over, and all stays.
 fn hand_nothing(reader: Reader, left: &mut [u8]) -> Handover
     requires { left.old ≡ padded longest_frame [] }
-    ensures { (result ≡ record { report = Nothing; len = reader.len; closed = reader.closed; head = reader.head }) × (left.new ≡ reader.held) }
+    ensures { (result ≡ record { report = None; len = reader.len; closed = reader.closed; head = reader.head }) × (left.new ≡ reader.held) }
 {
     let head = reader.head;
     arrays::put_held(reader, 0, LONGEST_FRAME, left);
     Handover {
-        report: Report::Nothing,
+        report: None,
         len: reader.len,
         closed: reader.closed,
         head: head,

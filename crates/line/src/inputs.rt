@@ -4,7 +4,7 @@ ghost use Rattle.reading.specs.Moves.{fresh};
 ghost use Rattle.line.specs.State.{reader_of, no_reader};
 ghost use Rattle.line.specs.Methods.{busy, answer_said, input_said, given_byte, given_mark, given_bytes};
 
-use crate::{Answer, Gave, Given, Line, Reader, arrays, feed, head, settle};
+use crate::{Gave, Given, Line, Reader, Waiting, arrays, feed, head, settle};
 use frame::{Header, LONGEST_FRAME};
 use place::Look;
 
@@ -64,12 +64,12 @@ impl Reader {
             held[n] = b;
             let next = settle::settle(line, false, &held[..n + 1]);
             Given {
-                answer: Answer::Done,
+                answer: Ok(()),
                 reader: next,
             }
         } else {
             Given {
-                answer: Answer::Waits,
+                answer: Err(Waiting::ReportWaits),
                 reader: self,
             }
         }
@@ -87,12 +87,12 @@ impl Reader {
             let held = self.held;
             let next = settle::settle(line, true, &held[..n]);
             Given {
-                answer: Answer::Done,
+                answer: Ok(()),
                 reader: next,
             }
         } else {
             Given {
-                answer: Answer::Waits,
+                answer: Err(Waiting::ReportWaits),
                 reader: self,
             }
         }

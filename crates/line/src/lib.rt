@@ -35,17 +35,16 @@ pub struct Reader {
     head: Look,
 }
 
-// What an input is answered.
-#[derive(Clone, Copy)]
-pub enum Answer {
-    Done,
-    // A report waits: the input was not taken.
-    Waits,
+// Why an input is not taken.
+#[derive(Clone, Copy, Debug, PartialEq, Eq)]
+pub enum Waiting {
+    // A report waits, and is to be asked for first.
+    ReportWaits,
 }
 
 #[derive(Clone, Copy)]
 pub struct Given {
-    pub answer: Answer,
+    pub answer: Result<(), Waiting>,
     pub reader: Reader,
 }
 
@@ -56,17 +55,16 @@ pub struct Gave {
     pub reader: Reader,
 }
 
-// What an ask is answered. The data of an accepted frame stands beside it.
+// What a frame is reported as. The data of an accepted one stands beside the report.
 #[derive(Clone, Copy)]
 pub enum Report {
     Accepted { command: u8, len: usize },
     BadCheck(u8),
-    Nothing,
 }
 
 #[derive(Clone, Copy)]
 pub struct Asked {
-    pub report: Report,
+    pub report: Option<Report>,
     pub payload: [u8; MOST_PAYLOAD],
     pub reader: Reader,
 }
@@ -91,7 +89,7 @@ struct Step {
 // What an ask answers and leaves, but for its arrays.
 #[derive(Clone, Copy)]
 struct Handover {
-    report: Report,
+    report: Option<Report>,
     len: usize,
     closed: bool,
     head: Look,

@@ -1,7 +1,7 @@
 // The line reader for bench/line: a whole buffer given, all reports asked for, and a sum over them that shows that the work was done.
 #![tactic(auto)]
 
-ghost use Rattle.std.specs.Prelude.{◌≡◌, min};
+ghost use Rattle.std.specs.Prelude.{◌≡◌};
 ghost use Rattle.line_bench.specs.Sum.{wrapped, bench_sum};
 ghost use Rattle.line_bench.specs.Inner.{weight_told};
 
@@ -9,41 +9,31 @@ use frame::Header;
 use line::{Reader, Report};
 
 // What one report adds to the sum.
-fn weight(report: Report, first: u8) -> u64
+fn weight(report: Option<Report>, first: u8) -> u64
     ensures { result ≡ wrapped (weight_told report first) }
 {
     match report {
-        Report::Accepted { command, len } => {
-            let a = std::num::wrapping_add_u64(65536 + (command as u64), len as u64);
-            std::num::wrapping_add_u64(a, first as u64)
+        Some(Report::Accepted { command, len }) => {
+            let a = std::num::wrapping_add_u64(65536 + u64::from(command), len as u64);
+            std::num::wrapping_add_u64(a, u64::from(first))
         }
-        Report::BadCheck(command) => command as u64,
-        Report::Nothing => 0,
+        Some(Report::BadCheck(command)) => u64::from(command),
+        None => 0,
     }
-}
-
-// The smaller of two.
-fn least(a: usize, b: usize) -> usize
-    ensures { result ≡ min a b }
-{
-    if a < b { a } else { b }
 }
 
 // The bytes given, up to `chunk` a call of give_bytes, or with a chunk of 0 one a call of give_byte; each report is asked for as soon as it waits.
 fn sum_of(h1: u8, h2: u8, checking: bool, input: &[u8], chunk: usize) -> u64
     ensures { result ≡ bench_sum (record { h1 = h1; h2 = h2 }) checking input.now }
 {
-    let mut reader = Reader::new(Header { h1: h1, h2: h2 }, checking);
+    let mut reader = Reader::new(Header { h1, h2 }, checking);
     let mut sum = 0u64;
     let mut i = 0usize;
     loop {
         if reader.is_waiting() {
             let asked = reader.ask();
-            let payload = asked.payload;
-            let report = asked.report;
-            sum = std::num::wrapping_add_u64(sum, weight(report, payload[0]));
-            let next = asked.reader;
-            reader = next;
+            sum = std::num::wrapping_add_u64(sum, weight(asked.report, asked.payload[0]));
+            reader = asked.reader;
         } else {
             let left = input.len() - i;
             if left == 0 {
@@ -51,13 +41,11 @@ fn sum_of(h1: u8, h2: u8, checking: bool, input: &[u8], chunk: usize) -> u64
             }
             if chunk == 0 {
                 let given = reader.give_byte(input[i]);
-                let next = given.reader;
-                reader = next;
+                reader = given.reader;
                 i += 1;
             } else {
-                let gave = reader.give_bytes(&input[i..i + least(chunk, left)]);
-                let next = gave.reader;
-                reader = next;
+                let gave = reader.give_bytes(&input[i..i + chunk.min(left)]);
+                reader = gave.reader;
                 i += gave.used;
             }
         }

@@ -2,8 +2,8 @@
 use Rattle.line_bench.proofs.Summing.{Summing, turns_left}
 use Rattle.line_bench.proofs.sum_of.Given as goal
 
-abbrev pub invariant-loop-asked : goal.invariant-loop-asked
-invariant-loop-asked l = Summing (record { h1 = l.h1; h2 = l.h2 }) l.checking l.input l.reader l.sum l.i
+abbrev pub invariant-loop-reader : goal.invariant-loop-reader
+invariant-loop-reader l = Summing (record { h1 = l.h1; h2 = l.h2 }) l.checking l.input l.reader l.sum l.i
 
-abbrev pub decreases-loop-asked : goal.decreases-loop-asked
-decreases-loop-asked l = turns_left l.input l.reader l.i
+abbrev pub decreases-loop-reader : goal.decreases-loop-reader
+decreases-loop-reader l = turns_left l.input l.reader l.i
