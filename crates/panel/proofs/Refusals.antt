@@ -122,8 +122,8 @@ module _ (panel : Panel) (lent : Lent) where
       → 0 < report_number (handing a (Some (line.Accepted command count)) panel lent).reported.handed
       → handing a (Some (line.Accepted command count)) panel lent
       ≡ reports (record {
-        handed = handed.Accepted command count (outcome (fixed_for panel.setup) (length lent.words) command (take count a.payload))
-            (acknowledged panel.setup command true lent.room).count 0;
+        handed = Ok (Some (handed.Accepted command count (outcome (fixed_for panel.setup) (length lent.words) command (take count a.payload))
+            (acknowledged panel.setup command true lent.room).count 0));
         payload = a.payload;
         panel = with_reader panel a.reader;
       }) (with_room lent (acknowledged panel.setup command true lent.room).room)

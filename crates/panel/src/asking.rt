@@ -72,6 +72,7 @@ fn is_lent(words: usize, curves: usize, room: usize) -> bool
 }
 
 // Why no report is handed over: 14, then 16.
+#[tactic(auto, unfolding(crate::specs::Inner::ask_judged))]
 fn judge(lent: bool, wrong: bool) -> Result<(), LentError>
     ensures { result ≡ ask_judged lent wrong }
 {
@@ -225,13 +226,15 @@ fn hand_over(
     requires { length payload.now ≡ most_payload }
     ensures { (rest : Lent) → overs result (with_words_room rest words.new room.new) ≡ handing_over setup (holding registers.now) report payload.now (with_words_room rest words.old room.old) }
 {
+    let Some(report) = report else {
+        return only(None);
+    };
     match report {
-        None => only(None),
-        Some(Report::BadCheck(command)) => {
+        Report::BadCheck(command) => {
             let acknowledged = acknowledge(setup, command, false, room);
             only(Some(Handed::BadCheck(command, acknowledged)))
         }
-        Some(Report::Accepted { command, len }) => {
+        Report::Accepted { command, len } => {
             let content = &payload[..len.min(MOST_PAYLOAD)];
             accepted(command, len, accept(setup, registers, command, content, words, room))
         }

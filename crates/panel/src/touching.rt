@@ -115,7 +115,8 @@ impl Panel {
             return refuse(ContactError::TouchOff, self);
         }
         let setup = self.setup;
-        if (setup.width <= point.x) | (setup.height <= point.y) {
+        let on_screen = (point.x < setup.width) & (point.y < setup.height);
+        if !on_screen {
             return refuse(ContactError::OffScreen, self);
         }
         let pad = contact::touch_down(setup, self.pad(), table, words, point);
@@ -135,6 +136,7 @@ fn is_not_lent(words: usize, room: usize) -> bool
 }
 
 // What a contact is refused with before its table is looked at.
+#[tactic(auto, unfolding(crate::specs::Inner::before_table))]
 fn judge(short: bool, wrong: bool, waits: bool) -> Result<(), ContactError>
     ensures { result ≡ before_table short wrong waits }
 {

@@ -17,7 +17,8 @@ use words::WordAddress;
 
 // Notes the words of a write that is done, which stand in the words already.
 pub(crate) fn note(notes: bool, content: &[u8], words: &[u16], list: &mut WatchList<'_, '_>)
-    ensures { list.new ≡ with_sent list.old (noting notes content.now words.now (list_of list.old)).values }
+    ensures noted { list_of list.new ≡ noting notes content.now words.now (list_of list.old) }
+    ensures list_after { list.new ≡ with_sent list.old list.new.values.now }
 {
     if notes {
         let first = WordAddress(wire::word_at(content, 0));

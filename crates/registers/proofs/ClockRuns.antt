@@ -6,6 +6,7 @@ use mathlib.Core.List.{List}
 use Prim.Native.Nat.{ℕ, ◌+◌, ◌≤◌, ◌<◌}
 use native.Mathlib.Omega.{arith}
 use borrow.Author.Tests.{leb-true, leb-false, ltb-true, ltb-false, lt-ltb, le-leb, eqb-true}
+use Rattle.std.proofs.lemmas.Bool.Decides.{nat_tests}
 use lib.Dec.{eqb, leb, ltb}
 use lib.ListN.{length}
 use Rattle.wire.proofs.Truths.{never, and_left, and_right, or_left, or_right}
@@ -17,17 +18,12 @@ use Rattle.registers.specs.Run.{covers, all_writable, half_page, sets_clock, tou
 -- a run that is not empty and touches none of them lies before or behind them
 pub clock_apart : (address n : ℕ) → 0 < n → touches_clock address n ≡ false → (0x26 < address) ⊎ (address + n ≤ 0x1F)
 unfolding touches_clock
-clock_apart address n some none = go (leb address 0x26) refl (rw (lt-ltb 0 n some) at none)
-  where
-    go : (b : Bool) → leb address 0x26 ≡ b → (b && ltb 0x1F (address + n)) ≡ false → (0x26 < address) ⊎ (address + n ≤ 0x1F)
-    go true t none = inr (ltb-false 0x1F (address + n) none)
-    go false t none = inl (leb-false address 0x26 t)
+clock_apart address n some none = grind (arith, nat_tests)
 
 -- a run that touches them is not empty
 pub touched_some : (address n : ℕ) → touches_clock address n ≡ true → 0 < n
 unfolding touches_clock
-touched_some address n is =
-    ltb-true 0 n (and_left (ltb 0 n) (leb address 0x26) (and_left (ltb 0 n && leb address 0x26) (ltb 0x1F (address + n)) is))
+touched_some address n is = grind (arith, nat_tests)
 
 -- and has one of them: the first of both
 clock_had : (address n : ℕ) → touches_clock address n ≡ true → HasClockRegister address n
@@ -56,10 +52,7 @@ clock_had address n is =
 -- a run that has one of them touches them
 pub clock_touched : (address n register : ℕ) → is_clock register ≡ true → address ≤ register → register < address + n → touches_clock address n ≡ true
 unfolding touches_clock is_clock
-clock_touched address n register is from below =
-    let first : 0x1F ≤ register = leb-true 0x1F register (and_left (leb 0x1F register) (leb register 0x26) is) in
-    let last : register ≤ 0x26 = leb-true register 0x26 (and_right (leb 0x1F register) (leb register 0x26) is) in
-    rw (lt-ltb 0 n (omega arith), le-leb address 0x26 (omega arith), lt-ltb 0x1F (address + n) (omega arith))
+clock_touched address n register is from below = grind (arith, nat_tests)
 
 -- 02, §6, "a write touching some": exactly where one of the run's registers is one of the clock's
 pub touches_exactly : (address n : ℕ) → (touches_clock address n ≡ true) ↔ HasClockRegister address n
@@ -82,8 +75,7 @@ clock_outside address n register is none = go (covers address n register) refl
 -- the run that sets the clock
 pub setting_run : (address n : ℕ) → sets_clock address n ≡ true → (address ≡ set_register) × (n ≡ 8)
 unfolding sets_clock
-setting_run address n is =
-    (eqb-true address set_register (and_left (eqb address set_register) (eqb n 8) is), eqb-true n 8 (and_right (eqb address set_register) (eqb n 8) is))
+setting_run address n is = (grind (arith, nat_tests), grind (arith, nat_tests))
 
 -- a write that is not refused with 5 and does not set the clock touches none of its registers
 pub none_touched : (address n : ℕ) → unwritable_run address n ≡ false → sets_clock address n ≡ false → touches_clock address n ≡ false
