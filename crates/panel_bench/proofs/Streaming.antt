@@ -1,4 +1,5 @@
 -- Laws of a stream: bytes that are given and reports that are handed over lead nearer to its end.
+use Rattle.std.specs.Prelude.{Ok}
 use Rattle.std.proofs.Common.{◌≡◌, ℕ, suc, ◌+◌, ◌-◌, ◌*◌, ◌^◌, ◌<◌, ◌≤◌, min, Bool, true, false, List, [], ◌∷◌, ◌++◌, length, take, drop, sym, refl, ap, ◌∙◌, subst, arith, length-drop, take-append-drop, drop_of_length-le, length-take, drop-drop}
 use native.Mathlib.Nat.{add-mod-mod}
 use lib.Seq.{drop-append-le}
@@ -20,7 +21,6 @@ use Rattle.panel.specs.declared.Panel.{Panel}
 use Rattle.panel.specs.declared.FedBytes.{FedBytes}
 use Rattle.panel.specs.declared.Reported.{Reported}
 use Rattle.panel.specs.declared.Start.{Start}
-use Rattle.panel.specs.declared.StartAnswer.TheVariants.{Started}
 use Rattle.panel.specs.Start.{new_panel, started, start_judged}
 use Rattle.panel.specs.Inputs.{fed_byte, fed_bytes}
 use Rattle.panel.specs.Reporting.{enough, Reporting, reports, reporting}
@@ -91,7 +91,7 @@ pub record Flowing (input : List ℕ) (whole : Streamed) (panel : Panel) (lent :
 abbrev pub turns_left : List ℕ → Panel → ℕ → ℕ
 turns_left input panel i = (length input - i) * (longest_frame + 1) + panel.reader.len
 
-begins : started bench_setup [] ≡ record { answer = Started; panel = new_panel bench_setup }
+begins : started bench_setup [] ≡ record { answer = Ok tt; panel = new_panel bench_setup }
 unfolding started start_judged judged records_from first_of new_panel
 begins = refl
 
