@@ -75,3 +75,8 @@ set_behind size n b xs is room =
     let inside : n < length (padded size xs) = omega (arith, length_padded size xs (omega arith)) in
     set_split (padded size xs) n b inside
     ∙ rw (add_one_drop size n xs) (laid_behind size n xs (b ∷ []) is)
+
+-- zeros hold nothing
+pub zeros_empty : (size : ℕ) (out : List ℕ) → out ≡ replicate size 0 → out ≡ padded size []
+unfolding padded
+zeros_empty size out is = is ∙ ap (λ (n : ℕ). replicate n 0) (sym (sub-zero size))
