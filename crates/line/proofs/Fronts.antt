@@ -23,9 +23,6 @@ takes_if n head r is = rw is
 pub span_good : (header : List ℕ) (look : Look) (h l n : ℕ) → h ≡ length header → look ≡ Good l → n ≡ l → h + 1 + n ≡ span header look
 span_good header look h l n is-h is is-n = rw (is-h, is, is-n)
 
-pub span_fits : (h l : ℕ) → h ≤ 2 → l < 256 → h + 1 + l ≤ longest_frame
-span_fits h l short byte = omega arith
-
 pub whole_known : (header xs : List ℕ) (h l : ℕ) → h ≡ length header → h < length xs → l ≡ get_or xs h 0 → h + 1 + l ≡ decided_at header xs
 unfolding decided_at
 whole_known header xs h l is inside is-l = rw (← is, lt-ltb h (length xs) inside, is-l)

@@ -1,6 +1,6 @@
 -- No public promise cites this file: what private functions of the code are held against.
-use Rattle.std.specs.Prelude.{ℕ, ◌+◌, ◌-◌, Bool, false, cond, not, ◌&&◌, ◌==◌, List, ltb, length, get_or, take, drop, take_while}
-use Rattle.frame.specs.Frame.{header_bytes, content_of, most_payload}
+use Rattle.std.specs.Prelude.{ℕ, ◌+◌, ◌-◌, ◌≤◌, ◌≡◌, Bool, false, cond, not, ◌&&◌, ◌==◌, List, ltb, length, get_or, take, drop, take_while}
+use Rattle.frame.specs.Frame.{header_bytes, content_of, longest_frame, most_payload}
 use Rattle.reading.specs.Moves.{settled}
 use Rattle.place.specs.declared.Look.{Look}
 use Rattle.line.specs.declared.Line.{Line}
@@ -18,7 +18,11 @@ use Rattle.line.specs.Methods.{body_length, span, told}
 unfoldable pub decided_at : List ℕ → List ℕ → ℕ
 decided_at header xs = cond (ltb (length header) (length xs)) (length header + 1 + get_or xs (length header) 0) 0
 
--- `settle`
+-- `settle` and `feed`
+
+-- these many bytes stand at the front of an array as long as the longest frame, zeros behind them
+abbrev pub Held : ℕ → List ℕ → Type 0
+Held n held = (n ≤ longest_frame) × (length held ≡ longest_frame) × (held ≡ padded longest_frame (take n held))
 
 -- what is left of the bytes of an open stretch once all that is passed over has been
 abbrev pub left_of : Line → List ℕ → List ℕ

@@ -24,7 +24,8 @@ fn report_on(checking: bool, look: Look, body: &[u8]) -> Option<Report>
     }
 }
 
-// Lays up to three bytes of data, as reads have them, one by one; `end` is how many of the L bytes are command and data.
+// Lays up to three bytes of data, as reads have them; `end` is how many of the L bytes are command and data. One by one, since `copy_from_slice` and a
+// chain both become a call of memcpy, for which short frames are slower (docs/PROVING.md, "Speed of the program").
 fn put_short(body: &[u8], end: usize, out: &mut [u8])
     requires { (end ≤ 4) × (end ≤ length body.now) × (out.old ≡ padded most_payload []) }
     ensures { out.new ≡ padded most_payload (take (end - 1) (drop 1 body.now)) }

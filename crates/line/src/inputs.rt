@@ -50,7 +50,7 @@ impl Reader {
         !head::can_take(self.len, self.head)
     }
 
-    // Gives one byte.
+    // Gives one byte. A byte and a mark share no more than the test and the call of `settle`: one function for both would ask twice which it is.
     pub fn give_byte(self, b: u8) -> Given
         ensures value { result ≡ given_byte self b }
         ensures answer_value { answer_said result.answer ≡ input_said self }

@@ -1,7 +1,8 @@
-// Settling: going past all that is passed over, and bringing what is left to the front of an array.
+// Settling: going past all that is passed over, and bringing what is left to the front of an array. One function for each place where the bytes stand,
+// since each array is written once: in the array itself, in a slice whose reader is new, in a reader behind a report.
 ghost use Rattle.std.specs.Prelude.{◌≡◌, [], ◌-◌, ◌≤◌, length, take, drop};
 ghost use Rattle.frame.specs.Frame.{longest_frame};
-ghost use Rattle.line.specs.Inner.{left_of, rest_of, reader_with};
+ghost use Rattle.line.specs.Inner.{Held, left_of, rest_of, reader_with};
 ghost use Rattle.line.specs.State.{rules_for, padded, settled_reader};
 ghost use Rattle.place.specs.Looks.{stop_of};
 
@@ -10,7 +11,7 @@ use place::{Look, Stop};
 
 // Goes past all that is passed over of the n bytes held in an open stretch, and brings what is left to the front.
 pub(crate) fn settle_in(line: Line, held: &mut [u8], n: usize) -> Rest
-    requires { (n ≤ longest_frame) × (length held.old ≡ longest_frame) × (held.old ≡ padded longest_frame (take n held.old)) }
+    requires { Held n held.old }
     ensures { (result ≡ rest_of line (take n held.old)) × (held.new ≡ padded longest_frame (left_of line (take n held.old))) }
 {
     let stop = place::first_stop(line.header, line.checking, false, &held[..n]);
