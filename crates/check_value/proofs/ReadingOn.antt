@@ -1,14 +1,15 @@
 -- Laws of `check_from`, by which callers go on without its text.
 use mathlib.Core.Path.{◌≡◌, refl, ap, ◌∙◌}
 use mathlib.Core.List.{List, [], ◌∷◌, ◌++◌}
-use Prim.Native.Nat.{ℕ, zero, suc, ◌+◌, ◌-◌, ◌*◌, ◌/◌, ◌%◌, ◌^◌, ◌≤◌, ◌<◌}
+use Prim.Native.Nat.{ℕ, zero, suc, ◌*◌, ◌/◌, ◌%◌, ◌^◌, ◌≤◌, ◌<◌}
 use native.Mathlib.Omega.{arith}
-use native.Mathlib.Numerals.{add-one}
 use lib.Bits.{bit_xor, xor_lt}
-use lib.ListN.{length, get_or, drop, drop_of_length-le}
-use lib.Seq.{drop-cons}
+use lib.ListN.{length, drop}
+use Rattle.std.specs.List.{fold}
+use Rattle.std.specs.Simd.{first_chunks}
 use Rattle.wire.specs.Bytes.{Bytes}
 use Rattle.check_value.specs.CheckValue.{polynomial, bit_step, bit_steps, byte_step, check_from, check_value}
+use Rattle.check_value.specs.Inner.{pair_step}
 use Rattle.check_value.proofs.Xor.{xor_middle}
 use Rattle.check_value.proofs.Steps.{bit_steps_xor}
 
@@ -44,26 +45,19 @@ pub check_value_lt : (xs : List ℕ) → Bytes xs → check_value xs < 2 ^ 16
 unfolding check_value
 check_value_lt xs are = check_from_lt 0xFFFF xs are (omega arith)
 
--- the loop that reads on: a turn, and the end
-pub one_more : (value i : ℕ) (xs : List ℕ) {r : ℕ} → r ≡ byte_step value (get_or xs i 0) → i < length xs
-    → check_from r (drop (i + 1) xs) ≡ check_from value (drop i xs)
+-- reading on byte by byte, as the library's fold goes
+by_bytes : (value : ℕ) (xs : List ℕ) → fold byte_step value xs ≡ check_from value xs
 unfolding check_from
-one_more value i xs e h = rw (e, add-one, drop-cons xs i 0)
+by_bytes value [] = refl
+by_bytes value (x ∷ xs) = by_bytes (byte_step value x) xs
 
-pub all_read : (value i : ℕ) (xs : List ℕ) → length xs ≤ i → value ≡ check_from value (drop i xs)
+-- first the pairs, and then what is left behind them
+pub by_pairs : (k value : ℕ) (xs : List ℕ) (reached : ℕ) (left : List ℕ) → reached ≡ fold pair_step value (first_chunks 2 k xs) → left ≡ drop (k * 2) xs
+    → k * 2 ≤ length xs → fold byte_step reached left ≡ check_from value xs
 unfolding check_from
-all_read value i xs h = rw (drop_of_length-le xs h)
-
--- a turn that reads two bytes, and the two ways to end: with a byte left over, and with none
-module _ (whole value i : ℕ) (xs : List ℕ) (so_far : check_from value (drop i xs) ≡ check_from whole xs) where
-  pub two_more : (r : ℕ) → r ≡ byte_step (byte_step value (get_or xs i 0)) (get_or xs (i + 1) 0) → 1 < length xs - i
-      → check_from r (drop (i + 2) xs) ≡ check_from whole xs
-  two_more r e h =
-      let place : i + 2 ≡ i + 1 + 1 = omega arith in
-      rw place (one_more (byte_step value (get_or xs i 0)) (i + 1) xs e (omega arith) ∙ one_more value i xs refl (omega arith) ∙ so_far)
-
-  pub one_last : (r : ℕ) → r ≡ byte_step value (get_or xs i 0) → i < length xs → length xs - i ≤ 1 → r ≡ check_from whole xs
-  one_last r e h last = all_read r (i + 1) xs (omega arith) ∙ one_more value i xs e h ∙ so_far
-
-  pub none_left : length xs ≤ i → value ≡ check_from whole xs
-  none_left h = all_read value i xs h ∙ so_far
+by_pairs zero value xs reached left p q fits = rw (p, q) (by_bytes value xs)
+by_pairs (suc k) value [] reached left p q fits = absurd (omega arith)
+by_pairs (suc k) value (x ∷ []) reached left p q fits = absurd (omega arith)
+by_pairs (suc k) value (x ∷ y ∷ xs) reached left p q fits =
+    let next : suc k * 2 ≡ suc (suc (k * 2)) = omega arith in
+    by_pairs k (byte_step (byte_step value x) y) xs reached left p (q ∙ rw next refl) (omega arith)

@@ -1,2 +1,3 @@
 pub mod CheckValue
 pub mod Formula
+pub mod Inner

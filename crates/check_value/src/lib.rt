@@ -5,50 +5,45 @@
 ghost use Rattle.std.specs.Prelude.{◌≡◌, ◌*◌};
 ghost use Rattle.check_value.specs.CheckValue.{byte_step, check_from, check_value};
 ghost use Rattle.check_value.specs.Formula.{parity};
+ghost use Rattle.check_value.specs.Inner.{pair_step};
 
 // C001 where the parity of x is odd, else 0.
+#[tactic(auto, unfolding(crate::specs::Formula::parity))]
 fn where_odd(x: u16) -> u16
     ensures { result ≡ parity x * 0xC001 }
 {
-    (u16::count_ones(x) & 1) as u16 * 0xC001
+    (x.count_ones() % 2) as u16 * 0xC001
 }
 
 // Reads one byte on from a value, by the formula.
 fn read_byte(value: u16, byte: u8) -> u16
     ensures { result ≡ byte_step value byte }
 {
-    let x = (value ^ wire::wide(byte)) & 255;
+    let x = (value ^ u16::from(byte)) & 255;
     (value >> 8) ^ (x << 6) ^ (x << 7) ^ where_odd(x)
 }
 
 // Reads two bytes on at once: the formula of eight bits, used twice over, put together for sixteen. It costs hardly more than that of eight.
-fn read_two(value: u16, first: u8, second: u8) -> u16
-    ensures { result ≡ byte_step (byte_step value first) second }
+fn read_two(value: u16, pair: &[u8; 2]) -> u16
+    ensures { result ≡ pair_step value pair.now }
 {
-    let x = value ^ wire::word(second, first);
+    let x = value ^ u16::from_le_bytes(*pair);
     let high = x >> 2;
     let low = x << 14;
     high ^ (high << 1) ^ low ^ (low >> 2) ^ where_odd(x)
 }
 
-// Reads on from a value that was reached before.
+// Reads on from a value that was reached before: two bytes at a time, and the one that may be left.
 pub fn check_from(value: u16, bytes: &[u8]) -> u16
     ensures { result ≡ check_from value bytes.now }
 {
-    let mut reached = value;
-    let mut i = 0;
-    while 1 < bytes.len() - i {
-        reached = read_two(reached, bytes[i], bytes[i + 1]);
-        i += 2;
-    }
-    if i < bytes.len() {
-        read_byte(reached, bytes[i])
-    } else {
-        reached
-    }
+    let (pairs, last) = bytes.as_chunks();
+    let reached = pairs.iter().fold(value, read_two);
+    last.iter().copied().fold(reached, read_byte)
 }
 
 // The check value of a list of bytes.
+#[tactic(auto, unfolding(crate::specs::CheckValue::check_value))]
 pub fn check_value(bytes: &[u8]) -> u16
     ensures { result ≡ check_value bytes.now }
 {

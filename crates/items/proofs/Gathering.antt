@@ -1,16 +1,13 @@
 -- Laws of runs of line bytes: how they are gathered over a room.
 use mathlib.Core.Path.{◌≡◌, refl, sym, ap, ◌∙◌}
-use mathlib.Core.Bool.{Bool, true, false, ◌&&◌}
 use mathlib.Core.List.{List, [], ◌∷◌, ◌++◌, append-nil, append_assoc}
-use Prim.Native.Nat.{ℕ, zero, suc, ◌+◌, ◌*◌, ◌-◌, ◌/◌, ◌≤◌, ◌<◌}
+use Prim.Native.Nat.{ℕ, zero, suc, ◌+◌, ◌*◌, ◌-◌, ◌/◌, ◌≤◌, ◌<◌, min}
 use native.Mathlib.Nat.{sub-zero}
 use native.Mathlib.Omega.{arith}
-use borrow.Author.Tests.{ne_eqb, ltb-true, ltb-false}
-use lib.Dec.{ltb}
+use borrow.Author.Tests.{ne_eqb}
 use lib.ListN.{length, take, drop, get_or, set, length-drop, length-set}
 use lib.Seq.{drop-cons, take-suc-set, length-take-le}
 use Rattle.wire.specs.Room.{over, Laid, lays}
-use Rattle.wire.proofs.Truths.{and_left, and_right}
 use Rattle.wire.proofs.Over.{over_nil, over_more, take_over, length_over}
 use Rattle.items.specs.Runs.{line_run, gathered}
 
@@ -34,16 +31,12 @@ run_none : (m kind b : ℕ) (rest : List ℕ) → (kind ≡ 1 → ⊥) → line_
 unfolding line_run
 run_none m kind b rest other = rw (ne_eqb kind 1 other)
 
-run_short : (m : ℕ) (input : List ℕ) → length input < 2 → line_run m input ≡ []
+run_over : (m : ℕ) (input : List ℕ) → min m (length input / 2) ≡ 0 → line_run m input ≡ []
 unfolding line_run
-run_short zero input short = refl
-run_short (suc m) [] short = refl
-run_short (suc m) (kind ∷ []) short = refl
-run_short (suc m) (kind ∷ b ∷ rest) short = absurd (omega arith)
-
-run_zero : (input : List ℕ) → line_run 0 input ≡ []
-unfolding line_run
-run_zero input = refl
+run_over zero input none = refl
+run_over (suc m) [] none = refl
+run_over (suc m) (kind ∷ []) none = refl
+run_over (suc m) (kind ∷ b ∷ rest) none = absurd (omega arith)
 
 -- a run so far: what is gathered lies over the room, and with what is still to come it is the whole
 pub record Gathering (input room run : List ℕ) (n : ℕ) : Type 0 where
@@ -61,19 +54,9 @@ run_begins input room =
       over_room = sym (over_nil room);
     }
 
-module _ (run input : List ℕ) (n : ℕ) (more : (ltb n (length run) && ltb n (length input / 2)) ≡ true) where
-  pub run_room : n < length run
-  run_room = ltb-true n (length run) (and_left (ltb n (length run)) (ltb n (length input / 2)) more)
-
-  pub run_inside : 2 * n + 1 < length input
-  run_inside = omega (arith, ltb-true n (length input / 2) (and_right (ltb n (length run)) (ltb n (length input / 2)) more))
-
 module _ (input room run : List ℕ) (n : ℕ) (g : Gathering input room run n) where
   front_long : length (take n run) ≡ n
   front_long = length-take-le n run (omega (arith, g.few, g.long))
-
-  pub run_few : n ≤ length room
-  run_few = g.few
 
   whole_run : take n run ≡ line_run (length room) input → lays n run ≡ gathered input room
   unfolding gathered
@@ -81,13 +64,19 @@ module _ (input room run : List ℕ) (n : ℕ) (g : Gathering input room run n) 
       ap (λ (k : ℕ). lays k run) (sym front_long) ∙ ap (λ (l : List ℕ). lays (length (take n run)) l) g.over_room
       ∙ ap (λ (l : List ℕ). lays (length l) (over l room)) is
 
-  module _ (more : (ltb n (length run) && ltb n (length input / 2)) ≡ true) where
+  module _ (most : ℕ) (is-most : most ≡ min (length room) (length input / 2)) (more : n < most) where
+    run_room : n < length run
+    run_room = omega (arith, g.long)
+
+    run_inside : 2 * n + 1 < length input
+    run_inside = omega arith
+
     left_is : line_run (length room - n) (drop (2 * n) input)
         ≡ line_run (suc (length room - (n + 1))) (get_or input (2 * n) 0 ∷ get_or input (2 * n + 1) 0 ∷ drop (2 * (n + 1)) input)
     left_is =
-        let a : length room - n ≡ suc (length room - (n + 1)) = omega (arith, run_room run input n more, g.long) in
+        let a : length room - n ≡ suc (length room - (n + 1)) = omega (arith, run_room, g.long) in
         ap (λ (m : ℕ). line_run m (drop (2 * n) input)) a
-        ∙ ap (λ (l : List ℕ). line_run (suc (length room - (n + 1))) l) (pair_front input n (run_inside run input n more))
+        ∙ ap (λ (l : List ℕ). line_run (suc (length room - (n + 1))) l) (pair_front input n run_inside)
 
     pub run_stops : (get_or input (2 * n) 0 ≡ 1 → ⊥) → lays n run ≡ gathered input room
     run_stops other =
@@ -100,7 +89,7 @@ module _ (input room run : List ℕ) (n : ℕ) (g : Gathering input room run n) 
       put : take (n + 1) (set run n b) ≡ take n run ++ (b ∷ [])
       put =
           let a : suc n ≡ n + 1 = omega arith in
-          ap (λ (k : ℕ). take k (set run n b)) (sym a) ∙ take-suc-set run n b (run_room run input n more)
+          ap (λ (k : ℕ). take k (set run n b)) (sym a) ∙ take-suc-set run n b run_room
 
       further : line_run (length room) input ≡ take (n + 1) (set run n b) ++ line_run (length room - (n + 1)) (drop (2 * (n + 1)) input)
       further =
@@ -114,26 +103,24 @@ module _ (input room run : List ℕ) (n : ℕ) (g : Gathering input room run n) 
       laid : set run n b ≡ over (take (n + 1) (set run n b)) room
       laid =
           ap (λ (l : List ℕ). set l n b) g.over_room
-          ∙ over_more (take n run) room b n front_long (omega (arith, run_room run input n more, g.long))
+          ∙ over_more (take n run) room b n front_long (omega (arith, run_room, g.long))
           ∙ ap (λ (l : List ℕ). over l room) (sym put)
 
       pub run_more : Gathering input room (set run n b) (n + 1)
       run_more =
           record {
-            few = omega (arith, run_room run input n more, g.long);
+            few = omega (arith, run_room, g.long);
             long = length-set run n b ∙ g.long;
             so_far = further;
             over_room = laid;
           }
 
-  pub run_ends : (ltb n (length run) && ltb n (length input / 2)) ≡ false → lays n run ≡ gathered input room
-  run_ends ends = whole_run (sym (g.so_far ∙ ap (λ (l : List ℕ). take n run ++ l) (empty (ltb n (length run)) refl ends) ∙ append-nil (take n run)))
-    where
-      empty : (b : Bool) → ltb n (length run) ≡ b → (b && ltb n (length input / 2)) ≡ false → line_run (length room - n) (drop (2 * n) input) ≡ []
-      empty true is ends = run_short (length room - n) (drop (2 * n) input) (rw length-drop (omega (arith, ltb-false n (length input / 2) ends)))
-      empty false is ends =
-          let full : length room - n ≡ 0 = omega (arith, ltb-false n (length run) is, g.long) in
-          ap (λ (m : ℕ). line_run m (drop (2 * n) input)) full ∙ run_zero (drop (2 * n) input)
+  pub run_ends : (most : ℕ) → most ≡ min (length room) (length input / 2) → n ≤ most → most ≤ n → lays most run ≡ gathered input room
+  run_ends most is-most within all =
+      let done : n ≡ most = omega arith in
+      let none : min (length room - n) (length (drop (2 * n) input) / 2) ≡ 0 = rw length-drop (omega arith) in
+      ap (λ (k : ℕ). lays k run) (sym done)
+      ∙ whole_run (sym (g.so_far ∙ ap (λ (l : List ℕ). take n run ++ l) (run_over (length room - n) (drop (2 * n) input) none) ∙ append-nil (take n run)))
 
 -- ---- For a room that is as long as the run that is wanted
 

@@ -2,11 +2,11 @@
 use mathlib.Core.Path.{◌≡◌, refl, sym, ap, ◌∙◌}
 use Prim.Native.Nat.{ℕ, zero, suc, ◌<◌}
 use native.Mathlib.Omega.{arith}
-use Rattle.std.specs.Prelude.{Result, Ok, Err}
+use Rattle.std.specs.Prelude.{Result, Ok, Err, MatchResult}
 use Rattle.items.specs.declared.Kind.{Kind}
 use Rattle.items.specs.declared.Kind.TheVariants.{Setup, LineByte, Mark, Contact, Lift, Record, Second}
 use Rattle.items.specs.declared.UnknownKind.{UnknownKind}
-use Rattle.items.specs.KindBytes.{number_of, Decodes}
+use Rattle.items.specs.KindBytes.{number_of}
 
 -- the kind back from its byte
 kind_at : ℕ → Kind
@@ -40,7 +40,11 @@ number_small Second = omega arith
 pub one_kind : (k j : Kind) → number_of k ≡ number_of j → k ≡ j
 one_kind k j is = sym (read_back k) ∙ ap kind_at is ∙ read_back j
 
--- the contract of `Kind::try_from` fits one answer
+-- what `Kind::try_from` ensures
+abbrev pub Decodes : ℕ → Result Kind UnknownKind → Type 0
+Decodes b r = MatchResult r (λ kind. number_of kind ≡ b) (λ e. (e.0 ≡ b) × (6 < b))
+
+-- one answer fits it
 pub decodes_once : (b : ℕ) (r s : Result Kind UnknownKind) → Decodes b r → Decodes b s → r ≡ s
 decodes_once b (Ok k) (Ok j) p q = ap (λ (kind : Kind). Ok kind) (one_kind k j (p ∙ sym q))
 decodes_once b (Ok k) (Err e) p q = absurd (omega (arith, number_small k))

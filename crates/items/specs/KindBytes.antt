@@ -1,8 +1,7 @@
 -- 01, "The trace program": the byte that stands for each kind of item.
-use Rattle.std.specs.Prelude.{◌≡◌, ℕ, ◌<◌, Result, MatchResult}
+use Rattle.std.specs.Prelude.{ℕ}
 use Rattle.items.specs.declared.Kind.{Kind}
 use Rattle.items.specs.declared.Kind.TheVariants.{Setup, LineByte, Mark, Contact, Lift, Record, Second}
-use Rattle.items.specs.declared.UnknownKind.{UnknownKind}
 
 -- "00 setup ..; 01 a line byte; 02 quiet ..; 03 contact X Y ..; 04 lift ..; 05 touch record": the byte of each kind. 02, §6: "kind 06 without a body is the second"
 abbrev pub number_of : Kind → ℕ
@@ -13,7 +12,3 @@ number_of Contact = 3
 number_of Lift = 4
 number_of Record = 5
 number_of Second = 6
-
--- "one byte of kind": the kind that this byte stands for, or that byte back where "an unknown kind" is met, one above all kinds
-abbrev pub Decodes : ℕ → Result Kind UnknownKind → Type 0
-Decodes b r = MatchResult r (λ kind. number_of kind ≡ b) (λ e. (e.0 ≡ b) × (6 < b))

@@ -1,7 +1,7 @@
 // The kind that a byte stands for, and how long the body of an item of it is.
-ghost use Rattle.std.specs.Prelude.{◌≡◌};
+ghost use Rattle.std.specs.Prelude.{◌≡◌, ◌<◌, MatchResult};
 ghost use Rattle.items.specs.Items.{body_length};
-ghost use Rattle.items.specs.KindBytes.{number_of, Decodes};
+ghost use Rattle.items.specs.KindBytes.{number_of};
 
 use crate::{Kind, UnknownKind};
 use touch::RECORD_BYTES;
@@ -9,7 +9,8 @@ use touch::RECORD_BYTES;
 impl TryFrom<u8> for Kind {
     type Error = UnknownKind;
 
-    ghost try_from_gives = { Decodes };
+    // The kind whose number the byte is; else the byte, which is above those of all kinds.
+    ghost try_from_gives = { λ b r. MatchResult r (λ kind. number_of kind ≡ b) (λ e. (e.0 ≡ b) × (6 < b)) };
 
     fn try_from(b: u8) -> Result<Self, UnknownKind> {
         match b {

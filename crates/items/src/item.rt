@@ -7,10 +7,11 @@ use crate::ITEM_BYTES;
 use touch::Setup;
 
 // What is gathered between two items.
+#[tactic(auto, unfolding(crate::specs::Items::no_item))]
 pub fn no_item() -> [u8; ITEM_BYTES]
     ensures { result ≡ no_item }
 {
-    [0u8; ITEM_BYTES]
+    wire::zeros()
 }
 
 // The kind of an item. A function of its own, since an array that is indexed among lent slices makes the check long.
@@ -21,17 +22,18 @@ pub fn kind_of(item: [u8; ITEM_BYTES]) -> u8
 }
 
 // An array with one byte set, where it has that place.
-pub fn with_byte(item: [u8; ITEM_BYTES], at: usize, b: u8) -> [u8; ITEM_BYTES]
+pub fn with_byte(mut item: [u8; ITEM_BYTES], at: usize, b: u8) -> [u8; ITEM_BYTES]
     ensures { result ≡ set item at b }
 {
-    let mut next = item;
+    // No `get_mut`: tried, nothing is known of an array that was lent by it.
     if at < ITEM_BYTES {
-        next[at] = b;
+        item[at] = b;
     }
-    next
+    item
 }
 
 // The setup that an item of kind 00 carries.
+#[tactic(auto, unfolding(crate::specs::Items::setup_in))]
 pub fn setup_in(item: &[u8]) -> Setup
     ensures { result ≡ setup_in item.now }
 {

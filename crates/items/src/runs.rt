@@ -8,13 +8,13 @@ pub fn gather_run(input: &[u8], room: &mut [u8]) -> usize
     ensures room_after { lays result room.new ≡ gathered input.now room.old }
     ensures upper_bound { result ≤ length room.old }
 {
-    let mut n = 0;
-    while (n < room.len()) & (n < input.len() / 2) {
+    // By index, not by a zip of the room's places with `as_chunks`: tried, what the room then holds is not known.
+    let most = room.len().min(input.len() / 2);
+    for n in 0..most {
         if input[2 * n] != 1 {
             return n;
         }
         room[n] = input[2 * n + 1];
-        n += 1;
     }
-    n
+    most
 }

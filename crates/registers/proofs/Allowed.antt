@@ -8,6 +8,7 @@ use borrow.Author.Tests.{leb-false, le-leb, eqb-true, eqb-false, not-false}
 use lib.Dec.{eqb, leb, ltb}
 use lib.ListN.{length, get_or}
 use Rattle.wire.specs.ByteOrder.{word}
+use Rattle.wire.proofs.Truths.{never, and_left, and_right, or_left, or_right}
 use Rattle.wire.proofs.LaidAt.{length_laid_at}
 use Rattle.registers.specs.declared.Registers.{Registers}
 use Rattle.registers.specs.Table.{register_at, clear_register, set_register, weekday_register, writable}
@@ -18,20 +19,8 @@ use Rattle.registers.proofs.ReadsAs.{length_reads_as, clear_reads, other_reads}
 use Rattle.registers.proofs.Written.{written_at, others_stay}
 use Rattle.registers.proofs.Touched.{same_page}
 
-no : {A : Type 0} → ◌≡◌ {A = Bool} true false → A
-no e = absurd (let z : ◌≡◌ {A = ℕ} 0 1 = cc in omega arith)
-
 pub neither : (a b : Bool) → (a || b) ≡ false → (a ≡ false) × (b ≡ false)
-neither true b is = no is
-neither false b is = (refl, is)
-
-both : (a b : Bool) → (a && b) ≡ true → (a ≡ true) × (b ≡ true)
-both true b is = (refl, is)
-both false b is = no (sym is)
-
-right_not : (a b : Bool) → a ≡ true → (a && b) ≡ false → b ≡ false
-right_not true b is not = not
-right_not false b is not = no (sym is)
+neither a b is = (or_left a b is, or_right a b is)
 
 -- a run that is not refused with 5 is writable
 pub run_is_writable : (address n : ℕ) → unwritable_run address n ≡ false → all_writable address n ≡ true
@@ -45,8 +34,8 @@ all_writable_lem : (address n : ℕ) → all_writable address n ≡ true → (re
 unfolding all_writable
 all_writable_lem address zero all register from below = absurd (omega arith)
 all_writable_lem address (suc n) all register from below =
-    let two = both (writable address) (all_writable (suc address) n) all in
-    go (eqb address register) refl two.0 (all_writable_lem (suc address) n two.1 register)
+    go (eqb address register) refl (and_left (writable address) (all_writable (suc address) n) all)
+    (all_writable_lem (suc address) n (and_right (writable address) (all_writable (suc address) n) all) register)
   where
     go : (b : Bool) → eqb address register ≡ b → writable address ≡ true → (suc address ≤ register → register < suc address + n → writable register ≡ true)
         → writable register ≡ true
@@ -93,13 +82,14 @@ module _ (registers : Registers) (whole : length registers.bytes ≡ 256) (addre
   module _ (may : unwritable_run address (length bytes) ≡ false) where
     -- "isn't writable": what is not stays, whatever is registers_after
     pub unwritable_stays : (register : ℕ) → writable register ≡ false → register_at (registers_after registers address bytes) register ≡ register_at registers register
-    unwritable_stays register never = go (covers address (length bytes) register) refl
+    unwritable_stays register closed = go (covers address (length bytes) register) refl
       where
         go : (b : Bool) → covers address (length bytes) register ≡ b → register_at (registers_after registers address bytes) register ≡ register_at registers register
         go false is = stays_out register is
         go true is =
             let two = in_run_lem address (length bytes) register is in
-            no (sym (all_writable_lem address (length bytes) (run_is_writable address (length bytes) may) register two.0 two.1) ∙ never)
+            let is-writable = all_writable_lem address (length bytes) (run_is_writable address (length bytes) may) register two.0 two.1 in
+            never (cc)
 
     -- "page, below P", "both bytes together"
     pub page_stays_below : (pages : ℕ) → wrong_value address bytes pages ≡ false → page_of registers < pages → page_of (registers_after registers address bytes) < pages
@@ -119,6 +109,6 @@ module _ (registers : Registers) (whole : length registers.bytes ≡ 256) (addre
             let least : word (byte_for address bytes 0x03) (byte_for address bytes 0x04) < pages =
             leb-false pages (word (byte_for address bytes 0x03) (byte_for address bytes 0x04)) value in
             unfold page_of in rw (given_now 0x03 (λ e. omega arith) (λ e. omega arith) (λ e. omega arith) p, given_now 0x04 (λ e. omega arith) (λ e. omega arith) (λ e. omega arith) q) least
-        go true p false q half value = no half
-        go false p true q half value = no half
+        go true p false q half value = never (cc)
+        go false p true q half value = never (cc)
         go false p false q half value = rw (same_page (registers_after registers address bytes) registers (stays_out 0x03 p) (stays_out 0x04 q)) below

@@ -1,34 +1,50 @@
 -- Laws of the loops that write and read a run of registers.
 use mathlib.Core.Path.{◌≡◌, refl, sym, ap, ◌∙◌}
-use mathlib.Core.Bool.{Bool, ◌&&◌}
+use mathlib.Core.Bool.{Bool, true, false, ◌&&◌}
 use mathlib.Core.List.{List, [], ◌∷◌, ◌++◌}
 use Prim.Native.Nat.{ℕ, zero, suc, ◌+◌, ◌≤◌, ◌<◌}
 use native.Mathlib.Nat.{add-zero}
 use native.Mathlib.Omega.{arith}
-use borrow.Author.Tests.{le-leb, lt-leb}
-use lib.Dec.{leb}
-use lib.ListN.{length, get_or, set}
+use borrow.Author.Tests.{le-leb, lt-leb, ltb-true, ltb-false}
+use lib.Dec.{leb, ltb}
+use lib.ListN.{length, get_or, set, take, drop}
+use lib.Seq.{paste, length-take-le}
+use Rattle.std.proofs.lemmas.List.{take_more_set}
+use Rattle.std.proofs.lemmas.List.Edits.{paste_more, paste_all}
 use Rattle.wire.specs.Room.{over, laid_at, lays, laid}
-use Rattle.wire.proofs.Over.{over_nil, over_more, and_true, left_false, right_false, laid_not, laid_whole}
+use Rattle.wire.proofs.Over.{and_true, left_false, right_false, laid_not, laid_whole}
 use Rattle.registers.specs.declared.Registers.{Registers}
 use Rattle.wire.specs.Addresses.{register_count}
 use Rattle.registers.specs.Table.{holding, register_at, register_run}
-use Rattle.registers.specs.Run.{reads_as, registers_after}
+use Rattle.registers.specs.Run.{weekday_for, read_as, reads_as, registers_after}
+use Rattle.registers.proofs.ReadsAs.{length_reads_as, reads_as_at}
 
-pub run_written : (registers : Registers) (address a : ℕ) (bytes next : List ℕ) → a ≡ address → a + length bytes ≤ 256
-    → next ≡ laid_at a (reads_as a bytes) registers.bytes
-    → ◌≡◌ {A = Registers} (holding next) (registers_after registers address bytes)
-unfolding registers_after
-run_written registers address a bytes next is fits e =
-    let fits' : address + length bytes ≤ 256 = omega arith in
-    rw (le-leb (address + length bytes) 256 fits', e, is)
-
-pub run_refused : (registers : Registers) (address a : ℕ) (bytes : List ℕ) → a ≡ address → 256 < a + length bytes
+-- a run that passes the end is not written
+pub run_refused : (registers : Registers) (address : ℕ) (bytes : List ℕ) (passes : Bool) → passes ≡ ltb register_count (address + length bytes) → passes ≡ true
     → registers ≡ registers_after registers address bytes
 unfolding registers_after
-run_refused registers address a bytes is past =
-    let past' : 256 < address + length bytes = omega arith in
-    rw (lt-leb (address + length bytes) 256 past')
+run_refused registers address bytes passes is past =
+    let far : register_count < address + length bytes = ltb-true register_count (address + length bytes) (sym is ∙ past) in
+    rw (lt-leb (address + length bytes) register_count far)
+
+module _ (registers : Registers) (address a : ℕ) (bytes : List ℕ) (next : Registers) (i : ℕ) (passes : Bool) (is : a ≡ address)
+    (is-passes : passes ≡ ltb register_count (address + length bytes)) (inside : passes ≡ false) (so_far : next.bytes ≡ paste registers.bytes a (reads_as a bytes) i) where
+  fits : address + length bytes ≤ register_count
+  fits = ltb-false register_count (address + length bytes) (sym is-passes ∙ inside)
+
+  -- one register more
+  pub run_on : (v weekday : ℕ) → length registers.bytes ≡ register_count → weekday ≡ weekday_for address bytes → i < length bytes → v ≡ read_as weekday (a + i) (get_or bytes i 0)
+      → set next.bytes (a + i) v ≡ paste registers.bytes a (reads_as a bytes) (i + 1)
+  run_on v weekday whole is-weekday more is-v =
+      let long = length_reads_as a bytes in
+      rw (so_far, is-v, is-weekday, ← is, ← reads_as_at a bytes i more) (paste_more registers.bytes a (reads_as a bytes) i 0 (omega (arith, fits)) (omega arith))
+
+  pub run_written : length bytes ≤ i → i ≤ length bytes → next ≡ registers_after registers address bytes
+  unfolding registers_after laid_at
+  run_written all all' =
+      let long = length_reads_as a bytes in
+      let end : i ≡ length (reads_as a bytes) = omega arith in
+      ap holding so_far ∙ rw (le-leb (address + length bytes) register_count fits, paste_all registers.bytes a (reads_as a bytes) i end, end, is)
 
 pub length_run : (registers : Registers) (address n : ℕ) → length (register_run registers address n) ≡ n
 unfolding register_run
@@ -44,39 +60,36 @@ run_more registers address (suc i) =
     ap (λ (rest : List ℕ). register_at registers address ∷ rest)
     (run_more registers (suc address) i ∙ ap (λ (a : ℕ). register_run registers (suc address) i ++ (register_at registers a ∷ [])) place)
 
-pub read_none : (registers : Registers) (address : ℕ) (room : List ℕ) → room ≡ over (register_run registers address 0) room
-unfolding register_run
-read_none registers address room = sym (over_nil room)
-
-pub read_more : (registers : Registers) (address i n v : ℕ) (room₀ room : List ℕ) → room ≡ over (register_run registers address i) room₀
-    → i < n → n ≤ length room₀ → v ≡ get_or registers.bytes (address + i) 0 → set room i v ≡ over (register_run registers address (i + 1)) room₀
+-- a loop that reads a run has read what its turns read
+pub read_more : (registers : Registers) (address i v : ℕ) (room : List ℕ) → take i room ≡ register_run registers address i → i < length room
+    → v ≡ get_or registers.bytes (address + i) 0 → take (i + 1) (set room i v) ≡ register_run registers address (i + 1)
 unfolding register_at
-read_more registers address i n v room₀ room is more fits e =
+read_more registers address i v room is more e =
     let one : i + 1 ≡ suc i = omega arith in
-    rw (is, one, run_more registers address i, ← e) (over_more (register_run registers address i) room₀ v i (length_run registers address i) (omega arith))
+    take_more_set room i v more ∙ rw (one, run_more registers address i, is, e)
 
-pub read_all : (registers : Registers) (address i n : ℕ) (room₀ room : List ℕ) → room ≡ over (register_run registers address i) room₀ → n ≤ i → i ≤ n
-    → room ≡ over (register_run registers address n) room₀
-read_all registers address i n room₀ room is all all' =
-    let end : i ≡ n = omega arith in
-    rw end at is
-
-module _ (registers : Registers) (address a n m : ℕ) (room : List ℕ) (is-a : a ≡ address) (is_m : m ≡ n) where
+module _ (registers : Registers) (address n m : ℕ) (room : List ℕ) (passes : Bool) (is-m : m ≡ n) (is-passes : passes ≡ ltb register_count (address + m)) where
   abbrev within : Bool
   within = leb (address + n) register_count
 
-  abbrev fits : Bool
-  fits = leb n (length room)
+  abbrev fits_room : Bool
+  fits_room = leb n (length room)
 
-  pub read_past : 256 < a + m → lays 0 room ≡ laid (within && fits) (register_run registers address n) room
-  read_past past = laid_not (within && fits) (register_run registers address n) room (left_false within fits (lt-leb (address + n) 256 (omega arith)))
+  pub read_past : passes ≡ true → lays 0 room ≡ laid (within && fits_room) (register_run registers address n) room
+  read_past past =
+      let far : register_count < address + m = ltb-true register_count (address + m) (sym is-passes ∙ past) in
+      laid_not (within && fits_room) (register_run registers address n) room (left_false within fits_room (lt-leb (address + n) register_count (omega arith)))
 
-  pub read_no_room : length room < m → lays 0 room ≡ laid (within && fits) (register_run registers address n) room
-  read_no_room small = laid_not (within && fits) (register_run registers address n) room (right_false within fits (lt-leb n (length room) (omega arith)))
+  pub read_no_room : length room < m → lays 0 room ≡ laid (within && fits_room) (register_run registers address n) room
+  read_no_room small = laid_not (within && fits_room) (register_run registers address n) room (right_false within fits_room (lt-leb n (length room) (omega arith)))
 
-  pub read_done : (left : List ℕ) → a + m ≤ 256 → m ≤ length room → left ≡ over (register_run registers a m) room
-      → lays m left ≡ laid (within && fits) (register_run registers address n) room
-  read_done left inside small is =
-      laid_whole (within && fits) (register_run registers a m) (register_run registers address n) room left m
-      (and_true within fits (le-leb (address + n) 256 (omega arith)) (le-leb n (length room) (omega arith)))
-      (rw (is-a, is_m)) (sym (length_run registers a m)) is
+  pub read_done : (a : ℕ) (run left : List ℕ) → a ≡ address → passes ≡ false → m ≤ length room → run ≡ register_run registers a (length (take m room))
+      → left ≡ run ++ drop m room → lays m left ≡ laid (within && fits_room) (register_run registers address n) room
+  unfolding over
+  read_done a run left is-a inside small is-run is =
+      let near : address + m ≤ register_count = ltb-false register_count (address + m) (sym is-passes ∙ inside) in
+      let same : run ≡ register_run registers address n = is-run ∙ rw (length-take-le m room small, is-a, is-m) in
+      let long : length run ≡ m = ap length same ∙ length_run registers address n ∙ sym is-m in
+      laid_whole (within && fits_room) run (register_run registers address n) room left m
+      (and_true within fits_room (le-leb (address + n) register_count (omega arith)) (le-leb n (length room) (omega arith)))
+      same (sym long) (is ∙ rw long)

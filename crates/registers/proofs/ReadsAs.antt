@@ -8,10 +8,7 @@ use native.Mathlib.Nat.{add-zero}
 use native.Mathlib.Omega.{arith}
 use borrow.Author.Tests.{eq-eqb, ne_eqb}
 use lib.Dec.{eqb}
-use lib.ListN.{length, get_or, set}
-use lib.Seq.{paste}
-use Rattle.wire.specs.Room.{laid_at}
-use Rattle.wire.proofs.LaidAt.{laid_more, laid_all}
+use lib.ListN.{length, get_or}
 use Rattle.registers.specs.Table.{clear_register, set_register, weekday_register}
 use Rattle.registers.proofs.ClockRuns.{clock_apart}
 use Rattle.registers.specs.Run.{touches_clock, weekday_for, read_as, read_each, reads_as}
@@ -96,16 +93,3 @@ reads_as_written address (b ∷ bytes) no-clear no-clock =
     plain_run (weekday_for address (b ∷ bytes)) address (b ∷ bytes) no-clear
     (⊎_elim (λ (past : 0x26 < address). inl (omega arith)) (λ (before : address + length (b ∷ bytes) ≤ set_register). inr before)
     (clock_apart address (length (b ∷ bytes)) (omega arith) no-clock))
-
--- the loop that writes a run
-pub written_more : (old bytes next : List ℕ) (at i n v weekday : ℕ) → weekday ≡ weekday_for at bytes → next ≡ paste old at (reads_as at bytes) i → length old ≡ n → at + length bytes ≤ n → i < length bytes
-    → v ≡ read_as weekday (at + i) (get_or bytes i 0) → set next (at + i) v ≡ paste old at (reads_as at bytes) (i + 1)
-written_more old bytes next at i n v weekday is-weekday is long fits more is-v =
-    let whole = length_reads_as at bytes in
-    rw (is-v, is-weekday, ← reads_as_at at bytes i more) (laid_more old (reads_as at bytes) next at i n is long (omega arith) (omega arith))
-
-pub written_all : (old bytes next : List ℕ) (at i : ℕ) → next ≡ paste old at (reads_as at bytes) i → length bytes ≤ i → i ≤ length bytes
-    → next ≡ laid_at at (reads_as at bytes) old
-written_all old bytes next at i is all all' =
-    let whole = length_reads_as at bytes in
-    laid_all old (reads_as at bytes) next at i is (omega arith) (omega arith)

@@ -2,10 +2,11 @@
 ghost use Rattle.std.specs.Prelude.{◌≡◌};
 ghost use Rattle.registers.specs.Touched.{page_of, with_page, is_down, with_status, is_touch_off, with_place};
 
-use crate::{RegisterAddress, Registers, storing};
+use crate::{RegisterAddress, Registers};
 
 impl Registers {
     // The page that is shown.
+    #[tactic(auto, unfolding(crate::specs::Touched::page_of))]
     pub fn page(self) -> u16
         ensures { result ≡ page_of self }
     {
@@ -16,32 +17,30 @@ impl Registers {
     }
 
     // With another page.
+    #[tactic(auto, unfolding(crate::specs::Touched::with_page))]
     pub fn with_page(self, page: u16) -> Registers
         ensures { result ≡ with_page self page }
     {
-        let run = [wire::high_byte(page), wire::low_byte(page)];
-        let old = self.bytes;
-        Registers {
-            bytes: storing::with_run(old, 0x03, &run),
-        }
+        self.with_run(0x03, &[wire::high_byte(page), wire::low_byte(page)])
     }
 
     // The panel is touched.
+    #[tactic(auto, unfolding(crate::specs::Touched::is_down))]
     pub fn is_down(self) -> bool
         ensures { result ≡ is_down self }
     {
-        let status = self.at(RegisterAddress(0x06));
-        (status == 0x01) | (status == 0x03)
+        matches!(self.at(RegisterAddress(0x06)), 0x01 | 0x03)
     }
 
-    pub fn with_status(self, status: u8) -> Registers
+    #[tactic(auto, unfolding(crate::specs::Touched::with_status))]
+    pub fn with_status(mut self, status: u8) -> Registers
         ensures { result ≡ with_status self status }
     {
-        let mut bytes = self.bytes;
-        bytes[0x06] = status;
-        Registers { bytes: bytes }
+        self.bytes[0x06] = status;
+        self
     }
 
+    #[tactic(auto, unfolding(crate::specs::Touched::is_touch_off))]
     pub fn is_touch_off(self) -> bool
         ensures { result ≡ is_touch_off self }
     {
@@ -49,22 +48,20 @@ impl Registers {
     }
 
     // With the place of a touch, unless the master has not cleared the flag of the last one.
-    pub fn with_place(self, x: u16, y: u16) -> Registers
+    #[tactic(auto, unfolding(crate::specs::Touched::with_place))]
+    pub fn with_place(mut self, x: u16, y: u16) -> Registers
         ensures { result ≡ with_place self x y }
     {
         if self.at(RegisterAddress(0x05)) == 0x5A {
             return self;
         }
-        let mut bytes = self.bytes;
-        bytes[0x05] = 0x5A;
-        let run = [
+        self.bytes[0x05] = 0x5A;
+        let place = [
             wire::high_byte(x),
             wire::low_byte(x),
             wire::high_byte(y),
             wire::low_byte(y),
         ];
-        Registers {
-            bytes: storing::with_run(bytes, 0x07, &run),
-        }
+        self.with_run(0x07, &place)
     }
 }

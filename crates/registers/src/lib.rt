@@ -35,18 +35,26 @@ const LAST_CLOCK_REGISTER: usize = 0x26;
 #[derive(Clone, Copy)]
 pub struct RegisterAddress(pub u8);
 
-// The bytes are lent to what only reads registers.
+// The bytes are lent to what only reads registers: `read` promises an answer for a slice of every length, so it takes no `&Registers`.
 #[derive(Clone, Copy)]
 pub struct Registers {
     pub bytes: [u8; REGISTER_COUNT],
 }
 
+// What is to be written: these bytes from the address on.
+#[derive(Clone, Copy)]
+struct Run<'a> {
+    address: RegisterAddress,
+    bytes: &'a [u8],
+}
+
 impl RegisterAddress {
     // A run of n registers from here on passes the end.
+    #[tactic(auto, using(std::proofs::lemmas::Bool::Decides::nat_tests))]
     pub fn passes_end(self, n: usize) -> bool
         ensures { result ≡ ltb register_count (self.0 + n) }
     {
-        REGISTER_COUNT - wire::count(self.0) < n
+        REGISTER_COUNT - usize::from(self.0) < n
     }
 }
 
@@ -73,14 +81,14 @@ impl Registers {
         bytes[0x21] = 0x01;
         bytes[0x22] = 0x01;
         bytes[0x23] = 0x06;
-        Registers { bytes: bytes }
+        Registers { bytes }
     }
 
     // What a register reads.
+    #[tactic(auto, unfolding(crate::specs::Table::register_at))]
     pub fn at(self, address: RegisterAddress) -> u8
         ensures { result ≡ register_at self address.0 }
     {
-        let bytes = self.bytes;
-        bytes[wire::count(address.0)]
+        self.bytes[usize::from(address.0)]
     }
 }

@@ -2,44 +2,31 @@
 ghost use Rattle.std.specs.Prelude.{◌≡◌};
 ghost use Rattle.registers.specs.Clocked.{moment_of, with_moment, second_passed};
 
-use crate::{RegisterAddress, Registers, YEAR_REGISTER, storing};
+use crate::{Registers, YEAR_REGISTER};
 use clock::Moment;
 
 impl Registers {
     // The moment at which the clock stands.
+    #[tactic(auto, unfolding(crate::specs::Clocked::moment_of, crate::specs::Table::register_at, clock::specs::Shown::moment_in))]
     pub fn moment(self) -> Moment
         ensures { result ≡ moment_of self }
     {
-        Moment {
-            date: clock::date_in(
-                self.at(RegisterAddress(0x20)),
-                self.at(RegisterAddress(0x21)),
-                self.at(RegisterAddress(0x22)),
-            ),
-            time: clock::time_in(
-                self.at(RegisterAddress(0x24)),
-                self.at(RegisterAddress(0x25)),
-                self.at(RegisterAddress(0x26)),
-            ),
-        }
+        clock::moment_in(&self.bytes[YEAR_REGISTER..])
     }
 
     // With the clock at a moment.
+    #[tactic(auto, unfolding(crate::specs::Clocked::with_moment))]
     fn with_moment(self, moment: Moment) -> Registers
         ensures { result ≡ with_moment self moment }
     {
-        let run = clock::shown(moment);
-        let old = self.bytes;
-        Registers {
-            bytes: storing::with_run(old, YEAR_REGISTER, &run),
-        }
+        self.with_run(YEAR_REGISTER, &clock::shown(moment))
     }
 
     // With the clock one second later.
+    #[tactic(auto, unfolding(crate::specs::Clocked::second_passed))]
     pub fn second_passed(self) -> Registers
         ensures { result ≡ second_passed self }
     {
-        let moment = self.moment();
-        self.with_moment(moment.next())
+        self.with_moment(self.moment().next())
     }
 }

@@ -5,15 +5,12 @@ use native.Mathlib.Nat.{le_refl}
 use lib.IntN.{ℤ, pos, negsuc}
 use lib.Signed.{le_z, lt_z}
 use borrow.Author.Tests.{le-leb}
+use Rattle.wire.proofs.Truths.{and_left, and_right}
 use Rattle.stores.specs.Step.{fenced}
 
 le_self : (z : ℤ) → le_z z z ≡ true
 le_self (pos n) = le-leb n n (le_refl n)
 le_self (negsuc n) = le-leb n n (le_refl n)
-
-both_true : (a b : Bool) → (a && b) ≡ true → (a ≡ true) × (b ≡ true)
-both_true true b e = (refl, e)
-both_true false b e = (e, cc)
 
 -- "If t is within the ends, store t. Otherwise ..": the least, the greatest or a number between them
 pub fenced_within : (up round : Bool) (least greatest t : ℤ) → le_z least greatest ≡ true
@@ -32,7 +29,7 @@ fenced_within up round least greatest t ends = go (le_z least t && le_z t greate
 
     go : (b : Bool) → (le_z least t && le_z t greatest) ≡ b → (u r l : Bool)
         → inside (cond b t (cond r (cond u least greatest) (cond l least greatest)))
-    go true e u r l = both_true (le_z least t) (le_z t greatest) e
+    go true e u r l = (and_left (le_z least t) (le_z t greatest) e, and_right (le_z least t) (le_z t greatest) e)
     go false e true true l = lowest
     go false e false true l = highest
     go false e u false true = lowest

@@ -1,6 +1,6 @@
 -- What a step or a slider of a good record stores is, read again in its mode, the whole number that 01 names.
-use mathlib.Core.Path.{◌≡◌, refl}
-use mathlib.Core.Bool.{Bool, true, false, ◌||◌}
+use mathlib.Core.Path.{◌≡◌, refl, sym}
+use mathlib.Core.Bool.{Bool, true, false, ◌||◌, true≢false}
 use mathlib.Core.Logic.{inl, inr}
 use Prim.Native.Nat.{ℕ, ◌<◌, ◌≤◌}
 use native.Mathlib.Nat.{lt_of_le_of_lt}
@@ -29,18 +29,15 @@ signed_byte : (w : ℕ) → w < 256 → signed w ≡ pos w
 unfolding signed
 signed_byte w h = let l : w < 32768 = omega arith in rw (lt-ltb w 32768 l)
 
-no : false ≡ true → ⊥
-no e = let z : ◌≡◌ {A = ℕ} 0 1 = cc in omega arith
-
 mag_between : (y z x : ℤ) → mag y < 32768 → mag z < 32768 → le_z y x ≡ true → le_z x z ≡ true → mag x < 32768
 mag_between y (pos m) (pos n) p q h l = lt_of_le_of_lt (leb-true n m l) q
-mag_between y (negsuc m) (pos n) p q h l = absurd (no l)
-mag_between (pos m) z (negsuc n) p q h l = absurd (no h)
+mag_between y (negsuc m) (pos n) p q h l = absurd (true≢false (sym l))
+mag_between (pos m) z (negsuc n) p q h l = absurd (true≢false (sym h))
 mag_between (negsuc m) z (negsuc n) p q h l = lt_of_le_of_lt (leb-true n m h) p
 
 byte_between : (a b : ℕ) (x : ℤ) → b < 256 → le_z (pos a) x ≡ true → le_z x (pos b) ≡ true → (n : ℕ) × ((x ≡ pos n) × (n < 256))
 byte_between a b (pos n) q h l = (n, (refl, lt_of_le_of_lt (leb-true n b l) q))
-byte_between a b (negsuc n) q h l = absurd (no h)
+byte_between a b (negsuc n) q h l = absurd (true≢false (sym h))
 
 -- a number between two that a mode holds
 module _ (mode old a b : ℕ) (z : ℤ) (low : le_z (signed a) z ≡ true) (high : le_z z (signed b) ≡ true) where

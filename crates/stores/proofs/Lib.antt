@@ -1,6 +1,5 @@
 -- the laws of the definitions
 pub mod Differences
-pub mod Whole
 pub mod Placed
 pub mod Fenced
 pub mod Roundings
@@ -9,7 +8,5 @@ pub mod Kept
 pub mod Sheets
 pub mod Examples
 -- the laws that the functions' proofs cite
-pub mod ModeAnswers
-pub mod StepAnswers
 pub mod SliderAnswers
 pub mod Determined

@@ -6,10 +6,23 @@ use native.Mathlib.Omega.{arith}
 use lib.Dec.{eqb}
 use lib.IntN.{ℤ, pos, negsuc}
 use lib.Signed.{mag}
-use borrow.Author.Tests.{lt-ltb, le-ltb, eqb-true, eqb-false}
+use borrow.Author.Tests.{lt-ltb, le-ltb, eqb-true, eqb-false, eq-eqb, ne_eqb}
 use Rattle.wire.specs.ByteOrder.{high_byte, low_byte, word}
-use Rattle.stores.specs.Store.{signed, word_of, value_in, placed}
-use Rattle.stores.proofs.ModeAnswers.{in_whole, in_high, in_low}
+use Rattle.stores.specs.Store.{in_mode, signed, word_of, value_in, placed}
+
+-- what is picked at each mode
+module _ {A : Type 0} (mode : ℕ) (w h l : A) where
+  in_whole : mode ≡ 0 → w ≡ in_mode mode w h l
+  unfolding in_mode
+  in_whole e = rw (eq-eqb mode 0 e)
+
+  in_high : (mode ≡ 0 → ⊥) → mode ≡ 1 → h ≡ in_mode mode w h l
+  unfolding in_mode
+  in_high n e = rw (ne_eqb mode 0 n, eq-eqb mode 1 e)
+
+  in_low : (mode ≡ 0 → ⊥) → (mode ≡ 1 → ⊥) → l ≡ in_mode mode w h l
+  unfolding in_mode
+  in_low n m = rw (ne_eqb mode 0 n, ne_eqb mode 1 m)
 
 module _ (mode old new : ℕ) where
   placed_high : (mode ≡ 0 → ⊥) → mode ≡ 1 → placed mode old new ≡ word (low_byte new) (low_byte old)

@@ -2,4 +2,3 @@ pub mod Store
 pub mod Step
 pub mod Slider
 pub mod Sheets
-pub mod Inner

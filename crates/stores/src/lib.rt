@@ -1,70 +1,59 @@
 // What a key, a step and a slider store in a word: 01, "Setup and touch table", in whole numbers. No record and no table.
 #![tactic(auto)]
 
-ghost use Rattle.std.specs.Prelude.{◌≡◌, ◌-◌, ◌≤◌, ◌<◌};
+ghost use Rattle.std.specs.Prelude.{◌≡◌, ◌-◌, ◌*◌};
 ghost use Rattle.std.specs.Int.Signed.{le_z};
 ghost use Rattle.stores.specs.Store.{signed, word_of, value_in, placed, key_stores};
-ghost use Rattle.stores.specs.Inner.{whole};
 ghost use Rattle.stores.specs.Step.{stepped, fenced, step_stores};
 ghost use Rattle.stores.specs.Slider.{nearest, rounded_down, rounded_to_nearest, rounded_by, slid_to, slider_stores};
 
 // ---- Numbers in words
 
-// By how much whole numbers are raised, so that any step taken from any word's number stays above 0.
-const RAISED_BY: u64 = 98304;
-
-// A word as a number that holds sums and products of words.
-fn wide(w: u16) -> u64
-    ensures { result ≡ w }
+// A word as a signed number.
+#[tactic(auto, unfolding(crate::specs::Store::signed))]
+fn signed(w: u16) -> i16
+    ensures { result ≡ signed w }
 {
-    w as u64
+    w.cast_signed()
 }
 
-// A word's signed number, raised.
-fn raise(w: u16) -> u64
-    ensures { (whole result ≡ signed w) × ((65536 ≤ result) × (result < 131072)) }
+// The word that holds a number.
+#[tactic(auto, unfolding(crate::specs::Store::word_of))]
+fn word_of(n: i32) -> u16
+    ensures { result ≡ word_of n }
 {
-    (wide(w) + 32768) % 65536 + 65536
-}
-
-// The word of a raised number.
-fn lower(n: u64) -> u16
-    ensures { result ≡ word_of (whole n) }
-{
-    ((n % 65536 + 32768) % 65536) as u16
+    (n.cast_unsigned() % 65536) as u16
 }
 
 // Whether a word is at most another, as signed numbers.
 pub fn at_most(a: u16, b: u16) -> bool
     ensures { result ≡ le_z (signed a) (signed b) }
 {
-    raise(a) <= raise(b)
+    signed(a) <= signed(b)
 }
 
-// The number that a mode finds in a word, raised.
-fn value_in(mode: u8, w: u16) -> u64
-    ensures { (whole result ≡ value_in mode w) × ((65536 ≤ result) × (result < 131072)) }
+// The number that a mode finds in a word.
+#[tactic(auto, unfolding(crate::specs::Store::in_mode))]
+fn value_in(mode: u8, w: u16) -> i16
+    ensures { result ≡ value_in mode w }
 {
-    if mode == 0 {
-        return raise(w);
+    match mode {
+        0 => signed(w),
+        1 => i16::from(wire::high_byte(w)),
+        _ => i16::from(wire::low_byte(w)),
     }
-    if mode == 1 {
-        return RAISED_BY + wide(wire::wide(wire::high_byte(w)));
-    }
-    RAISED_BY + wide(wire::wide(wire::low_byte(w)))
 }
 
 // What a mode makes of the old word and the new one.
+#[tactic(auto, unfolding(crate::specs::Store::in_mode))]
 fn place(mode: u8, old: u16, new: u16) -> u16
     ensures { result ≡ placed mode old new }
 {
-    if mode == 0 {
-        return new;
+    match mode {
+        0 => new,
+        1 => wire::word(wire::low_byte(new), wire::low_byte(old)),
+        _ => wire::word(wire::high_byte(old), wire::low_byte(new)),
     }
-    if mode == 1 {
-        return wire::word(wire::low_byte(new), wire::low_byte(old));
-    }
-    wire::word(wire::high_byte(old), wire::low_byte(new))
 }
 
 // ---- Key
@@ -78,35 +67,29 @@ pub fn key_stores(mode: u8, old: u16, code: u16) -> u16
 
 // ---- Step
 
-// The old value with the step added or taken, raised.
-fn step_from(up: bool, mode: u8, old: u16, step: u16) -> u64
-    ensures { whole result ≡ stepped up (value_in mode old) step }
+// The old value with the step added or taken.
+#[tactic(auto, unfolding(crate::specs::Step::stepped))]
+fn step_from(up: bool, mode: u8, old: u16, step: u16) -> i32
+    ensures { result ≡ stepped up (value_in mode old) step }
 {
-    let value = value_in(mode, old);
+    let value = i32::from(value_in(mode, old));
     if up {
-        value + wide(step)
+        value + i32::from(step)
     } else {
-        value - wide(step)
+        value - i32::from(step)
     }
 }
 
-// What is stored for t, all raised.
-fn fence(up: bool, round: bool, least: u64, greatest: u64, t: u64) -> u64
-    ensures { whole result ≡ fenced up round (whole least) (whole greatest) (whole t) }
+// What is stored for t.
+#[tactic(auto, unfolding(crate::specs::Step::fenced))]
+fn fence(up: bool, round: bool, least: i32, greatest: i32, t: i32) -> i32
+    ensures { result ≡ fenced up round least greatest t }
 {
     if (least <= t) & (t <= greatest) {
         return t;
     }
-    if round {
-        if up {
-            return least;
-        }
-        return greatest;
-    }
-    if t < least {
-        return least;
-    }
-    greatest
+    let to_least = if round { up } else { t < least };
+    if to_least { least } else { greatest }
 }
 
 // The word after a step acted on it.
@@ -123,14 +106,16 @@ pub fn step_stores(
     ensures { result ≡ step_stores mode old up round step least greatest }
 {
     let t = step_from(up, mode, old, step);
-    let kept = fence(up, round, raise(least), raise(greatest), t);
-    place(mode, old, lower(kept))
+    let least = i32::from(signed(least));
+    let greatest = i32::from(signed(greatest));
+    let kept = fence(up, round, least, greatest, t);
+    place(mode, old, word_of(kept))
 }
 
 // ---- Slider
 
 // The scale sheet that a slider keeps to, which says how it rounds.
-#[derive(Clone, Copy)]
+#[derive(Clone, Copy, Debug, PartialEq, Eq)]
 pub enum Sheet {
     // Down.
     Old,
@@ -138,33 +123,28 @@ pub enum Sheet {
     Revised,
 }
 
-fn nearest_to(first: u16, last: u16, at: u16) -> u16
-    ensures { result ≡ nearest first last at }
-{
-    if at < first {
-        return first;
+impl Sheet {
+    #[tactic(auto, unfolding(crate::specs::Slider::rounded_by))]
+    fn rounded(self, product: u32, w: u32) -> u32
+        ensures { result ≡ rounded_by self product w }
+    {
+        match self {
+            Sheet::Old => rounded_down(product, w),
+            Sheet::Revised => rounded_to_nearest(product, w),
+        }
     }
-    if last < at {
-        return last;
-    }
-    at
 }
 
-// How far one place lies behind another; 0 before it.
-fn distance(from: u16, to: u16) -> u64
-    ensures { result ≡ to - from }
-{
-    if to < from { 0 } else { wide(to - from) }
-}
-
-fn rounded_down(product: u64, w: u64) -> u64
+#[tactic(auto, unfolding(crate::specs::Slider::rounded_down))]
+fn rounded_down(product: u32, w: u32) -> u32
     ensures { result ≡ rounded_down product w }
 {
-    if w == 0 { 0 } else { product / w }
+    product.checked_div(w).unwrap_or(0)
 }
 
 // What is left of the product is held against what is wanting, so that no product is too great.
-fn rounded_to_nearest(product: u64, w: u64) -> u64
+#[tactic(auto, using(crate::proofs::SliderAnswers::nearest_laws))]
+fn rounded_to_nearest(product: u32, w: u32) -> u32
     ensures { result ≡ rounded_to_nearest product w }
 {
     if w == 0 {
@@ -179,34 +159,36 @@ fn rounded_to_nearest(product: u64, w: u64) -> u64
     }
 }
 
-fn rounded(sheet: Sheet, product: u64, w: u64) -> u64
-    ensures { result ≡ rounded_by sheet product w }
+// No `clamp`: where the last place lies before the first, a place before the first still counts as the first.
+#[tactic(auto, unfolding(crate::specs::Slider::nearest))]
+fn nearest_to(first: u16, last: u16, at: u16) -> u16
+    ensures { result ≡ nearest first last at }
 {
-    match sheet {
-        Sheet::Old => rounded_down(product, w),
-        Sheet::Revised => rounded_to_nearest(product, w),
-    }
+    if at < first { first } else { at.min(last) }
 }
 
-// How far one raised number lies above another; 0 below it.
-fn above(from: u64, to: u64) -> u64
-    ensures { result ≡ to - from }
+// How much of the way from begin to end is behind a slider.
+#[tactic(auto, using(crate::proofs::SliderAnswers::share_at_most))]
+fn moved(sheet: Sheet, way: u16, first: u16, last: u16, at: u16) -> u16
+    ensures { result ≡ rounded_by sheet (way * (nearest first last at - first)) (last - first) }
 {
-    if to < from { 0 } else { to - from }
+    let d = nearest_to(first, last, at).saturating_sub(first);
+    let w = last.saturating_sub(first);
+    sheet.rounded(u32::from(way) * u32::from(d), u32::from(w)) as u16
 }
 
-// Where a slider stands, raised.
-fn slide(sheet: Sheet, begin: u16, end: u16, first: u16, last: u16, at: u16) -> u64
-    ensures { whole result ≡ slid_to (rounded_by sheet) (signed begin) (signed end) first last at }
+// Where a slider stands.
+#[tactic(auto, using(crate::proofs::SliderAnswers::standing))]
+fn slide(sheet: Sheet, begin: u16, end: u16, first: u16, last: u16, at: u16) -> i32
+    ensures { result ≡ slid_to (rounded_by sheet) (signed begin) (signed end) first last at }
 {
-    let b = raise(begin);
-    let e = raise(end);
-    let d = distance(first, nearest_to(first, last, at));
-    let w = distance(first, last);
-    if b <= e {
-        b + rounded(sheet, above(b, e) * d, w)
+    let from = signed(begin);
+    let to = signed(end);
+    let moved = moved(sheet, to.abs_diff(from), first, last, at);
+    if from <= to {
+        i32::from(from) + i32::from(moved)
     } else {
-        b - rounded(sheet, above(e, b) * d, w)
+        i32::from(from) - i32::from(moved)
     }
 }
 
@@ -226,5 +208,5 @@ pub fn slider_stores(
     ensures { result ≡ slider_stores (rounded_by sheet) mode old begin end first last at }
 {
     let stands = slide(sheet, begin, end, first, last, at);
-    place(mode, old, lower(stands))
+    place(mode, old, word_of(stands))
 }

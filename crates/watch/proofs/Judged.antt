@@ -1,7 +1,7 @@
 -- Laws of `wrong_list`: exactly which lists are refused with 16.
 use mathlib.Core.Path.{◌≡◌, refl, sym}
 use mathlib.Core.Logic.{◌≢◌}
-use mathlib.Core.Bool.{Bool, true, false, not, ◌&&◌, ◌||◌, true≢false}
+use mathlib.Core.Bool.{Bool, true, false, not, ◌||◌, true≢false}
 use mathlib.Core.List.{List}
 use Prim.Native.Nat.{ℕ, ◌≤◌, ◌<◌}
 use native.Mathlib.Omega.{arith}
@@ -10,26 +10,9 @@ use lib.Dec.{eqb, ltb}
 use lib.ListN.{length}
 use Rattle.wire.specs.Addresses.{word_count}
 use Rattle.wire.proofs.Truths.{or_left, or_right}
-use Rattle.watch.specs.Watched.{Watched, watching, with_values, none_watched, entry_count, address_at, used_at}
+use Rattle.watch.specs.Watched.{Watched, with_values, none_watched, entry_count, address_at, used_at}
 use Rattle.watch.specs.Judge.{most_watched, some_below, is_past_end, share, is_wrong_at, wrong_lengths, wrong_list}
 use Rattle.watch.proofs.Somes.{none_passes}
-
--- the test of one entry, as the code makes it
-pub past_end_tested : (addresses uses : List ℕ) (i address : ℕ) (used : Bool) → used ≡ used_at uses i → address ≡ address_at addresses i
-    → (used && not (ltb address word_count)) ≡ is_past_end addresses uses i
-unfolding is_past_end
-past_end_tested addresses uses i address used is-used is_address = rw (is-used, is_address)
-
--- `is_wrong`, a law for each way it answers
-module _ (addresses uses values : List ℕ) (bad : Bool) (is-bad : bad ≡ wrong_lengths (length addresses) (length uses) (length values)) where
-  pub no_list : bad ≡ true → true ≡ wrong_list (watching addresses uses values)
-  unfolding wrong_list
-  no_list is = rw (← is-bad, is)
-
-  pub entries_decide : (some : Bool) → bad ≡ false → some ≡ some_below (is_wrong_at addresses uses) (length addresses)
-      → some ≡ wrong_list (watching addresses uses values)
-  unfolding wrong_list
-  entries_decide some is is_some = rw (← is-bad, is) is_some
 
 neither : (a b : Bool) → (a || b) ≡ false → (a ≡ false) × (b ≡ false)
 neither a b is = (or_left a b is, or_right a b is)

@@ -2,7 +2,6 @@ pub mod Places
 pub mod Somes
 pub mod Judged
 pub mod Runs
-pub mod Keeps
 pub mod Noted
 pub mod Sent
 pub mod Uses

@@ -3,39 +3,22 @@ use mathlib.Core.Path.{◌≡◌, refl, ap, ◌∙◌}
 use mathlib.Core.Bool.{Bool, true, false, cond}
 use mathlib.Core.List.{List}
 use mathlib.Core.Logic.{◌≢◌, ⊎_elim}
-use Prim.Native.Nat.{ℕ, zero, suc, ◌+◌, ◌≤◌, ◌<◌}
+use Prim.Native.Nat.{ℕ, zero, suc, ◌+◌, ◌<◌}
 use native.Mathlib.Omega.{arith}
 use native.Mathlib.Numerals.{add-one}
 use lib.ListN.{length, get_or, set, length-set}
 use lib.Seq.{get_or-set_same, get_or-set_other}
 use Rattle.words.specs.Words.{word_at_address}
-use Rattle.watch.specs.Watched.{Watched, watching, entry_count, address_at}
+use Rattle.watch.specs.Watched.{Watched, entry_count, address_at}
 use Rattle.watch.specs.Noting.{is_noted, noted_below, noted}
 use Rattle.watch.proofs.Places.{one_or_two, last_or_before}
 
--- the loop of `note`, a law for each way it goes
-module _ (words addresses uses old : List ℕ) (first n : ℕ) where
-  -- the values where the first i entries are gone through
-  abbrev pub NotedBelow : ℕ → List ℕ → Type 0
-  NotedBelow i values = values ≡ noted_below words (watching addresses uses old) first n i
-
-  pub none_noted : NotedBelow 0 old
-  unfolding noted_below
-  none_noted = refl
-
-  module _ (i : ℕ) (values : List ℕ) (are : NotedBelow i values) where
-    pub one_noted : (shall : Bool) (address word : ℕ) (next : List ℕ) → shall ≡ is_noted addresses uses first n i
-        → address ≡ address_at addresses i → word ≡ word_at_address words address → next ≡ cond shall (set values i word) values
-        → NotedBelow (i + 1) next
-    unfolding noted_below
-    one_noted shall address word next is-shall is_address is_word is_next =
-        rw (add-one i, ← are, ← is-shall, ← is_address, ← is_word) is_next
-
-    pub all_noted : i ≤ length addresses → length addresses ≤ i → values ≡ noted words (watching addresses uses old) first n
-    unfolding noted
-    all_noted inside end =
-        let all : i ≡ length addresses = omega arith in
-        rw all at are
+-- one entry more
+pub one_more : (words : List ℕ) (w : Watched) (first n i : ℕ) → noted_below words w first n (i + 1)
+    ≡ (let before = noted_below words w first n i in
+    cond (is_noted w.addresses w.uses first n i) (set before i (word_at_address words (address_at w.addresses i))) before)
+unfolding noted_below
+one_more words w first n i = rw (add-one i) refl
 
 -- one entry gone through
 module _ (values : List ℕ) (k word : ℕ) where

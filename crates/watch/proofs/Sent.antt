@@ -3,56 +3,57 @@ use mathlib.Core.Path.{◌≡◌, refl, ap, ◌∙◌}
 use mathlib.Core.Bool.{Bool, true, false, cond}
 use mathlib.Core.List.{List, [], ◌∷◌}
 use mathlib.Core.Logic.{⊎_elim}
-use Prim.Native.Nat.{ℕ, zero, suc, ◌+◌, ◌-◌, ◌≤◌, ◌<◌}
-use native.Mathlib.Nat.{sub_self}
+use Prim.Native.Nat.{ℕ, zero, suc, ◌+◌, ◌<◌}
 use native.Mathlib.Omega.{arith}
 use Rattle.std.specs.Prelude.{Option, None, Some}
 use lib.ListN.{length, set, length-set}
+use Rattle.std.specs.List.{find, range_with_len}
 use Rattle.wire.specs.Numbers.{first_said}
 use Rattle.words.specs.declared.WordAddress.{WordAddress}
 use Rattle.words.specs.Words.{word_at_address}
-use Rattle.watch.specs.Watched.{Watched, watching, entry_count, address_at}
+use Rattle.watch.specs.declared.WatchList.{WatchList}
+use Rattle.watch.specs.Watched.{Watched, list_of, with_sent, entry_count, address_at}
 use Rattle.watch.specs.Sending.{is_due, Sending, sends, sent, sending_from, sending, due_said, due_listed, send_said}
 use Rattle.watch.proofs.Places.{last_or_before}
 
--- the loop of `send`, a law for each way it goes
-module _ (words addresses uses old : List ℕ) where
-  -- what is sent is of the last entries, so many as are left
-  abbrev pub SendsLast : ℕ → Type 0
-  SendsLast left =
-      sending words (watching addresses uses old) ≡ sending_from words (watching addresses uses old) (length addresses - left) left
+-- what is sent where this is the first entry that is due
+abbrev sent_first : (words : List ℕ) → Watched → Option ℕ → Sending
+sent_first words w None = sends None w.values
+sent_first words w (Some i) = sent words w i
 
-  pub all_left : SendsLast (length addresses)
+module _ (words : List ℕ) (w : Watched) where
+  found_from : (i n : ℕ) → sent_first words w (find (is_due words w) (range_with_len i n)) ≡ sending_from words w i n
+  unfolding sending_from
+  found_from i zero = refl
+  found_from i (suc n) = go (is_due words w i) (found_from (i + 1) n)
+    where
+      go : (b : Bool) → sent_first words w (find (is_due words w) (range_with_len (i + 1) n)) ≡ sending_from words w (i + 1) n
+          → sent_first words w (cond b (Some i) (find (is_due words w) (range_with_len (i + 1) n))) ≡ cond b (sent words w i) (sending_from words w (i + 1) n)
+      go true on = refl
+      go false on = on
+
+  found_sent : (found : Option ℕ) → found ≡ find (is_due words w) (range_with_len 0 (entry_count w)) → sent_first words w found ≡ sending words w
   unfolding sending
-  all_left = rw (sub_self (length addresses))
+  found_sent found is = rw is (found_from 0 (entry_count w))
 
-  module _ (left : ℕ) (values : List ℕ) (same : values ≡ old) (from : SendsLast left) where
-    pub none_found : left ≤ 0 → sends None values ≡ sending words (watching addresses uses old)
-    unfolding sending_from
-    none_found end =
-        let all : left ≡ 0 = omega arith in
-        rw (from, all, same)
+-- `send`, a law for each way it answers
+module _ (words : List ℕ) (list : WatchList) where
+  -- the first entry that is due
+  abbrev found : Option ℕ
+  found = find (is_due words (list_of list)) (range_with_len 0 (length list.addresses.now))
 
-    module _ (due : Bool) (is-due : due ≡ is_due words (watching addresses uses values) (length addresses - left)) (more : 0 < left) where
-      begun : sending words (watching addresses uses old)
-          ≡ sending_from words (watching addresses uses old) (length addresses - left) (suc (left - 1))
-      begun =
-          let next : left ≡ suc (left - 1) = omega arith in
-          from ∙ ap (λ (n : ℕ). sending_from words (watching addresses uses old) (length addresses - left) n) next
+  pub none_sent : None ≡ found → (due : Option WordAddress) → due ≡ None
+      → (due ≡ (sending words (list_of list)).due) × (list ≡ with_sent list (sending words (list_of list)).values)
+  none_sent none due is =
+      let all : sends None list.values.now ≡ sending words (list_of list) = found_sent words (list_of list) None none in
+      rw (← all, is) (refl, refl)
 
-      pub due_found : (address word : ℕ) (after : List ℕ) → due ≡ true → address ≡ address_at addresses (length addresses - left)
-          → word ≡ word_at_address words address → after ≡ cond true (set values (length addresses - left) word) values
-          → sends (Some (record { 0 = address })) after ≡ sending words (watching addresses uses old)
-      unfolding sending_from
-      due_found address word after is is_address is_word is-after =
-          rw (begun, ← same, ← is-due, is, is-after, is_word, is_address)
-
-      pub not_found : due ≡ false → left ≤ length addresses → SendsLast (left - 1)
-      unfolding sending_from
-      not_found is inside =
-          let place : length addresses - (left - 1) ≡ length addresses - left + 1 = omega arith in
-          let not_due : is_due words (watching addresses uses old) (length addresses - left) ≡ false = rw (← same, ← is-due) is in
-          begun ∙ rw (place, not_due)
+  pub one_sent : (i : ℕ) → Some i ≡ found → (address : WordAddress) → address.0 ≡ address_at list.addresses.now i → (word : ℕ)
+      → word ≡ word_at_address words address.0 → (left : WatchList) → left ≡ with_sent list (set list.values.now i word)
+      → (Some address ≡ (sending words (list_of list)).due) × (left ≡ with_sent list (sending words (list_of list)).values)
+  one_sent i some address is_address word is_word left is-left =
+      let all : sent words (list_of list) i ≡ sending words (list_of list) = found_sent words (list_of list) (Some i) some in
+      rw (← all, ← is_address, ← is_word) (refl, is-left)
 
 -- the two ways in which a contact goes
 pub data Sends (words : List ℕ) (w : Watched) : Type 0 where
@@ -100,7 +101,6 @@ module _ (words : List ℕ) (w : Watched) where
       go true behind = refl
       go false behind = behind
 
-  pub send_said_lem : (due : Option WordAddress) (values : List ℕ) → sends due values ≡ sending words w
-      → (sends due values ≡ sending words w) × (due_said due ≡ send_said words w)
+  pub send_said_lem : (due : Option WordAddress) → due ≡ (sending words w).due → due_said due ≡ send_said words w
   unfolding sending
-  send_said_lem due values is = (is, ap (λ (s : Sending). due_said s.due) is ∙ due_as_listed 0 (entry_count w))
+  send_said_lem due is = ap due_said is ∙ due_as_listed 0 (entry_count w)

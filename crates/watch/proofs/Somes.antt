@@ -2,12 +2,30 @@
 use mathlib.Core.Path.{◌≡◌, refl, sym, ap, ◌∙◌}
 use mathlib.Core.Bool.{Bool, true, false, ◌||◌}
 use mathlib.Core.Logic.{⊎_elim}
-use Prim.Native.Nat.{ℕ, zero, suc, ◌+◌, ◌≤◌, ◌<◌}
+use Prim.Native.Nat.{ℕ, zero, suc, ◌+◌, ◌<◌}
 use native.Mathlib.Omega.{arith}
-use native.Mathlib.Numerals.{add-one}
+use native.Mathlib.Numerals.{add-one, unary_clauses}
+use Rattle.std.proofs.Math.Bool.{or_assoc, or-false}
+use Rattle.std.specs.List.{list_any, range_with_len}
 use Rattle.wire.proofs.Truths.{never}
 use Rattle.watch.specs.Judge.{some_below}
 use Rattle.watch.proofs.Places.{last_or_before}
+
+-- the numbers below n, gone through in their order
+module _ (test : ℕ → Bool) where
+  some_from : (a n : ℕ) → (some_below test a || list_any test (range_with_len a n)) ≡ some_below test (a + n)
+  unfolding some_below
+  some_from a zero = simp unary_clauses (or-false (some_below test a))
+  some_from a (suc n) =
+      let next : a + suc n ≡ a + 1 + n = omega arith in
+      let grown : some_below test (a + 1) ≡ some_below test a || test a = rw (add-one a) refl in
+      rw next (sym (or_assoc (some_below test a) (test a) (list_any test (range_with_len (a + 1) n))) ∙ rw (← grown) (some_from (a + 1) n))
+
+  pub some_in_range : (n : ℕ) → list_any test (range_with_len 0 n) ≡ some_below test n
+  unfolding some_below
+  some_in_range n =
+      let all : 0 + n ≡ n = omega arith in
+      rw all at (some_from 0 n)
 
 or_true : (a b : Bool) → b ≡ true → (a || b) ≡ true
 or_true true b is = refl
@@ -29,21 +47,3 @@ module _ (test : ℕ → Bool) where
       go : (b : Bool) → test i ≡ b → b ≡ false
       go true is = never (cc (some_passes n i below is))
       go false is = refl
-
-  -- a loop over the numbers, one law for each way it goes
-  pub none_yet : some_below test 0 ≡ false
-  unfolding some_below
-  none_yet = refl
-
-  pub none_below : (i n : ℕ) → some_below test i ≡ false → i ≤ n → n ≤ i → false ≡ some_below test n
-  none_below i n none inside end =
-      let all : i ≡ n = omega arith in
-      sym (rw all at none)
-
-  module _ (i : ℕ) (b : Bool) (is_b : b ≡ test i) where
-    pub passes_here : (n : ℕ) → b ≡ true → i < n → true ≡ some_below test n
-    passes_here n is below = sym (some_passes n i below (sym is_b ∙ is))
-
-    pub passes_not : b ≡ false → some_below test i ≡ false → some_below test (i + 1) ≡ false
-    unfolding some_below
-    passes_not is none = rw (add-one i, none, ← is_b) is

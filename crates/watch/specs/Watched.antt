@@ -1,5 +1,6 @@
 -- 02, §4: "The caller lends a list of up to 16 watched words, each entry a word address, whether it is in use, and the value last sent."
 use Rattle.std.specs.Prelude.{ℕ, Bool, not, List, [], eqb, length, get_or}
+use Rattle.watch.specs.declared.WatchList.{WatchList}
 
 -- "a list of up to 16 watched words", as three lists of numbers: entry i is what stands at place i of each
 pub record Watched : Type 0 where
@@ -17,6 +18,14 @@ watching addresses uses values = record { addresses = addresses; uses = uses; va
 -- the same with other values last sent
 abbrev pub with_values : Watched → (values : List ℕ) → Watched
 with_values w values = watching w.addresses w.uses values
+
+-- "The caller lends a list": what stands in the one that is lent
+abbrev pub list_of : WatchList → Watched
+list_of lent = watching lent.addresses.now lent.uses.now lent.values.now
+
+-- "and the value last sent": the list as it is lent, with other values behind the same reference
+abbrev pub with_sent : WatchList → (values : List ℕ) → WatchList
+with_sent lent values = record lent { values = record lent.values { now = values } }
 
 -- "the trace lends no entries": a list of none
 abbrev pub none_watched : Watched

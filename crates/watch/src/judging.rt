@@ -1,88 +1,80 @@
 // Which lists are wrong: 16.
-ghost use Rattle.std.specs.Prelude.{◌≡◌, length, get_or};
-ghost use Rattle.watch.specs.Watched.{watching, used_at};
+ghost use Rattle.std.specs.Prelude.{◌≡◌, length};
+ghost use Rattle.watch.specs.Watched.{list_of, address_at, used_at};
 ghost use Rattle.watch.specs.Judge.{some_below, is_past_end, share, is_wrong_at, wrong_lengths, wrong_list};
 
-use crate::MOST_WATCHED;
+use crate::{MOST_WATCHED, WatchList};
 use wire::WORD_COUNT;
-
-// The number at a place; past the end, 0.
-pub(crate) fn number_at(numbers: &[u16], i: usize) -> u16
-    ensures { result ≡ get_or numbers.now i 0 }
-{
-    if i < numbers.len() { numbers[i] } else { 0 }
-}
-
-// Whether an entry is in use.
-pub(crate) fn is_used(uses: &[u8], i: usize) -> bool
-    ensures { result ≡ used_at uses.now i }
-{
-    wire::byte_at(uses, i) != 0
-}
-
-// Whether an entry in use has an address past the last word.
-fn is_past_end(addresses: &[u16], uses: &[u8], i: usize) -> bool
-    ensures { result ≡ is_past_end addresses.now uses.now i }
-{
-    is_used(uses, i) & !((number_at(addresses, i) as usize) < WORD_COUNT)
-}
-
-// Whether two entries in use have the same address.
-fn do_share(addresses: &[u16], uses: &[u8], i: usize, j: usize) -> bool
-    ensures { result ≡ share addresses.now uses.now i j }
-{
-    is_used(uses, i) & is_used(uses, j) & (number_at(addresses, i) == number_at(addresses, j))
-}
-
-// Whether an entry shares its word with one before it.
-fn shares_before(addresses: &[u16], uses: &[u8], i: usize) -> bool
-    ensures { result ≡ some_below (share addresses.now uses.now i) i }
-{
-    let mut j = 0;
-    while j < i {
-        if do_share(addresses, uses, i, j) {
-            return true;
-        }
-        j += 1;
-    }
-    false
-}
-
-// Whether an entry makes the list wrong.
-fn is_wrong_at(addresses: &[u16], uses: &[u8], i: usize) -> bool
-    ensures { result ≡ is_wrong_at addresses.now uses.now i }
-{
-    is_past_end(addresses, uses, i) | shares_before(addresses, uses, i)
-}
-
-// Whether one of the entries does.
-fn has_wrong(addresses: &[u16], uses: &[u8]) -> bool
-    ensures { result ≡ some_below (is_wrong_at addresses.now uses.now) (length addresses.now) }
-{
-    let n = addresses.len();
-    let mut i = 0;
-    while i < n {
-        if is_wrong_at(addresses, uses, i) {
-            return true;
-        }
-        i += 1;
-    }
-    false
-}
+use words::WordAddress;
 
 // Whether the three slices are no list of up to 16 entries.
-fn are_wrong_lengths(addresses: usize, uses: usize, values: usize) -> bool
+#[tactic(auto, unfolding(crate::specs::Judge::wrong_lengths))]
+pub(crate) fn are_wrong_lengths(addresses: usize, uses: usize, values: usize) -> bool
     ensures { result ≡ wrong_lengths addresses uses values }
 {
-    (MOST_WATCHED < addresses) | (uses != addresses) | (values != addresses)
+    MOST_WATCHED < addresses || uses != addresses || values != addresses
 }
 
-// Whether a list is refused with 16.
-pub fn is_wrong(addresses: &[u16], uses: &[u8], values: &[u16]) -> bool
-    ensures { result ≡ wrong_list (watching addresses.now uses.now values.now) }
-{
-    if are_wrong_lengths(addresses.len(), uses.len(), values.len()) {
-        return true;
+impl WatchList<'_, '_> {
+    // The address of an entry's word; past the end, 0.
+    pub(crate) fn address_at(&self, i: usize) -> WordAddress
+        ensures { result.0 ≡ address_at self.now.addresses.now i }
+    {
+        WordAddress(self.addresses.get(i).copied().unwrap_or(0))
     }
-    has_wrong(addresses, uses)
+
+    // Whether an entry is in use.
+    #[tactic(auto, unfolding(crate::specs::Watched::used_at))]
+    pub(crate) fn is_used(&self, i: usize) -> bool
+        ensures { result ≡ used_at self.now.uses.now i }
+    {
+        wire::byte_at(self.uses, i) != 0
+    }
+
+    // Whether an entry in use has an address past the last word.
+    #[tactic(auto, unfolding(crate::specs::Judge::is_past_end))]
+    fn is_past_end(&self, i: usize) -> bool
+        ensures { result ≡ is_past_end self.now.addresses.now self.now.uses.now i }
+    {
+        self.is_used(i) && usize::from(self.address_at(i).0) >= WORD_COUNT
+    }
+
+    // Whether two entries in use have the same address.
+    #[tactic(auto, unfolding(crate::specs::Judge::share))]
+    fn do_share(&self, i: usize, j: usize) -> bool
+        ensures { result ≡ share self.now.addresses.now self.now.uses.now i j }
+    {
+        self.is_used(i) && self.is_used(j) && self.address_at(i) == self.address_at(j)
+    }
+
+    // Whether an entry shares its word with one before it.
+    fn shares_before(&self, i: usize) -> bool
+        ensures { result ≡ some_below (share self.now.addresses.now self.now.uses.now i) i }
+    {
+        (0..i).any(|j| self.do_share(i, j))
+    }
+
+    // Whether an entry makes the list wrong.
+    #[tactic(auto, unfolding(crate::specs::Judge::is_wrong_at))]
+    fn is_wrong_at(&self, i: usize) -> bool
+        ensures { result ≡ is_wrong_at self.now.addresses.now self.now.uses.now i }
+    {
+        self.is_past_end(i) || self.shares_before(i)
+    }
+
+    // Whether one of the entries does.
+    pub(crate) fn has_wrong(&self) -> bool
+        ensures { result ≡ some_below (is_wrong_at self.now.addresses.now self.now.uses.now) (length self.now.addresses.now) }
+    {
+        (0..self.addresses.len()).any(|i| self.is_wrong_at(i))
+    }
+
+    // Whether the list is refused with 16.
+    #[tactic(auto, unfolding(crate::specs::Judge::wrong_list))]
+    pub fn is_wrong(&self) -> bool
+        ensures { result ≡ wrong_list (list_of self.now) }
+    {
+        are_wrong_lengths(self.addresses.len(), self.uses.len(), self.values.len())
+            || self.has_wrong()
+    }
 }

@@ -1,14 +1,21 @@
-// The watched words of 02, §4, lent as three slices: addresses, uses (00 where an entry is not in use) and values last sent. Entry i is what stands
-// at place i of each; a place past a slice's end reads 0.
+// The watched words of 02, §4: a lent list of addresses, uses (00 where an entry is not in use) and values last sent.
 #![tactic(auto)]
 
 mod judging; // 16
 mod noting; // what a line write notes
 mod sending; // the entry that is due
+mod slices; // the same over the three slices
 
-pub use judging::is_wrong;
-pub use noting::note;
-pub use sending::send;
+pub use slices::{is_wrong, note, send};
 
 // "a list of up to 16 watched words"
 pub const MOST_WATCHED: usize = 16;
+
+// The list as it is lent: entry i is what stands at place i of each slice; a place past a slice's end reads 0. Three slices and no slice of entries, since
+// tests/watch_lists.py and `is_wrong` promise 16 where they differ in length.
+#[derive(Drop)]
+pub struct WatchList<'s, 'v> {
+    pub addresses: &'s [u16],
+    pub uses: &'s [u8],
+    pub values: &'v mut [u16],
+}

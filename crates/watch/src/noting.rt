@@ -1,56 +1,49 @@
 // What a line write notes.
-ghost use Rattle.std.specs.Prelude.{◌≡◌, cond, set};
-ghost use Rattle.watch.specs.Watched.{watching};
+ghost use Rattle.std.specs.Prelude.{◌≡◌, set};
+ghost use Rattle.watch.specs.Watched.{list_of, with_sent};
 ghost use Rattle.watch.specs.Noting.{in_run, is_noted, noted};
 
-use crate::judging;
+use crate::WatchList;
 use words::WordAddress;
 
 // Whether a word lies in the run of n words from the first on.
+#[tactic(auto, unfolding(crate::specs::Noting::in_run))]
 fn is_in_run(first: WordAddress, n: usize, address: WordAddress) -> bool
     ensures { result ≡ in_run first.0 n address.0 }
 {
-    let a = address.0 as usize;
-    let f = first.0 as usize;
-    (f <= a) & (wire::above(a, f) < n)
+    let a = usize::from(address.0);
+    let f = usize::from(first.0);
+    f <= a && a - f < n
 }
 
-// Whether an entry is in use and its word lies in the run.
-fn is_noted(addresses: &[u16], uses: &[u8], first: WordAddress, n: usize, i: usize) -> bool
-    ensures { result ≡ is_noted addresses.now uses.now first.0 n i }
-{
-    let address = WordAddress(judging::number_at(addresses, i));
-    judging::is_used(uses, i) & is_in_run(first, n, address)
-}
+impl WatchList<'_, '_> {
+    // Whether an entry is in use and its word lies in the run.
+    #[tactic(auto, unfolding(crate::specs::Noting::is_noted))]
+    fn is_noted(&self, first: WordAddress, n: usize, i: usize) -> bool
+        ensures { result ≡ is_noted self.now.addresses.now self.now.uses.now first.0 n i }
+    {
+        self.is_used(i) && is_in_run(first, n, self.address_at(i))
+    }
 
-// Notes a value as the one last sent of entry i, where it is to be; past the end, nothing.
-pub(crate) fn keep(values: &mut [u16], i: usize, value: u16, shall: bool)
-    ensures { values.new ≡ cond shall (set values.old i value) values.old }
-{
-    if shall {
-        if i < values.len() {
-            values[i] = value;
+    // Notes a value as the one last sent of entry i; past the end, nothing.
+    pub(crate) fn keep(&mut self, i: usize, value: u16)
+        ensures { self.new ≡ with_sent self.old (set self.old.values.now i value) }
+    {
+        // by index, since behind `get_mut` the check knows no element of a slice: tried, and it didn't close
+        if i < self.values.len() {
+            self.values[i] = value;
         }
     }
-}
 
-// Notes the word of each entry in use that lies in the run of n words from the first on; the words are as the write left them.
-pub fn note(
-    words: &[u16],
-    addresses: &[u16],
-    uses: &[u8],
-    values: &mut [u16],
-    first: WordAddress,
-    n: usize,
-)
-    ensures { values.new ≡ noted words.now (watching addresses.now uses.now values.old) first.0 n }
-{
-    let count = addresses.len();
-    let mut i = 0;
-    while i < count {
-        let word = words::at(words, WordAddress(judging::number_at(addresses, i)));
-        let shall = is_noted(addresses, uses, first, n, i);
-        keep(values, i, word, shall);
-        i += 1;
+    // Notes the word of each entry in use that lies in the run of n words from the first on; the words are as the write left them.
+    #[tactic(auto, using(crate::proofs::Noted::one_more), unfolding(crate::specs::Noting::noted, crate::specs::Noting::noted_below))]
+    pub fn note(&mut self, words: &[u16], first: WordAddress, n: usize)
+        ensures { self.new ≡ with_sent self.old (noted words.now (list_of self.old) first.0 n) }
+    {
+        for i in 0..self.addresses.len() {
+            if self.is_noted(first, n, i) {
+                self.keep(i, words::at(words, self.address_at(i)));
+            }
+        }
     }
 }

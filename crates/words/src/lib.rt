@@ -6,7 +6,7 @@ ghost use Rattle.wire.specs.Room.{over, laid_at, lays};
 ghost use Rattle.words.specs.Words.{word_at_address, word_set, words_of, bytes_of, word_run, words_written, words_laid};
 
 // An address of a word. It cannot stand where a register's address is meant, nor the other way round.
-#[derive(Clone, Copy)]
+#[derive(Clone, Copy, Debug, PartialEq, Eq)]
 pub struct WordAddress(pub u16);
 
 impl WordAddress {

@@ -1,17 +1,19 @@
--- `check_value::check_from` meets its contract. The loop's invariant: what is left, read on from here, gives the answer.
-use mathlib.Core.Path.{refl}
+-- `check_value::check_from` meets its contract: pair by pair, and then the byte that may be left.
+use mathlib.Core.Path.{◌≡◌, ◌∙◌}
+use Prim.Native.Nat.{◌/◌}
+use native.Mathlib.Omega.{arith}
 use borrow.Author.Rules.{rules}
-use Rattle.check_value.proofs.ReadingOn.{two_more, one_last, none_left}
+use lib.ListN.{length}
+use Rattle.std.specs.List.{fold}
+use Rattle.std.specs.Simd.{first_chunks}
+use Rattle.check_value.specs.CheckValue.{byte_step}
+use Rattle.check_value.specs.Inner.{pair_step}
+use Rattle.check_value.proofs.ReadingOn.{by_pairs}
 use Rattle.check_value.proofs.check_from.Goals as goal
 
-pub loop-i-init : goal.loop-i-init
-loop-i-init c = (search rules, refl)
-
-pub loop-i-preserved : goal.loop-i-preserved
-loop-i-preserved c = (search rules, search two_more)
-
-pub returns-then-i-bytes : goal.returns-then-i-bytes
-returns-then-i-bytes c = search one_last
-
-pub returns-else-i-bytes : goal.returns-else-i-bytes
-returns-else-i-bytes c = search none_left
+pub returns : goal.returns
+returns c =
+    let bytes = c.args.bytes.now in
+    let pairs : c.fold-reached.result ≡ fold pair_step c.args.value (first_chunks 2 (length bytes / 2) bytes) = search rules in
+    let last : c.fold.result ≡ fold byte_step c.fold-reached.result c.as_chunks.result.1.now = search rules in
+    last ∙ by_pairs (length bytes / 2) c.args.value bytes _ _ pairs c.as_chunks.ensures.back (omega arith)

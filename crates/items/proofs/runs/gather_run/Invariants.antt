@@ -1,11 +1,6 @@
 -- `items::runs::gather_run` meets its contract.
-use Prim.Native.Nat.{◌-◌}
-use lib.ListN.{length}
 use Rattle.items.proofs.Gathering.{Gathering}
 use Rattle.items.proofs.runs.gather_run.Given as goal
 
 abbrev pub invariant-loop-n : goal.invariant-loop-n
 invariant-loop-n l = Gathering l.input l.initial.room l.room l.n
-
-abbrev pub decreases-loop-n : goal.decreases-loop-n
-decreases-loop-n l = length l.initial.room - l.n

@@ -1,6 +1,7 @@
 -- `registers::Registers::moment` meets its contract.
-use Rattle.registers.proofs.Clocking.{moment_read}
+use Rattle.std.proofs.Common.{◌∙◌}
+use Rattle.registers.proofs.Clocking.{moment_seen}
 use Rattle.registers.proofs.Registers.moment.Goals as goal
 
 pub returns : goal.returns
-returns c = search moment_read
+returns c = c.moment_in.ensures ∙ moment_seen c.args.self

@@ -1,9 +1,12 @@
 -- `registers::Registers::write` meets its contract.
-use Rattle.registers.proofs.Copying.{run_written, run_refused}
+use Rattle.registers.proofs.Copying.{run_refused, run_on, run_written}
 use Rattle.registers.proofs.Registers.write.Goals as goal
 
-pub returns-then-a-n-le-REGISTER_COUNT : goal.returns-then-a-n-le-REGISTER_COUNT
-returns-then-a-n-le-REGISTER_COUNT c = search run_written
+pub returns-then-passes_end : goal.returns-then-passes_end
+returns-then-passes_end c = search run_refused
 
-pub returns-else-a-n-le-REGISTER_COUNT : goal.returns-else-a-n-le-REGISTER_COUNT
-returns-else-a-n-le-REGISTER_COUNT c = search run_refused
+pub loop-i-preserved : goal.loop-i-preserved
+loop-i-preserved c = search run_on
+
+pub returns : goal.returns
+returns c = search run_written

@@ -1,12 +1,11 @@
 -- `registers::laying::read` meets its contract.
 use Rattle.registers.proofs.Copying.{read_past, read_no_room, read_done}
 use Rattle.registers.proofs.laying.read.Goals as goal
+use Rattle.registers.proofs.laying.read.Goals.{then-passes_end-via-then-passes_end, then-passes_end-via-else-passes_end+then-room-n}
 
-pub returns-then-a-m-gt-REGISTER_COUNT : goal.returns-then-a-m-gt-REGISTER_COUNT
-returns-then-a-m-gt-REGISTER_COUNT c = search read_past
-
-pub returns-then-room-m : goal.returns-then-room-m
-returns-then-room-m c = search read_no_room
+pub returns-then-passes_end : goal.returns-then-passes_end
+returns-then-passes_end c =
+    elim c.then-passes_end.branch [ then-passes_end-via-then-passes_end w ↦ search read_past | then-passes_end-via-else-passes_end+then-room-n w ↦ search read_no_room ]
 
 pub returns : goal.returns
 returns c = search read_done

@@ -1,13 +1,13 @@
 -- `registers::laying::read_run` meets its contract.
+use mathlib.Core.Path.{refl}
 use borrow.Author.Rules.{rules}
-use Rattle.registers.proofs.Copying.{read_none, read_more, read_all}
+use Rattle.registers.specs.Table.{register_run}
+use Rattle.registers.proofs.Copying.{read_more}
 use Rattle.registers.proofs.laying.read_run.Goals as goal
 
 pub loop-i-init : goal.loop-i-init
-loop-i-init c = (search rules, search rules, search read_none)
+unfolding register_run
+loop-i-init c = refl
 
 pub loop-i-preserved : goal.loop-i-preserved
-loop-i-preserved c = (search rules, search rules, search read_more)
-
-pub returns : goal.returns
-returns c = search read_all
+loop-i-preserved c = search (rules, read_more)
