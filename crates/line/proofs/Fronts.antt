@@ -1,27 +1,20 @@
 -- Laws of what the small functions answer.
 use mathlib.Core.Path.{◌≡◌, sym, ap, ◌∙◌}
-use mathlib.Core.Bool.{Bool, not, ◌&&◌}
+use mathlib.Core.Bool.{Bool}
 use mathlib.Core.List.{List}
 use Rattle.std.specs.Prelude.{Some}
 use Prim.Native.Nat.{ℕ, ◌+◌, ◌-◌, ◌≤◌, ◌<◌}
 use native.Mathlib.Omega.{arith}
 use borrow.Author.Tests.{lt-ltb, le-ltb}
-use lib.Dec.{ltb}
 use lib.ListN.{length, get_or, take, drop, length-drop}
 use lib.Seq.{length-take-le}
-use Rattle.frame.specs.Frame.{check_length, content_of, longest_frame}
+use Rattle.frame.specs.Frame.{check_length, content_of}
 use Rattle.place.specs.declared.Look.{Look}
-use Rattle.place.specs.declared.Look.TheVariants.{Bad, Good}
-use Rattle.line.specs.declared.Report.TheVariants.{Accepted, BadCheck}
+use Rattle.place.specs.declared.Look.TheVariants.{Good}
+use Rattle.line.specs.declared.Report.TheVariants.{Accepted}
 use Rattle.line.specs.Inner.{decided_at}
-use Rattle.line.specs.Methods.{is_answer, takes, span, told}
+use Rattle.line.specs.Methods.{told}
 use Rattle.line.proofs.Padding.{drop_take}
-
-pub takes_if : (n : ℕ) (head : Look) (r : Bool) → r ≡ is_answer head → (ltb n longest_frame && not r) ≡ takes n head
-takes_if n head r is = rw is
-
-pub span_good : (header : List ℕ) (look : Look) (h l n : ℕ) → h ≡ length header → look ≡ Good l → n ≡ l → h + 1 + n ≡ span header look
-span_good header look h l n is-h is is-n = rw (is-h, is, is-n)
 
 pub whole_known : (header xs : List ℕ) (h l : ℕ) → h ≡ length header → h < length xs → l ≡ get_or xs h 0 → h + 1 + l ≡ decided_at header xs
 unfolding decided_at
@@ -44,9 +37,6 @@ unfolding content_of
 content_part checking body c end is_c is-end =
     let same : length body - check_length checking ≡ end = omega arith in
     rw same (drop_take 1 end body)
-
-pub told_bad : (checking : Bool) (look : Look) (body : List ℕ) (command : ℕ) → look ≡ Bad command → Some (BadCheck command) ≡ told checking look body
-told_bad checking look body command is = rw is
 
 pub told_good : (checking : Bool) (look : Look) (body : List ℕ) (l command n c : ℕ) → look ≡ Good l → command ≡ get_or body 0 0
     → c ≡ check_length checking → n ≡ length body - (1 + c) → Some (Accepted command n) ≡ told checking look body

@@ -66,9 +66,6 @@ pub none_is : (reader : Reader) → reader ≡ opened (record { header = record 
 unfolding no_reader
 none_is reader is = is
 
-pub waits_if : (reader : Reader) (r : Bool) → r ≡ takes reader.len reader.head → not r ≡ busy reader
-waits_if reader r is = ap not is
-
 module _ (reader : Reader) (r : Bool) (is : r ≡ takes reader.len reader.head) where
   is_busy : busy reader ≡ not r
   is_busy = ap not (sym is)

@@ -36,9 +36,6 @@ use Rattle.line.proofs.Feeding.{old_few, old_fits, old_front, bytes_given}
 use Rattle.line.proofs.Asking.{ask_gives, nothing_asked, report_asked}
 
 -- bytes laid over the front of an array
-pub end_inside : (n : ℕ) (held : List ℕ) → n ≤ longest_frame → length held ≡ longest_frame → n ≤ length held
-end_inside n held few long = omega arith
-
 pub copied_over : (n : ℕ) (xs out part : List ℕ) → length xs ≡ n → part ≡ xs → part ++ drop n out ≡ over xs out
 unfolding over
 copied_over n xs out part long is = rw (is, long)
