@@ -21,14 +21,16 @@ pub fn zeros<const N: usize>() -> [u8; N]
 pub fn high_byte(w: u16) -> u8
     ensures { result ≡ high_byte w }
 {
-    (w / 256) as u8
+    let [high, _] = w.to_be_bytes();
+    high
 }
 
 // The second of them.
 pub fn low_byte(w: u16) -> u8
     ensures { result ≡ low_byte w }
 {
-    (w % 256) as u8
+    let [_, low] = w.to_be_bytes();
+    low
 }
 
 // The number whose two bytes these are.
