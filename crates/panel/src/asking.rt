@@ -43,7 +43,14 @@ impl Panel {
         let asked = self.reader.ask();
         // a local of their own: to lend a part of self copies all of self
         let mut registers = self.registers;
-        let done = hand_over(self.setup, &registers.bytes, asked.report, &asked.payload, words, room);
+        let done = hand_over(
+            self.setup,
+            &registers.bytes,
+            asked.report,
+            &asked.payload,
+            words,
+            room,
+        );
         let content = &asked.payload[..content_length(asked.report)];
         let counts = draw(done.writes, done.adds, self.counts, content, curves);
         watching::note(done.notes, content, words, list);
@@ -236,7 +243,11 @@ fn hand_over(
         }
         Report::Accepted { command, len } => {
             let content = &payload[..len.min(MOST_PAYLOAD)];
-            accepted(command, len, accept(setup, registers, command, content, words, room))
+            accepted(
+                command,
+                len,
+                accept(setup, registers, command, content, words, room),
+            )
         }
     }
 }
