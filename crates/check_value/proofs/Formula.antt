@@ -1,17 +1,12 @@
 -- The formula of one byte and that of two, held against the bitwise steps at each bit.
 use mathlib.Core.Path.{◌≡◌, refl, sym, ap, ap₂, ◌∙◌}
-use mathlib.Core.List.{List}
 use Prim.Native.Nat.{ℕ, ◌*◌, ◌/◌, ◌%◌, ◌^◌, ◌<◌}
 use native.Mathlib.Nat.{div-eq_of_lt}
 use native.Mathlib.Omega.{arith}
 use lib.Bits.{bit_xor, bit_and, and_mask, xor_shr, xor_mod, xor_zero_r, xor_shifted, xor_comm, xor_lt}
 use lib.Count.{ones, ones_in}
-use lib.ListN.{get_or}
-use Rattle.std.specs.Int.{w16, from_le_bytes}
 use Rattle.wire.specs.ByteOrder.{word}
-use Rattle.wire.specs.Bytes.{Bytes}
 use Rattle.check_value.specs.CheckValue.{polynomial, bit_step, bit_steps, byte_step}
-use Rattle.check_value.specs.Inner.{pair_step}
 use Rattle.check_value.specs.Formula.{parity, byte_formula}
 use Rattle.check_value.proofs.Xor.{xor_assoc}
 use Rattle.check_value.proofs.Steps.{bit_steps_xor, bit_steps_out, bit_steps_low, bit_steps_add}
@@ -111,14 +106,9 @@ byte_read value byte wide taken h is is_odd =
     let seven : x * 2 ^ 7 % 2 ^ 16 ≡ x * 2 ^ 7 = omega arith in
     rw (is_odd, is, same, six, seven) (formula_steps value byte h)
 
-pub two_read : (value : ℕ) (pair : List ℕ) (both taken : ℕ) → value < 2 ^ 16 → Bytes pair → both ≡ from_le_bytes w16 pair
+pub two_read : (value first second both taken : ℕ) → value < 2 ^ 16 → first < 2 ^ 8 → second < 2 ^ 8 → both ≡ word second first
     → taken ≡ parity (bit_xor value both) * 0xC001
     → bit_xor (bit_xor (bit_xor (bit_xor (bit_xor value both / 2 ^ 2) (bit_xor value both / 2 ^ 2 * 2 ^ 1 % 2 ^ 16)) (bit_xor value both * 2 ^ 14 % 2 ^ 16))
-    (bit_xor value both * 2 ^ 14 % 2 ^ 16 / 2 ^ 2)) taken ≡ pair_step value pair
-two_read value pair both taken hv are is is_odd =
-    let first : ℕ = get_or pair 0 0 in
-    let second : ℕ = get_or pair 1 0 in
-    let hf : first < 2 ^ 8 = are 0 in
-    let hs : second < 2 ^ 8 = are 1 in
-    let read : both ≡ word second first = omega arith in
-    rw (is_odd, read) (sixteen (bit_xor value (word second first)) (xor_lt 16 value (word second first) hv (omega arith)) ∙ sym (two_steps value first second hf))
+    (bit_xor value both * 2 ^ 14 % 2 ^ 16 / 2 ^ 2)) taken ≡ byte_step (byte_step value first) second
+two_read value first second both taken hv hf hs is is_odd =
+    rw (is_odd, is) (sixteen (bit_xor value (word second first)) (xor_lt 16 value (word second first) hv (omega arith)) ∙ sym (two_steps value first second hf))

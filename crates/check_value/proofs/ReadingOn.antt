@@ -4,12 +4,11 @@ use mathlib.Core.List.{List, [], ◌∷◌, ◌++◌}
 use Prim.Native.Nat.{ℕ, zero, suc, ◌*◌, ◌/◌, ◌%◌, ◌^◌, ◌≤◌, ◌<◌}
 use native.Mathlib.Omega.{arith}
 use lib.Bits.{bit_xor, xor_lt}
-use lib.ListN.{length, drop}
+use lib.ListN.{length, get_or, drop}
 use Rattle.std.specs.List.{fold}
 use Rattle.std.specs.Simd.{first_chunks}
 use Rattle.wire.specs.Bytes.{Bytes}
 use Rattle.check_value.specs.CheckValue.{polynomial, bit_step, bit_steps, byte_step, check_from, check_value}
-use Rattle.check_value.specs.Inner.{pair_step}
 use Rattle.check_value.proofs.Xor.{xor_middle}
 use Rattle.check_value.proofs.Steps.{bit_steps_xor}
 
@@ -50,6 +49,10 @@ by_bytes : (value : ℕ) (xs : List ℕ) → fold byte_step value xs ≡ check_f
 unfolding check_from
 by_bytes value [] = refl
 by_bytes value (x ∷ xs) = by_bytes (byte_step value x) xs
+
+-- and two bytes at once
+abbrev pub pair_step : ℕ → List ℕ → ℕ
+pair_step value pair = byte_step (byte_step value (get_or pair 0 0)) (get_or pair 1 0)
 
 -- first the pairs, and then what is left behind them
 pub by_pairs : (k value : ℕ) (xs : List ℕ) (reached : ℕ) (left : List ℕ) → reached ≡ fold pair_step value (first_chunks 2 k xs) → left ≡ drop (k * 2) xs

@@ -1,3 +1,2 @@
 pub mod CheckValue
 pub mod Formula
-pub mod Inner

@@ -5,7 +5,6 @@
 ghost use Rattle.std.specs.Prelude.{◌≡◌, ◌*◌};
 ghost use Rattle.check_value.specs.CheckValue.{byte_step, check_from, check_value};
 ghost use Rattle.check_value.specs.Formula.{parity};
-ghost use Rattle.check_value.specs.Inner.{pair_step};
 
 // C001 where the parity of x is odd, else 0.
 #[tactic(auto, unfolding(crate::specs::Formula::parity))]
@@ -24,10 +23,10 @@ fn read_byte(value: u16, byte: u8) -> u16
 }
 
 // Reads two bytes on at once: the formula of eight bits, used twice over, put together for sixteen. It costs hardly more than that of eight.
-fn read_two(value: u16, pair: &[u8; 2]) -> u16
-    ensures { result ≡ pair_step value pair.now }
+fn read_two(value: u16, first: u8, second: u8) -> u16
+    ensures { result ≡ byte_step (byte_step value first) second }
 {
-    let x = value ^ u16::from_le_bytes(*pair);
+    let x = value ^ wire::word(second, first);
     let high = x >> 2;
     let low = x << 14;
     high ^ (high << 1) ^ low ^ (low >> 2) ^ where_odd(x)
@@ -37,8 +36,11 @@ fn read_two(value: u16, pair: &[u8; 2]) -> u16
 pub fn check_from(value: u16, bytes: &[u8]) -> u16
     ensures { result ≡ check_from value bytes.now }
 {
-    let (pairs, last) = bytes.as_chunks();
-    let reached = pairs.iter().fold(value, read_two);
+    let (pairs, last) = bytes.as_chunks::<2>();
+    let reached = pairs.iter().fold(
+        value,
+        |reached, [first, second]| read_two(reached, *first, *second),
+    );
     last.iter().copied().fold(reached, read_byte)
 }
 

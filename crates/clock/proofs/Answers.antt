@@ -4,10 +4,11 @@ use mathlib.Core.Bool.{Bool, true, false}
 use mathlib.Core.List.{◌∷◌, map}
 use Prim.Native.Nat.{ℕ, zero, suc, ◌+◌, ◌-◌, ◌*◌, ◌/◌, ◌≤◌, ◌<◌}
 use native.Mathlib.Omega.{arith}
-use borrow.Author.Tests.{ltb-true, ltb-false, leb-true, eqb-true}
+use borrow.Author.Tests.{eqb-true}
 use Rattle.std.specs.List.{range_with_len, sum}
 use Rattle.std.proofs.lemmas.List.FromFn.{sum_by-map-range_with_len_more}
-use lib.Dec.{eqb, leb, ltb}
+use Rattle.std.proofs.lemmas.Bool.Decides.{nat_tests}
+use lib.Dec.{eqb, leb}
 use Rattle.wire.proofs.EachBelow.{all_below, below_passes}
 use Rattle.wire.proofs.PastEnd.{byte_past_end}
 use Rattle.clock.specs.Calendar.{leap_year, month_lengths, month_days, days_before_month, days_before_year}
@@ -23,11 +24,9 @@ at_most_31 true = refl
 at_most_31 false = refl
 
 month_bound : (leap : Bool) (month : ℕ) → month_days leap month ≤ 31
-month_bound leap month = go (ltb month 13) refl
-  where
-    go : (b : Bool) → ltb month 13 ≡ b → month_days leap month ≤ 31
-    go true is = leb-true (month_days leap month) 31 (below_passes 13 (λ (n : ℕ). leb (month_days leap n) 31) (at_most_31 leap) month (ltb-true month 13 is))
-    go false is = rw (← no_month leap month (ltb-false month 13 is)) (omega arith)
+month_bound leap month =
+    let of_a_month = below_passes 13 (λ (n : ℕ). leb (month_days leap n) 31) (at_most_31 leap) month in
+    grind (arith, nat_tests, of_a_month, no_month leap month)
 
 -- the days before a month are a sum over the months before it
 pub months_summed : (leap : Bool) (n : ℕ) → sum (map (month_days leap) (range_with_len 0 n)) ≡ days_before_month leap n

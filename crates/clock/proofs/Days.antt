@@ -5,9 +5,9 @@ use mathlib.Core.Logic.{◌⊎◌, inl, inr, ⊎_elim, ◌↔◌}
 use Prim.Native.Nat.{ℕ, zero, suc, ◌+◌, ◌-◌, ◌%◌, ◌≤◌, ◌<◌}
 use native.Mathlib.Nat.{eq-or-lt_of_le, le_of_suc-le-suc, le_refl, le_trans}
 use native.Mathlib.Omega.{arith}
+use Rattle.std.proofs.lemmas.Bool.Decides.{nat_tests}
 use lib.Dec.{leb, ltb}
-use borrow.Author.Tests.{ltb-true, ltb-false, lt-ltb, leb-true, leb-false, le-leb}
-use Rattle.wire.proofs.Truths.{and_left, and_right}
+use borrow.Author.Tests.{ltb-true, ltb-false, lt-ltb, le-leb}
 use Rattle.wire.proofs.EachBelow.{all_below, below_passes}
 use Rattle.clock.specs.declared.Date.{Date}
 use Rattle.clock.specs.Calendar.{leap_year, is_leap, month_lengths, month_days, days_before_month, days_before_year, day_number}
@@ -31,17 +31,12 @@ of_a_month false = refl
 pub month_days_within : (leap : Bool) (month : ℕ) → 1 ≤ month → month ≤ 12 → (28 ≤ month_days leap month) × (month_days leap month ≤ 31)
 month_days_within leap zero from to = absurd (omega arith)
 month_days_within leap (suc m) from to =
-    let days = month_days leap (suc m) in
     let both = below_passes 12 (λ (n : ℕ). leb 28 (month_days leap (suc n)) && leb (month_days leap (suc n)) 31) (of_a_month leap) m (omega arith) in
-    (leb-true 28 days (and_left (leb 28 days) (leb days 31) both), leb-true days 31 (and_right (leb 28 days) (leb days 31) both))
+    (grind (arith, nat_tests), grind (arith, nat_tests))
 
 month_within : (leap : Bool) (month : ℕ) → 1 ≤ month_days leap month → (1 ≤ month) × (month ≤ 12)
 month_within leap zero some = absurd (omega (arith, no_month_0 leap))
-month_within leap (suc m) some = (omega arith, inside (leb (suc m) 12) refl)
-  where
-    inside : (b : Bool) → leb (suc m) 12 ≡ b → suc m ≤ 12
-    inside true is = leb-true (suc m) 12 is
-    inside false is = absurd (omega (arith, no_month leap (suc m) (leb-false (suc m) 12 is)))
+month_within leap (suc m) some = (omega arith, grind (arith, no_month leap (suc m)))
 
 -- ---- dates that exist
 
@@ -55,16 +50,14 @@ date_exists_exactly date = (on, back)
 
     on : (ltb date.year 100 && leb 1 date.day && leb date.day days) ≡ true → OnCalendar date
     on is =
-        let front = and_left (ltb date.year 100 && leb 1 date.day) (leb date.day days) is in
-        let first : 1 ≤ date.day = leb-true 1 date.day (and_right (ltb date.year 100) (leb 1 date.day) front) in
-        let last : date.day ≤ days = leb-true date.day days (and_right (ltb date.year 100 && leb 1 date.day) (leb date.day days) is) in
-        let month = month_within (is_leap date) date.month (omega arith) in
+        let some : 1 ≤ days = grind (arith, nat_tests) in
+        let month = month_within (is_leap date) date.month some in
         record {
-          in_century = ltb-true date.year 100 (and_left (ltb date.year 100) (leb 1 date.day) front);
+          in_century = grind (arith, nat_tests);
           from_january = month.0;
           to_december = month.1;
-          from_first = first;
-          to_last = last;
+          from_first = grind (arith, nat_tests);
+          to_last = grind (arith, nat_tests);
         }
 
     back : OnCalendar date → (ltb date.year 100 && leb 1 date.day && leb date.day days) ≡ true
@@ -207,12 +200,7 @@ one_day_later date is = go (counts date (tomorrow date) ((date_exists_exactly da
 
 -- of what does not fall, a number lies between one value and the next at one place only
 one_place : (f : ℕ → ℕ) → ((m n : ℕ) → m ≤ n → f m ≤ f n) → (a b x y : ℕ) → x ≡ y → f a ≤ x → x < f (suc a) → f b ≤ y → y < f (suc b) → a ≡ b
-one_place f rise a b x y e h i j k = go (ltb a b) refl (ltb b a) refl
-  where
-    go : (p : Bool) → ltb a b ≡ p → (q : Bool) → ltb b a ≡ q → a ≡ b
-    go true p q q' = absurd (omega (arith, rise (suc a) b (ltb-true a b p)))
-    go false p true q = absurd (omega (arith, rise (suc b) a (ltb-true b a q)))
-    go false p false q = omega (arith, ltb-false a b p, ltb-false b a q)
+one_place f rise a b x y e h i j k = grind (arith, rise (suc a) b, rise (suc b) a)
 
 same_in_year : (year month day month' day' : ℕ) → OnCalendar (dated year month day) → OnCalendar (dated year month' day')
     → day_number (dated year month day) ≡ day_number (dated year month' day') → dated year month day ≡ dated year month' day'

@@ -5,6 +5,8 @@ use mathlib.Core.Logic.{◌↔◌}
 use Prim.Native.Nat.{ℕ, zero, suc, ◌+◌, ◌*◌, ◌%◌, ◌≤◌, ◌<◌}
 use native.Mathlib.Nat.{mod-add-mod}
 use native.Mathlib.Omega.{arith}
+use Rattle.std.proofs.lemmas.Bool.Decides.{nat_tests}
+use Rattle.std.proofs.Math.Bool.{and-false}
 use lib.Dec.{leb, ltb}
 use borrow.Author.Tests.{ltb-true, ltb-false, lt-ltb, le-leb, lt-leb}
 use Rattle.wire.proofs.Truths.{never, and_left, and_right}
@@ -23,29 +25,10 @@ use Rattle.clock.proofs.Days.{date_exists_exactly, day_number_below, tomorrow_ex
 -- `time_exists`, in numbers
 pub time_exists_exactly : (time : Time) → (time_exists time ≡ true) ↔ OnClock time
 unfolding time_exists
-time_exists_exactly time = (on, back)
-  where
-    hour : Bool
-    hour = ltb time.hour 24
-
-    minute : Bool
-    minute = ltb time.minute 60
-
-    second : Bool
-    second = ltb time.second 60
-
-    on : (hour && minute && second) ≡ true → OnClock time
-    on is =
-        let front = and_left (hour && minute) second is in
-        record {
-          hour_below = ltb-true time.hour 24 (and_left hour minute front);
-          minute_below = ltb-true time.minute 60 (and_right hour minute front);
-          second_below = ltb-true time.second 60 (and_right (hour && minute) second is);
-        }
-
-    back : OnClock time → (hour && minute && second) ≡ true
-    back on =
-        rw (lt-ltb time.hour 24 on.hour_below, lt-ltb time.minute 60 on.minute_below, lt-ltb time.second 60 on.second_below)
+time_exists_exactly time = (
+  λ is. record { hour_below = grind (arith, nat_tests); minute_below = grind (arith, nat_tests); second_below = grind (arith, nat_tests) },
+  λ on. rw (lt-ltb time.hour 24 on.hour_below, lt-ltb time.minute 60 on.minute_below, lt-ltb time.second 60 on.second_below),
+)
 
 -- `moment_exists`, in numbers
 pub moment_exists_exactly : (m : Moment) → (moment_exists m ≡ true) ↔ (OnCalendar m.date × OnClock m.time)
@@ -70,10 +53,6 @@ data Tick (time : Time) : Bool → Time → Type 0 where
   in_day : 59 ≤ time.second → 59 ≤ time.minute → time.hour < 23 → Tick time false (timed (suc time.hour) 0 0)
   midnight : 59 ≤ time.second → 59 ≤ time.minute → 23 ≤ time.hour → Tick time true (timed 0 0 0)
 
-none : (a : Bool) → (a && false) ≡ false
-none true = refl
-none false = refl
-
 tick : (time : Time) → Tick time (ends_day time) (second_later time)
 unfolding ends_day second_later
 tick time = go (ltb s 59) refl (ltb m 59) refl (ltb h 23) refl
@@ -91,11 +70,11 @@ tick time = go (ltb s 59) refl (ltb m 59) refl (ltb h 23) refl
         → Tick time (leb 23 h && leb 59 m && leb 59 s) (cond p (timed h m (suc s)) (cond q (timed h (suc m) 0) (cond r (timed (suc h) 0 0) (timed 0 0 0))))
     go true p q q' r r' =
         let i : s < 59 = ltb-true s 59 p in
-        rw (lt-leb 59 s i, none (leb 23 h && leb 59 m)) (in_minute i)
+        rw (lt-leb 59 s i, and-false) (in_minute i)
     go false p true q r r' =
         let i : 59 ≤ s = ltb-false s 59 p in
         let j : m < 59 = ltb-true m 59 q in
-        rw (lt-leb 59 m j, none (leb 23 h)) (in_hour i j)
+        rw (lt-leb 59 m j, and-false) (in_hour i j)
     go false p false q true r =
         let i : 59 ≤ s = ltb-false s 59 p in
         let j : 59 ≤ m = ltb-false m 59 q in
@@ -175,17 +154,7 @@ same_day day second h i = omega arith
 -- a day further, or at the beginning again
 next_day : (day next second : ℕ) → day < century_days → next ≡ (day + 1) % century_days → second < day_seconds
     → next * day_seconds + second ≡ (day * day_seconds + second + day_seconds) % century_seconds
-next_day day next second h e i = go (ltb (day + 1) century_days) refl
-  where
-    go : (b : Bool) → ltb (day + 1) century_days ≡ b → next * day_seconds + second ≡ (day * day_seconds + second + day_seconds) % century_seconds
-    go true is =
-        let inside : day + 1 < century_days = ltb-true (day + 1) century_days is in
-        let one : next ≡ day + 1 = omega arith in
-        omega arith
-    go false is =
-        let last : day + 1 ≡ century_days = omega (arith, ltb-false (day + 1) century_days is) in
-        let one : next ≡ 0 = omega arith in
-        omega arith
+next_day day next second h e i = omega arith
 
 -- the next second is one further, and "23:59:59 on 31 December 2099 is followed by 00:00:00 on 1 January 2000"
 pub one_second_later : (m : Moment) → moment_exists m ≡ true → second_number (next_second m) ≡ (second_number m + 1) % century_seconds

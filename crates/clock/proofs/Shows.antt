@@ -50,18 +50,7 @@ digits_right bytes right = or_left (wrong_digits bytes) (not (moment_exists (mom
 
 all_six : (a b c d e f : Bool) → (not a || not b || not c || not d || not e || not f) ≡ false
     → (a ≡ true) × (b ≡ true) × (c ≡ true) × (d ≡ true) × (e ≡ true) × (f ≡ true)
-all_six a b c d e f right =
-    let five = or_left (not a || not b || not c || not d || not e) (not f) right in
-    let four = or_left (not a || not b || not c || not d) (not e) five in
-    let three = or_left (not a || not b || not c) (not d) four in
-    let two = or_left (not a || not b) (not c) three in (
-      not-false a (or_left (not a) (not b) two),
-      not-false b (or_right (not a) (not b) two),
-      not-false c (or_right (not a || not b) (not c) three),
-      not-false d (or_right (not a || not b || not c) (not d) four),
-      not-false e (or_right (not a || not b || not c || not d) (not e) five),
-      not-false f (or_right (not a || not b || not c || not d || not e) (not f) right),
-    )
+all_six a b c d e f right = (grind arith, grind arith, grind arith, grind arith, grind arith, grind arith)
 
 -- seven bytes that are not wrong are shown again, but for "the weekday byte", which "is ignored and worked out"
 pub shown_again : (year month day weekday hour minute second : ℕ)

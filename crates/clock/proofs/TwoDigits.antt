@@ -3,18 +3,15 @@ use mathlib.Core.Path.{◌≡◌}
 use mathlib.Core.Bool.{true}
 use Prim.Native.Nat.{ℕ, ◌+◌, ◌*◌, ◌/◌, ◌%◌, ◌≤◌, ◌<◌}
 use native.Mathlib.Omega.{arith}
+use Rattle.std.proofs.lemmas.Bool.Decides.{nat_tests}
 use lib.Dec.{leb}
-use borrow.Author.Tests.{leb-true, le-leb}
-use Rattle.wire.proofs.Truths.{and_left, and_right}
+use borrow.Author.Tests.{le-leb}
 use Rattle.clock.specs.Digits.{digits_of, number_of, are_digits}
 
 -- what a byte of digits is, in numbers
 halves_small : (byte : ℕ) → are_digits byte ≡ true → (byte / 16 ≤ 9) × (byte % 16 ≤ 9)
 unfolding are_digits
-halves_small byte are = (
-  leb-true (byte / 16) 9 (and_left (leb (byte / 16) 9) (leb (byte % 16) 9) are),
-  leb-true (byte % 16) 9 (and_right (leb (byte / 16) 9) (leb (byte % 16) 9) are),
-)
+halves_small byte are = (grind (arith, nat_tests), grind (arith, nat_tests))
 
 -- whatever the number, what is laid for it are two digits
 pub digits_are_digits : (n : ℕ) → are_digits (digits_of n) ≡ true

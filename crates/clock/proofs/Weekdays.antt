@@ -1,10 +1,8 @@
 -- Laws of the weekdays: each midnight moves them on by one modulo 7, but for the jump back at the end of the century.
 use mathlib.Core.Path.{◌≡◌, refl, sym, ◌∙◌}
-use mathlib.Core.Bool.{Bool, true, false}
+use mathlib.Core.Bool.{true}
 use Prim.Native.Nat.{◌+◌, ◌%◌, ◌<◌}
 use native.Mathlib.Omega.{arith}
-use borrow.Author.Tests.{eqb-true, eqb-false}
-use lib.Dec.{eqb}
 use Rattle.clock.specs.declared.Date.{Date}
 use Rattle.clock.specs.Calendar.{day_number, weekday_of}
 use Rattle.clock.specs.Existing.{date_exists}
@@ -36,13 +34,9 @@ last_exists = refl
 
 -- and no other date has it
 not_last : (date : Date) → date_exists date ≡ true → (date ≡ dated 99 12 31 → ⊥) → day_number date + 1 < century_days
-not_last date is other = go (eqb (day_number date) 36524) refl
-  where
-    go : (b : Bool) → eqb (day_number date) 36524 ≡ b → day_number date + 1 < century_days
-    go true e = absurd (other (same_day_number date (dated 99 12 31) is last_exists (eqb-true (day_number date) 36524 e ∙ sym last_number)))
-    go false e =
-        let not : day_number date ≡ 36524 → ⊥ = eqb-false (day_number date) 36524 e in
-        omega (arith, day_number_below date is)
+not_last date is other =
+    let not : day_number date ≡ 36524 → ⊥ = λ same. other (same_day_number date (dated 99 12 31) is last_exists (same ∙ sym last_number)) in
+    omega (arith, day_number_below date is)
 
 -- the same of every day but 31 December 2099
 pub weekday_moves_on_but_last : (date : Date) → date_exists date ≡ true → (date ≡ dated 99 12 31 → ⊥) → weekday_of (tomorrow date) ≡ (weekday_of date + 1) % 7

@@ -1,6 +1,3 @@
-pub mod Judging
-pub mod Writing
-pub mod Adding
 pub mod Replies
 pub mod Reading
 pub mod Performance

@@ -3,7 +3,7 @@ use mathlib.Core.Path.{◌≡◌, refl, ap}
 use mathlib.Core.Bool.{Bool, true, false, cond}
 use mathlib.Core.List.{List}
 use Prim.Native.Nat.{ℕ}
-use borrow.Author.Tests.{eq-eqb, ne_eqb}
+use borrow.Author.Tests.{ne_eqb}
 use lib.Dec.{eqb}
 use lib.ListN.{length}
 use Rattle.registers.specs.declared.Registers.{Registers}
@@ -17,50 +17,38 @@ use Rattle.commands.specs.Effect.{answered, registers_writing, curves_adding, le
 use Rattle.commands.specs.Perform.{Performance, performs, on_words, on_room, performance}
 
 module _ (fixed : Fixed) (registers : Registers) (command : ℕ) (content words room : List ℕ) (rest : Lent) where
-  pub performs_80 : (p : Performed) → command ≡ 0x80 → p ≡ registers_writing fixed.pages content
-      → performs p (with_words_room rest words room) ≡ performance fixed registers command content (with_words_room rest words room)
+  -- what is lent, as a call finds it
+  abbrev lent : Lent
+  lent = with_words_room rest words room
+
+  pub performs_80 : (p : Performed) → command ≡ 0x80 → p ≡ registers_writing fixed.pages content → performs p lent ≡ performance fixed registers command content lent
   unfolding performance
-  performs_80 p is e = rw (eq-eqb command 0x80 is, e)
+  performs_80 p is e = rw (is, e)
 
-  module _ (not-80 : command ≡ 0x80 → ⊥) where
-    pub performs_81 : (p : Performed) (left : List ℕ) → command ≡ 0x81 → replies p left ≡ registers_replying fixed registers content room
-        → performs p (with_words_room rest words left) ≡ performance fixed registers command content (with_words_room rest words room)
-    unfolding performance
-    performs_81 p left is e = rw (ne_eqb command 0x80 not-80, eq-eqb command 0x81 is) (ap (on_room (with_words_room rest words room)) e)
+  pub performs_81 : (p : Performed) (left : List ℕ) → command ≡ 0x81 → replies p left ≡ registers_replying fixed registers content room
+      → performs p (with_words_room rest words left) ≡ performance fixed registers command content lent
+  unfolding performance
+  performs_81 p left is e = rw is (ap (on_room lent) e)
 
-    module _ (not-81 : command ≡ 0x81 → ⊥) where
-      pub performs_82 : (p : Performed) (left : List ℕ) → command ≡ 0x82 → leaves_words p left ≡ words_writing words content
-          → performs p (with_words_room rest left room) ≡ performance fixed registers command content (with_words_room rest words room)
-      unfolding performance
-      performs_82 p left is e =
-          rw (ne_eqb command 0x80 not-80, ne_eqb command 0x81 not-81, eq-eqb command 0x82 is) (ap (on_words (with_words_room rest words room)) e)
+  pub performs_82 : (p : Performed) (left : List ℕ) → command ≡ 0x82 → leaves_words p left ≡ words_writing words content
+      → performs p (with_words_room rest left room) ≡ performance fixed registers command content lent
+  unfolding performance
+  performs_82 p left is e = rw is (ap (on_words lent) e)
 
-      module _ (not-82 : command ≡ 0x82 → ⊥) where
-        pub performs_83 : (p : Performed) (left : List ℕ) → command ≡ 0x83 → replies p left ≡ words_replying fixed words content room
-            → performs p (with_words_room rest words left) ≡ performance fixed registers command content (with_words_room rest words room)
-        unfolding performance
-        performs_83 p left is e =
-            rw (ne_eqb command 0x80 not-80, ne_eqb command 0x81 not-81, ne_eqb command 0x82 not-82, eq-eqb command 0x83 is) (ap (on_room (with_words_room rest words room)) e)
+  pub performs_83 : (p : Performed) (left : List ℕ) → command ≡ 0x83 → replies p left ≡ words_replying fixed words content room
+      → performs p (with_words_room rest words left) ≡ performance fixed registers command content lent
+  unfolding performance
+  performs_83 p left is e = rw is (ap (on_room lent) e)
 
-        module _ (not-83 : command ≡ 0x83 → ⊥) where
-          pub performs_84 : (p : Performed) → command ≡ 0x84 → p ≡ curves_adding content
-              → performs p (with_words_room rest words room) ≡ performance fixed registers command content (with_words_room rest words room)
-          unfolding performance
-          performs_84 p is e =
-              rw (ne_eqb command 0x80 not-80, ne_eqb command 0x81 not-81, ne_eqb command 0x82 not-82, ne_eqb command 0x83 not-83, eq-eqb command 0x84 is, e)
+  pub performs_84 : (p : Performed) → command ≡ 0x84 → p ≡ curves_adding content → performs p lent ≡ performance fixed registers command content lent
+  unfolding performance
+  performs_84 p is e = rw (is, e)
 
-          pub performs_none : (p : Performed) → (command ≡ 0x84 → ⊥) → p ≡ answered (Err UnknownCommand) 0
-              → performs p (with_words_room rest words room) ≡ performance fixed registers command content (with_words_room rest words room)
-          unfolding performance
-          performs_none p not-84 is-p =
-              rw (
-                ne_eqb command 0x80 not-80,
-                ne_eqb command 0x81 not-81,
-                ne_eqb command 0x82 not-82,
-                ne_eqb command 0x83 not-83,
-                ne_eqb command 0x84 not-84,
-                is-p,
-              )
+  pub performs_none : (p : Performed) → (command ≡ 0x80 → ⊥) → (command ≡ 0x81 → ⊥) → (command ≡ 0x82 → ⊥) → (command ≡ 0x83 → ⊥) → (command ≡ 0x84 → ⊥)
+      → p ≡ answered (Err UnknownCommand) 0 → performs p lent ≡ performance fixed registers command content lent
+  unfolding performance
+  performs_none p a b c d e is =
+      rw (ne_eqb command 0x80 a, ne_eqb command 0x81 b, ne_eqb command 0x82 c, ne_eqb command 0x83 d, ne_eqb command 0x84 e, is)
 
 -- a field of what the command that it is does
 pub of_command : {B : Type 0} (f : Performance → B) (a b c d e : Bool) (v w x y z u : Performance)

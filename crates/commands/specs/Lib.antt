@@ -4,3 +4,4 @@ pub mod Reply
 pub mod Effect
 pub mod Perform
 pub mod Listed
+pub mod Inner

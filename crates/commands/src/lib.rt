@@ -3,6 +3,7 @@
 
 use frame::Header;
 
+mod laying; // a reply laid
 mod on_curves; // 0x84
 mod on_registers; // 0x80 and 0x81
 mod on_words; // 0x82 and 0x83
@@ -12,6 +13,17 @@ mod performing; // which command it is
 pub use on_curves::counts_left;
 pub use on_registers::registers_left;
 pub use performing::perform;
+
+// The commands' bytes, which a read's reply has too.
+const WRITE_REGISTERS: u8 = 0x80;
+
+const READ_REGISTERS: u8 = 0x81;
+
+const WRITE_WORDS: u8 = 0x82;
+
+const READ_WORDS: u8 = 0x83;
+
+const ADD_CURVES: u8 = 0x84;
 
 // What setup fixes for every command.
 #[derive(Clone, Copy)]
@@ -32,7 +44,8 @@ pub enum Refusal {
     ReplyTooLong,
 }
 
-// What a command answers, what it wants done to the panel, and how long a reply it has laid.
+// What a command answers, what it wants done to the panel, and how long a reply it has laid. Four flags, since one write may ask for two things
+// and `registers_by` and the theorems of specs/ go by each.
 #[derive(Clone, Copy)]
 pub struct Performed {
     pub outcome: Result<(), Refusal>,

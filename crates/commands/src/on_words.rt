@@ -1,104 +1,85 @@
-// 0x82 and 0x83: write and read variables.
-ghost use Rattle.std.specs.Prelude.{◌≡◌, ◌∷◌, ◌+◌, ◌≤◌, length};
-ghost use Rattle.wire.specs.Room.{over, lays};
-ghost use Rattle.frame.specs.Frame.{header_bytes, most_data};
-ghost use Rattle.frame.specs.Writer.{frame_laid};
+// 0x82 and 0x83: write and read variables. What stands in on_registers.rt too stays twice: an address of a register may not reach a word (01), and the
+// tests differ in the address's bytes, the end and what a run is.
+ghost use Rattle.std.specs.Prelude.{◌≡◌, ◌+◌, ◌≤◌, length, drop, IfOk};
+ghost use Rattle.wire.specs.ByteOrder.{byte_at, word_at};
+ghost use Rattle.frame.specs.Frame.{most_data};
 ghost use Rattle.commands.specs.Outcome.{write_words_outcome, read_words_outcome};
-ghost use Rattle.commands.specs.Reply.{words_reply};
+ghost use Rattle.commands.specs.Inner.{outcome_of};
 ghost use Rattle.commands.specs.Effect.{leaves_words, words_writing, replies, words_replying};
 
-use crate::{Fixed, Performed, Refusal, outcomes};
+use crate::{Fixed, Performed, READ_WORDS, Refusal, laying, outcomes};
 use words::WordAddress;
 
-fn judge_write(end: usize, content: &[u8]) -> Result<(), Refusal>
-    ensures { result ≡ write_words_outcome end content.now }
+// Judges a write by 3 and 4 in turn; hands on its address and its bytes.
+#[tactic(auto, using(words::proofs::Carried::length_words_of), unfolding(crate::specs::Outcome::write_words_outcome))]
+fn judge_write(end: usize, content: &[u8]) -> Result<(WordAddress, &[u8]), Refusal>
+    ensures outcome { outcome_of result ≡ write_words_outcome end content.now }
+    ensures parts { IfOk result (λ (a, b). (a.0 ≡ word_at content.now 0) × (b.now ≡ drop 2 content.now)) }
 {
-    let n = content.len();
-    if (n < 4) | (n % 2 == 1) {
+    let [high, low, bytes @ ..] = content else {
+        return Err(Refusal::WrongData);
+    };
+    if bytes.is_empty() | (bytes.len() % 2 == 1) {
         return Err(Refusal::WrongData);
     }
-    let address = WordAddress(wire::word_at(content, 0));
-    if address.passes_end(n / 2 - 1, end) {
+    let address = WordAddress(wire::word(*high, *low));
+    if address.passes_end(bytes.len() / 2, end) {
         return Err(Refusal::PastEnd);
     }
-    Ok(())
+    Ok((address, bytes))
 }
 
-fn judge_read(end: usize, checking: bool, content: &[u8]) -> Result<(), Refusal>
-    ensures { result ≡ read_words_outcome end checking content.now }
+// Judges a read by 3, 4 and 7 in turn; hands on its address and its count, which the words and a frame hold.
+#[tactic(auto, unfolding(crate::specs::Outcome::read_words_outcome))]
+fn judge_read(end: usize, checking: bool, content: &[u8]) -> Result<(WordAddress, u8), Refusal>
+    ensures outcome { outcome_of result ≡ read_words_outcome end checking content.now }
+    ensures parts { IfOk result (λ (a, n). (a.0 ≡ word_at content.now 0) × (n ≡ byte_at content.now 2)) }
+    ensures fits { IfOk result (λ (a, n). (a.0 + n ≤ end) × (3 + (n + n) ≤ most_data checking)) }
 {
-    if content.len() != 3 {
+    let [high, low, n] = content else {
         return Err(Refusal::WrongData);
-    }
-    let address = WordAddress(wire::word_at(content, 0));
-    let count = wire::count(content[2]);
+    };
+    let address = WordAddress(wire::word(*high, *low));
+    let count = usize::from(*n);
     if address.passes_end(count, end) {
         return Err(Refusal::PastEnd);
     }
-    if outcomes::is_reply_too_long(checking, 3 + (count + count)) {
-        return Err(Refusal::ReplyTooLong);
-    }
-    Ok(())
+    outcomes::fits_reply(checking, 3 + (count + count))?;
+    Ok((address, *n))
 }
 
 // Judges a write and does it. One that is done asks for its words to be noted.
+#[tactic(auto, unfolding(crate::specs::Effect::words_writing))]
 pub fn write(words: &mut [u16], content: &[u8]) -> Performed
     ensures { leaves_words result words.new ≡ words_writing words.old content.now }
 {
-    let o = judge_write(words.len(), content);
-    if o.is_ok() {
-        let address = WordAddress(wire::word_at(content, 0));
-        words::write(words, address, &content[2..]);
-        return Performed {
-            outcome: o,
-            writes: false,
-            drops: false,
-            adds: false,
-            notes: true,
-            replied: 0,
-        };
+    match judge_write(words.len(), content) {
+        Ok((address, bytes)) => {
+            words::write(words, address, bytes);
+            Performed {
+                notes: true,
+                ..outcomes::answer(Ok(()), 0)
+            }
+        }
+        Err(refusal) => outcomes::answer(Err(refusal), 0),
     }
-    outcomes::answer(o, 0)
 }
 
-// Lays a reply's command and data: address, count and words.
-fn put(words: &[u16], address: WordAddress, n: u8, body: &mut [u8])
-    requires { (address.0 + n ≤ length words.now) × (4 + (n + n) ≤ length body.old) }
-    ensures { body.new ≡ over (0x83 ∷ words_reply words.now address.0 n) body.old }
-{
-    let a = address.0;
-    let head = [0x83, wire::high_byte(a), wire::low_byte(a), n];
-    body[..4].copy_from_slice(&head);
-    words::read(words, address, n, &mut body[4..]);
-}
-
-// Lays the reply to a read that is within the end and not too long; a room that does not hold it stays.
-fn reply(fixed: Fixed, words: &[u16], address: WordAddress, n: u8, room: &mut [u8]) -> usize
-    requires { (address.0 + n ≤ length words.now) × (3 + (n + n) ≤ most_data fixed.checking) }
-    ensures { lays result room.new ≡ frame_laid fixed.checking (header_bytes fixed.header) 0x83 (words_reply words.now address.0 n) room.old }
-{
-    let header = fixed.header;
-    let k = header.length() + 1;
-    let m = wire::count(n);
-    let size = 4 + (m + m);
-    if room.len() < k + (size + frame::check_length(fixed.checking)) {
-        return 0;
-    }
-    put(words, address, n, &mut room[k..]);
-    frame::close_frame(header, fixed.checking, size, room)
-}
-
-// Judges a read and lays the reply of one that is done.
+// Judges a read and lays the reply of one that is done: address, count and words.
+#[tactic(auto, unfolding(crate::specs::Effect::words_replying, crate::specs::Effect::replying))]
 pub fn read(fixed: Fixed, words: &[u16], content: &[u8], room: &mut [u8]) -> Performed
     ensures { replies result room.new ≡ words_replying fixed words.now content.now room.old }
 {
-    let o = judge_read(words.len(), fixed.checking, content);
-    if o.is_ok() {
-        let address = WordAddress(wire::word_at(content, 0));
-        let n = wire::byte_at(content, 2);
-        let m = reply(fixed, words, address, n, room);
-        outcomes::answer(o, m)
-    } else {
-        outcomes::answer(o, 0)
+    match judge_read(words.len(), fixed.checking, content) {
+        Ok((address, n)) => {
+            let a = address.0;
+            let head = [READ_WORDS, wire::high_byte(a), wire::low_byte(a), n];
+            let size = 2 * usize::from(n);
+            let replied = laying::reply(fixed, head, size, room, |run| {
+                words::read(words, address, n, run)
+            });
+            outcomes::answer(Ok(()), replied)
+        }
+        Err(refusal) => outcomes::answer(Err(refusal), 0),
     }
 }

@@ -1,27 +1,32 @@
 // What an outcome says to those who go on from it, and the one number that both reads share.
-ghost use Rattle.std.specs.Prelude.{◌≡◌, ◌≤◌};
+ghost use Rattle.std.specs.Prelude.{◌≡◌, ◌≤◌, cond, IfOk};
+ghost use Rattle.frame.specs.Frame.{most_data};
 ghost use Rattle.commands.specs.Outcome.{reply_too_long};
 ghost use Rattle.commands.specs.Effect.{answered};
 
 use crate::{Performed, Refusal};
 
 // Registers, catch and curves stay, and nothing is noted.
-pub fn answer(o: Result<(), Refusal>, replied: usize) -> Performed
-    ensures { result ≡ answered o replied }
+pub(crate) fn answer(outcome: Result<(), Refusal>, replied: usize) -> Performed
+    ensures { result ≡ answered outcome replied }
 {
     Performed {
-        outcome: o,
+        outcome,
         writes: false,
         drops: false,
         adds: false,
         notes: false,
-        replied: replied,
+        replied,
     }
 }
 
-pub(crate) fn is_reply_too_long(checking: bool, payload: usize) -> bool
-    requires { payload ≤ 1000 }
-    ensures { result ≡ reply_too_long checking payload }
+// 7: whether a frame carries a reply with so much data.
+pub(crate) fn fits_reply(checking: bool, payload: usize) -> Result<(), Refusal>
+    ensures outcome { result ≡ cond (reply_too_long checking payload) (Err Refusal.ReplyTooLong) (Ok tt) }
+    ensures fits { IfOk result (λ _. payload ≤ most_data checking) }
 {
-    255 < 1 + payload + frame::check_length(checking)
+    if frame::most_data(checking) < payload {
+        return Err(Refusal::ReplyTooLong);
+    }
+    Ok(())
 }

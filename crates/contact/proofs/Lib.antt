@@ -1,4 +1,3 @@
-pub mod Touches
 pub mod Determined
 pub mod Named
 pub mod Soundness

@@ -1,12 +1,13 @@
 -- Touches keep registers and catch sound.
 use mathlib.Core.Path.{◌≡◌, refl, sym, ap, ◌∙◌}
 use mathlib.Core.Logic.{inl}
-use mathlib.Core.Bool.{Bool, true, false, cond}
+use mathlib.Core.Bool.{Bool, true, false, cond, true≢false}
 use mathlib.Core.List.{List}
 use Prim.Native.Nat.{ℕ, ◌<◌}
 use native.Mathlib.Omega.{arith}
 use lib.ListN.{length}
 use Rattle.std.specs.Prelude.{Some, None, Ok}
+use Rattle.std.proofs.lemmas.Option.{none-some}
 use Rattle.registers.specs.declared.Registers.{Registers}
 use Rattle.registers.specs.Table.{register_at}
 use Rattle.registers.specs.Touched.{page_of, with_page, is_down, with_status, with_place}
@@ -24,9 +25,6 @@ use Rattle.contact.specs.Contact.{Catch, pad_with, showing, catching, acting, pr
 use Rattle.contact.specs.Sound.{Sound}
 use Rattle.contact.proofs.Named.{length_marked, marked_status, marked_only}
 
-no : {A : Type 0} → ◌≡◌ {A = Bool} true false → A
-no e = absurd (let z : ◌≡◌ {A = ℕ} 0 1 = cc in omega arith)
-
 down_by_1 : (registers : Registers) → register_at registers 0x06 ≡ 0x01 → is_down registers ≡ true
 unfolding is_down
 down_by_1 registers is = rw is
@@ -39,13 +37,13 @@ abbrev CaughtGood : Setup → Catch → Type 0
 CaughtGood setup catch = (r : Record) → catch ≡ Some r → (good_record setup r ≡ true) × (slides r ≡ true)
 
 free_good : (setup : Setup) → CaughtGood setup None
-free_good setup r is = absurd (let z : ◌≡◌ {A = ℕ} 0 1 = cc in omega arith)
+free_good setup r is = absurd (none-some r is)
 
 -- while down, any good catch is sound
 down_sound : (setup : Setup) (registers : Registers) (catch : Catch) → length registers.bytes ≡ 256 → page_of registers < setup.pages
     → is_down registers ≡ true → CaughtGood setup catch → Sound setup (pad_with registers catch)
 down_sound setup registers catch whole below down good =
-    record { whole = whole; below = below; up_free = λ up. no (sym down ∙ up); caught_good = good }
+    record { whole = whole; below = below; up_free = λ up. absurd (true≢false (sym down ∙ up)); caught_good = good }
 
 module _ (setup : Setup) (pad : Pad) (sound : Sound setup pad) (x y : ℕ) where
   whole' : length pad.registers.bytes ≡ 256

@@ -16,6 +16,7 @@ pub struct Pad {
     pub catch: Option<Record>,
 }
 
+#[tactic(auto, unfolding(crate::specs::Contact::showing))]
 fn show(r: Record, registers: Registers, catch: Option<Record>) -> Pad
     ensures { result ≡ showing r registers catch }
 {
@@ -29,12 +30,14 @@ fn show(r: Record, registers: Registers, catch: Option<Record>) -> Pad
     }
 }
 
+#[tactic(auto, unfolding(crate::specs::Contact::catching))]
 fn catch_with(r: Record, catch: Option<Record>) -> Option<Record>
     ensures { result ≡ catching r catch }
 {
     if touch::is_slider(r) { Some(r) } else { catch }
 }
 
+#[tactic(auto, unfolding(crate::specs::Contact::acting))]
 fn act(
     setup: Setup,
     found: Option<(usize, Record)>,
@@ -59,6 +62,7 @@ fn act(
     }
 }
 
+#[tactic(auto, unfolding(crate::specs::Contact::pressed))]
 fn press(setup: Setup, pad: Pad, table: &[u8], words: &mut [u16], point: Point) -> Pad
     ensures { touching result words.new ≡ pressed setup pad table.now words.old point.x point.y }
 {
@@ -68,6 +72,7 @@ fn press(setup: Setup, pad: Pad, table: &[u8], words: &mut [u16], point: Point) 
     act(setup, found, after, pad.catch, words, point)
 }
 
+#[tactic(auto, unfolding(crate::specs::Contact::dragging))]
 fn drag(setup: Setup, catch: Option<Record>, words: &mut [u16], point: Point)
     ensures { words.new ≡ dragging setup catch words.old point.x point.y }
 {
@@ -81,6 +86,7 @@ fn drag(setup: Setup, catch: Option<Record>, words: &mut [u16], point: Point)
     }
 }
 
+#[tactic(auto, unfolding(crate::specs::Contact::held_down))]
 fn hold_down(setup: Setup, pad: Pad, words: &mut [u16], point: Point) -> Pad
     ensures { touching result words.new ≡ held_down setup pad words.old point.x point.y }
 {
@@ -92,6 +98,7 @@ fn hold_down(setup: Setup, pad: Pad, words: &mut [u16], point: Point) -> Pad
 }
 
 // A contact on the screen of a panel set up so, with touch on and a good table.
+#[tactic(auto, unfolding(crate::specs::Contact::touched))]
 pub fn touch_down(setup: Setup, pad: Pad, table: &[u8], words: &mut [u16], point: Point) -> Pad
     ensures { touching result words.new ≡ touched setup pad table.now words.old point.x point.y }
 {
@@ -103,6 +110,7 @@ pub fn touch_down(setup: Setup, pad: Pad, table: &[u8], words: &mut [u16], point
 }
 
 // A lift while down.
+#[tactic(auto, unfolding(crate::specs::Contact::lifted))]
 pub fn lift_up(pad: Pad) -> Pad
     ensures { result ≡ lifted pad }
 {

@@ -31,13 +31,6 @@ stride_is rules (bad body) decided = refl
 stride_is rules (accepted body) decided = omega arith
 
 -- a place that does not report gives no report
-pub no_report : (rules : Rules) (seen : Seen) → is_report seen ≡ false → report_of rules seen ≡ []
-unfolding is_report report_of
-no_report rules pass is = refl
-no_report rules wait is = refl
-no_report rules (bad body) is = true_is_not_false is
-no_report rules (accepted body) is = true_is_not_false is
-
 -- a step whose place is so many bytes further on
 abbrev pub further : ℕ → Step → Step
 further d step = step_at (d + step.place) step.seen

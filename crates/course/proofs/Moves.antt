@@ -14,7 +14,8 @@ use Rattle.reading.proofs.Moves.{some_kept, report_settles, nothing_changes}
 use Rattle.course.specs.Course.{stride, reports_in, gone_past}
 use Rattle.course.specs.Lines.{line_seen, seen_on}
 use Rattle.course.specs.Steps.{Move, settling, giving_byte, giving_mark, giving_input, handing_over, going_on, ask_steps}
-use Rattle.course.proofs.Course.{Walks, stride_is, no_report, reports_of, step_walks}
+use Rattle.course.proofs.Course.{Walks, stride_is, reports_of, step_walks}
+use Rattle.reading.proofs.Moves.{no_report}
 use Rattle.course.proofs.Lines.{line_walks}
 use Rattle.course.proofs.Settling.{settling_onward, settling_reports}
 

@@ -11,9 +11,9 @@ use lib.Seq.{drop-drop}
 use Rattle.reading.specs.Place.{Rules, Seen, look, report_of}
 use Rattle.reading.specs.Stretch.{Placed, placed_at, held_of}
 use Rattle.reading.specs.Moves.{is_report}
-use Rattle.reading.proofs.Stable.{never}
 use Rattle.course.specs.Course.{stride, Step, step_at, course_from, course, seen_along, gone_past, placed_in, first_report, next_report}
-use Rattle.course.proofs.Course.{no_report, seen_nil, seen_stays, seen_goes, course_nil, course_stays, course_goes, Through, over, stays, goes, through}
+use Rattle.reading.proofs.Moves.{no_report}
+use Rattle.course.proofs.Course.{seen_nil, seen_stays, seen_goes, course_nil, course_stays, course_goes, Through, over, stays, goes, through}
 use Rattle.course.proofs.Appending.{seen_append}
 
 -- steps one behind the other from a place p on, by what is seen in them
@@ -46,8 +46,8 @@ module _ (rules : Rules) (closed : Bool) where
       → later ≡ seen_along rules closed (drop (gone_past rules before) xs)
   unfolding gone_past
   from_along xs [] later way is = sym is
-  from_along [] (seen ∷ before) later over is = never (cc (sym (seen_nil rules closed) ∙ is))
-  from_along xs (seen ∷ before) later (stays waits) is = never (cc (sym (seen_stays rules closed xs waits) ∙ is))
+  from_along [] (seen ∷ before) later over is = cc (sym (seen_nil rules closed) ∙ is)
+  from_along xs (seen ∷ before) later (stays waits) is = cc (sym (seen_stays rules closed xs waits) ∙ is)
   from_along (x ∷ xs) (seen ∷ before) later (goes here at_x decided rest) is =
       let both : here ∷ seen_along rules closed (drop (stride rules here) (x ∷ xs)) ≡ seen ∷ (before ++ later) =
       sym (seen_goes rules closed x xs here at_x decided) ∙ is in
@@ -133,7 +133,7 @@ module _ (rules : Rules) (closed : Bool) where
     where
       go : (b : Bool) → is_report step.seen ≡ b → cond b (step ∷ []) (first_report later) ≡ [] → (first_report later ≡ [] → placed_in rules later ≡ [])
           → map (placed_at step.place) (report_of rules step.seen) ++ placed_in rules later ≡ []
-      go true is none rest = never cc
+      go true is none rest = cc
       go false is none rest = rw (no_report rules step.seen is) (rest none)
 
   pub next_none : (p : ℕ) (xs : List ℕ) → next_report rules closed p xs ≡ [] → placed_in rules (course_from rules closed p p (drop p xs)) ≡ []
@@ -148,8 +148,8 @@ module _ (rules : Rules) (closed : Bool) where
 
   next_along : (p : ℕ) (ys : List ℕ) (step : Step) → Through rules closed ys → first_report (course_from rules closed p p ys) ≡ step ∷ [] → After p ys step
   unfolding first_report placed_in
-  next_along p [] step over is = never (cc (ap first_report (sym (course_nil rules closed p p)) ∙ is))
-  next_along p ys step (stays waits) is = never (cc (ap first_report (sym (course_stays rules closed p ys waits)) ∙ is))
+  next_along p [] step over is = cc (ap first_report (sym (course_nil rules closed p p)) ∙ is)
+  next_along p ys step (stays waits) is = cc (ap first_report (sym (course_stays rules closed p ys waits)) ∙ is)
   next_along p (y ∷ ys) step (goes seen at_y decided rest) is =
       go (is_report seen) refl (ap first_report (sym steps) ∙ is) (next_along (p + stride rules seen) (drop (stride rules seen) (y ∷ ys)) step rest)
     where

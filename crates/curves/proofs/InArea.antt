@@ -1,15 +1,15 @@
 -- A channel's part, put back into the area.
 use mathlib.Core.Path.{◌≡◌, sym, ap, ◌∙◌}
 use mathlib.Core.List.{List, ◌++◌, append_assoc}
-use Prim.Native.Nat.{ℕ, ◌+◌, ◌-◌, ◌*◌, ◌%◌, ◌≤◌, ◌<◌}
+use Prim.Native.Nat.{ℕ, ◌+◌, ◌-◌, ◌*◌, ◌≤◌, ◌<◌}
 use native.Mathlib.Omega.{arith}
-use borrow.Author.Tests.{eq-eqb, ne_eqb}
-use lib.Dec.{eqb}
-use lib.ListN.{length, take, drop, length-drop, take-append-drop}
+use borrow.Rule.Slice.PartMut.{put_mid}
+use lib.ListN.{length, get_or, set, take, drop, length-drop, take-append-drop}
 use lib.Seq.{drop-append-le, drop-drop, length-take-le}
 use Rattle.wire.specs.Room.{over, laid_at, Laid, lays}
-use Rattle.curves.specs.Area.{channel_count, channel_words, curve_words, part_of, latest}
-use Rattle.curves.specs.Inner.{kept_in, channel_added}
+use Rattle.curves.specs.declared.Counts.{Counts}
+use Rattle.curves.specs.Area.{channel_count, channel_words, curve_words, counting, count_of, part_of, held_by, latest, draws, on_channel}
+use Rattle.curves.specs.Inner.{kept_in}
 use Rattle.curves.proofs.Latest.{latest_few}
 
 -- a run laid over the front of a part is laid in the whole
@@ -23,21 +23,18 @@ laid_part s old at n few fits =
     sym (drop-append-le (length s) (take n rest) (drop n rest) (rw long few)) ∙ rw (take-append-drop n rest) (drop-drop (length s) at old) in
     rw (append_assoc s (drop (length s) (take n rest)) (drop n rest), behind)
 
-module _ (area new : List ℕ) (n count rest : ℕ) where
-  pub part_back : (left : List ℕ) (r : ℕ) → length area ≡ curve_words → n < channel_count → rest % 2 ≡ 1
-      → lays r left
-      ≡ kept_in (take (n * 1024 + 1024 - n * 1024) (drop (n * 1024) area)) (take count (take (n * 1024 + 1024 - n * 1024) (drop (n * 1024) area)) ++ new)
-      → lays r (take (n * 1024) area ++ (left ++ drop (n * 1024 + 1024 - n * 1024) (drop (n * 1024) area))) ≡ channel_added (eqb (rest % 2) 1) new n count area
-  unfolding kept_in channel_added part_of
-  part_back left r whole inside one e =
-      let many : n * 1024 + 1024 - n * 1024 ≡ 1024 = omega arith in
-      let from : channel_words * n ≡ n * 1024 = omega arith in
-      let numbers = latest (take count (take 1024 (drop (n * 1024) area)) ++ new) in
-      let e' : lays r left ≡ lays (length numbers) (over numbers (take 1024 (drop (n * 1024) area))) = rw many at e in
-      rw (many, eq-eqb (rest % 2) 1 one, from)
-      (ap (λ (l : Laid). lays l.count (take (n * 1024) area ++ (l.room ++ drop 1024 (drop (n * 1024) area)))) e'
-      ∙ ap (lays (length numbers)) (laid_part numbers area (n * 1024) 1024 (latest_few (take count (take 1024 (drop (n * 1024) area)) ++ new)) (omega arith)))
-
-  pub not_named : (rest % 2 ≡ 1 → ⊥) → lays count area ≡ channel_added (eqb (rest % 2) 1) new n count area
-  unfolding channel_added
-  not_named other = rw (ne_eqb (rest % 2) 1 other)
+-- `add_channel`: the channel's part in the area, and its count
+pub part_back : (counts : Counts) (area new left : List ℕ) (n r : ℕ) → length area ≡ curve_words → n < channel_count
+    → lays r left
+    ≡ kept_in (take (n * 1024 + 1024 - n * 1024) (drop (n * 1024) area)) (take (get_or counts.each n 0) (take (n * 1024 + 1024 - n * 1024) (drop (n * 1024) area)) ++ new)
+    → draws (counting (set counts.each n r)) (put_mid (n * 1024) (n * 1024 + 1024 - n * 1024) area left) ≡ on_channel n new (draws counts area)
+unfolding kept_in on_channel held_by count_of part_of
+part_back counts area new left n r whole inside e =
+    let many : n * 1024 + 1024 - n * 1024 ≡ 1024 = omega arith in
+    let from : channel_words * n ≡ n * 1024 = omega arith in
+    let held = take (get_or counts.each n 0) (take 1024 (drop (n * 1024) area)) in
+    let numbers = latest (held ++ new) in
+    let e' : lays r left ≡ lays (length numbers) (over numbers (take 1024 (drop (n * 1024) area))) = rw many at e in
+    rw (many, from)
+    (ap (λ (l : Laid). draws (counting (set counts.each n l.count)) (take (n * 1024) area ++ (l.room ++ drop 1024 (drop (n * 1024) area)))) e'
+    ∙ ap (draws (counting (set counts.each n (length numbers)))) (laid_part numbers area (n * 1024) 1024 (latest_few (held ++ new)) (omega arith)))

@@ -1,16 +1,15 @@
 -- What one channel's part becomes: the numbers that stay, moved to the front, and the new ones behind them.
 use mathlib.Core.Path.{◌≡◌, sym, ap, ◌∙◌}
-use mathlib.Core.List.{List, [], ◌∷◌, ◌++◌, append_assoc}
-use Prim.Native.Nat.{ℕ, zero, suc, ◌+◌, ◌-◌, ◌*◌, ◌≤◌}
+use mathlib.Core.List.{List, [], ◌∷◌, ◌++◌}
+use Prim.Native.Nat.{ℕ, zero, suc, ◌+◌, ◌-◌, ◌≤◌, min}
+use borrow.Rule.Slice.PartMut.{put_mid}
 use native.Mathlib.Omega.{arith}
 use lib.ListN.{length, take, drop, length-append, length-drop}
-use lib.Seq.{length-take-le, take-nil, drop-nil, take_at, drop-append-add, drop-drop}
-use Rattle.wire.specs.Room.{over, laid_at, lays}
-use Rattle.words.specs.Words.{words_of}
+use lib.Seq.{length-take-le, take-nil, drop-nil}
+use Rattle.wire.specs.Room.{over, lays}
+use Rattle.wire.proofs.Over.{over_mid}
 use Rattle.curves.specs.Area.{channel_words, latest}
 use Rattle.curves.specs.Inner.{kept_in}
-use Rattle.curves.specs.Rounds.{of_rounds}
-use Rattle.curves.proofs.Laying.{length_of_rounds}
 
 -- a part's end past the list's is the list's
 take_least : (n : ℕ) (l : List ℕ) → take n l ≡ take (n - (n - length l)) l
@@ -54,14 +53,6 @@ drop_append (suc n) (x ∷ xs) ys =
     let one : suc n - suc (length xs) ≡ n - length xs = omega arith in
     rw one (drop_append n xs ys)
 
--- a run laid right behind one that is laid over the front
-laid_over : (s t room : List ℕ) (n : ℕ) → length s ≡ n → laid_at n t (over s room) ≡ over (s ++ t) room
-unfolding laid_at over
-laid_over s t room n is =
-    let behind : drop (n + length t) (s ++ drop (length s) room) ≡ drop (length (s ++ t)) room =
-    rw (← is, length-append s t) (drop-append-add s (drop (length s) room) (length t) ∙ drop-drop (length t) (length s) room) in
-    rw (take_at s (drop (length s) room) n is, behind) (sym (append_assoc s t (drop (length (s ++ t)) room)))
-
 -- of `gone` numbers, `old` of those that the part has and `first` of the new ones
 pub record Going (has rounds gone first old : ℕ) : Type 0 where
   fits : has ≤ channel_words
@@ -72,12 +63,12 @@ pub record Going (has rounds gone first old : ℕ) : Type 0 where
   least : old ≡ gone - (gone - has)
   past : first ≡ gone - has
 
-going : (has rounds gone first : ℕ) → has ≤ channel_words → gone ≡ has + rounds - channel_words → first ≡ gone - has → Going has rounds gone first (gone - first)
-going has rounds gone first fits is-gone is-first =
-    let fewer : first ≤ rounds = omega arith in
-    let few : gone - first ≤ has = omega arith in
-    let sum : gone - first + first ≡ gone = omega arith in
-    record { fits = fits; sum = sum; few = few; fewer = fewer; stays = omega arith; least = rw is-first; past = is-first }
+going : (has rounds gone old : ℕ) → has ≤ channel_words → gone ≡ has + rounds - channel_words → old ≡ min gone has → Going has rounds gone (gone - old) old
+going has rounds gone old fits is-gone is-old =
+    let few : old ≤ has = omega arith in
+    let fewer : gone - old ≤ rounds = omega arith in
+    let sum : old + (gone - old) ≡ gone = omega arith in
+    record { fits = fits; sum = sum; few = few; fewer = fewer; stays = omega arith; least = omega arith; past = omega arith }
 
 -- the latest of the words of a part and what comes behind them: of those that go, first those that the part has
 latest_of : (part new : List ℕ) (has gone first old : ℕ) → length part ≡ channel_words → gone ≡ has + length new - channel_words → Going has (length new) gone first old
@@ -91,50 +82,34 @@ latest_of part new has gone first old whole is-gone go =
     let behind : gone - length (take has part) ≡ first = rw long (sym go.past) in
     rw (goes, drop_append gone (take has part) new, stays, behind)
 
--- what stays, moved to the front, and the new numbers behind it
-put : (part new : List ℕ) (has gone first old : ℕ) → length part ≡ channel_words → gone ≡ has + length new - channel_words → Going has (length new) gone first old
-    → lays (has + length new - gone) (laid_at (has - old) (drop first new) (over (take (has - old) (drop old part)) part)) ≡ kept_in part (take has part ++ new)
-unfolding kept_in
-put part new has gone first old whole is-gone go =
-    let stay = take (has - old) (drop old part) in
-    let room : has - old ≤ length (drop old part) = simp (length-drop, whole) (fits_less has old go.fits) in
-    let long : length stay ≡ has - old = length-take-le (has - old) (drop old part) room in
-    let counted : length (stay ++ drop first new) ≡ has + length new - gone = rw (length-append stay (drop first new), long, length-drop first new) go.stays in
-    rw (latest_of part new has gone first old whole is-gone go, counted, laid_over stay (drop first new) part (has - old) long)
-  where
-    fits_less : (a b : ℕ) → a ≤ channel_words → a - b ≤ channel_words - b
-    fits_less a b h = omega arith
+-- `add_to`, a law for each goal
+module _ (part new : List ℕ) (count held gone old : ℕ) (whole : length part ≡ channel_words) (is-held : held ≡ min count channel_words)
+    (is-gone : gone ≡ held + length new - channel_words) (is-old : old ≡ min gone held) where
+  goes : Going held (length new) gone (gone - old) old
+  goes = going held (length new) gone old (omega arith) is-gone is-old
 
-together : (a b : ℕ) → a ≤ b → a + (b - a) ≡ b
-together a b h = omega arith
+  abbrev stay : List ℕ
+  stay = take (held - old) (drop old part)
 
-module _ (count past rounds gone first : ℕ)
-    (is-past : past ≡ count - channel_words)
-    (is-gone : gone ≡ count - past + rounds - channel_words)
-    (is-first : first ≡ gone - (count - past)) where
-  few : count - past ≤ channel_words
-  few = omega arith
-
-  goes : Going (count - past) rounds gone first (gone - first)
-  goes = going (count - past) rounds gone first few is-gone is-first
-
-  pub room_for : (part moved : List ℕ) → length part ≡ channel_words → length moved ≡ length part
-      → (count - past) - (gone - first) + (rounds - first) ≤ length moved
-  room_for part moved long same = rw (same, long, goes.stays, is-gone) (no_more (count - past + rounds))
+  long_stay : length stay ≡ held - old
+  long_stay =
+      let room : held - old ≤ length (drop old part) = simp (length-drop, whole) (fits_less held old goes.fits) in
+      length-take-le (held - old) (drop old part) room
     where
-      no_more : (n : ℕ) → n - (n - channel_words) ≤ channel_words
-      no_more n = omega arith
+      fits_less : (a b : ℕ) → a ≤ channel_words → a - b ≤ channel_words - b
+      fits_less a b h = omega arith
 
-  pub all_rounds : (size bound : ℕ) → rounds * size ≤ bound → (first + (rounds - first)) * size ≤ bound
-  all_rounds size bound fits = rw (together first rounds goes.fewer) fits
+  held_words : take count part ≡ take held part
+  held_words =
+      let least : count - (count - channel_words) ≡ held = omega arith in
+      take_least count part ∙ rw (whole, least)
 
-  pub kept : (part moved left bytes : List ℕ) (size place : ℕ) → length part ≡ channel_words
-      → moved ≡ over (take ((count - past) - (gone - first)) (drop (gone - first) part)) part
-      → left ≡ laid_at ((count - past) - (gone - first)) (drop first (of_rounds size place (first + (rounds - first)) (words_of bytes))) moved
-      → lays (count - past + rounds - gone) left ≡ kept_in part (take count part ++ of_rounds size place rounds (words_of bytes))
-  kept part moved left bytes size place long is-moved is-left =
-      let new = of_rounds size place rounds (words_of bytes) in
-      let many : length new ≡ rounds = length_of_rounds size place rounds (words_of bytes) in
-      let held : take count part ≡ take (count - past) part = take_least count part ∙ rw (long, is-past) in
-      rw (held, is-left, is-moved, together first rounds goes.fewer)
-      (rw many at (put part new (count - past) gone first (gone - first) long (rw many is-gone) (rw many goes)))
+  -- what stays, moved to the front, and the new numbers behind it
+  pub kept : (moved run : List ℕ) → moved ≡ over stay part → run ≡ drop (gone - old) new
+      → lays (held + length new - gone) (put_mid (held - old) (held + length new - gone - (held - old)) moved run) ≡ kept_in part (take count part ++ new)
+  unfolding kept_in
+  kept moved run is-moved is-run =
+      let behind : length run ≡ held + length new - gone - (held - old) = rw (is-run, length-drop (gone - old) new) (omega (arith, goes.stays)) in
+      let counted : length (stay ++ run) ≡ held + length new - gone = rw (length-append stay run, long_stay, behind) (omega (arith, goes.stays)) in
+      let numbers : latest (take count part ++ new) ≡ stay ++ run = rw (held_words, is-run) (latest_of part new held gone (gone - old) old whole is-gone goes) in
+      rw (numbers, counted) (ap (lays (held + length new - gone)) (over_mid stay run part moved (held - old) (held + length new - gone - (held - old)) long_stay behind is-moved))

@@ -1,5 +1,4 @@
 pub mod Latest
-pub mod Clears
 pub mod Naming
 pub mod Refusing
 pub mod Moving

@@ -1,12 +1,11 @@
--- Laws of the loop that moves words down to the front of a channel's part.
-use mathlib.Core.Path.{◌≡◌, sym, ap, ◌∙◌}
+-- Laws of the move of words down to the front of a channel's part.
+use mathlib.Core.Path.{◌≡◌, refl, sym, ap, ◌∙◌}
 use mathlib.Core.List.{List, ◌++◌}
-use Prim.Native.Nat.{ℕ, suc, ◌+◌, ◌-◌, ◌≤◌, ◌<◌}
+use Prim.Native.Nat.{ℕ, ◌+◌, ◌-◌, ◌≤◌}
 use native.Mathlib.Omega.{arith}
-use lib.ListN.{length, get_or, set, take, drop, length-drop, take-append-drop}
-use lib.Seq.{take-suc, length-take-le, get_or-drop, get_or-append-add}
+use lib.ListN.{length, get_or, take, drop, length-drop, take-append-drop}
+use lib.Seq.{paste, length-take-le, get_or-drop, get_or-append-add}
 use Rattle.wire.specs.Room.{over}
-use Rattle.wire.proofs.Over.{over_nil, over_more}
 
 pub over_behind : (s room : List ℕ) (k : ℕ) → length s ≤ k → get_or (over s room) k 0 ≡ get_or room k 0
 unfolding over
@@ -19,26 +18,17 @@ over_behind s room k behind =
     ∙ ap (λ (j : ℕ). get_or room j 0) far
 
 -- words that stand where they shall
-pub moved_nowhere : (old : List ℕ) (by n : ℕ) → by ≡ 0 → by + n ≤ length old → old ≡ over (take n (drop by old)) old
+pub moved_nowhere : (old : List ℕ) (from end : ℕ) → from ≤ 0 → end ≤ length old → old ≡ over (take (end - from) (drop from old)) old
 unfolding over
-moved_nowhere old by n is fits =
-    let long : length (take n old) ≡ n = length-take-le n old (omega arith) in
-    rw (is, long) (sym (take-append-drop n old))
+moved_nowhere old from end is fits =
+    let none : from ≡ 0 = omega arith in
+    let all : end - 0 ≡ end = omega arith in
+    let long : length (take end old) ≡ end = length-take-le end old fits in
+    rw (none, all, long) (sym (take-append-drop end old))
 
-pub moved_none : (old : List ℕ) (by : ℕ) → old ≡ over (take 0 (drop by old)) old
-moved_none old by = sym (over_nil old)
-
-pub moved_more : (old next : List ℕ) (by i n : ℕ) → next ≡ over (take i (drop by old)) old → i < n → by + n ≤ length old
-    → set next i (get_or next (by + i) 0) ≡ over (take (i + 1) (drop by old)) old
-moved_more old next by i n is more fits =
-    let inside : i < length (drop by old) = simp length-drop (omega arith) in
-    let long : length (take i (drop by old)) ≡ i = length-take-le i (drop by old) (omega arith) in
-    let one : i + 1 ≡ suc i = omega arith in
-    let value : get_or next (by + i) 0 ≡ get_or (drop by old) i 0 =
-    rw is (over_behind (take i (drop by old)) old (by + i) (omega arith) ∙ sym (get_or-drop by old i 0)) in
-    rw (value, is, one, take-suc (drop by old) i 0 inside) (over_more (take i (drop by old)) old (get_or (drop by old) i 0) i long (omega arith))
-
-pub moved_all : (old next : List ℕ) (by i n : ℕ) → next ≡ over (take i (drop by old)) old → n ≤ i → i ≤ n → next ≡ over (take n (drop by old)) old
-moved_all old next by i n is all all' =
-    let end : i ≡ n = omega arith in
-    rw end at is
+pub moved : (old : List ℕ) (from end : ℕ) → from ≤ end → end ≤ length old → paste old 0 (drop from old) (end - from) ≡ over (take (end - from) (drop from old)) old
+unfolding over
+moved old from end begins fits =
+    let long : length (take (end - from) (drop from old)) ≡ end - from = length-take-le (end - from) (drop from old) (simp length-drop (omega arith)) in
+    let all : 0 + (end - from) ≡ end - from = omega arith in
+    rw (long, all) refl

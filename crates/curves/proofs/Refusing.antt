@@ -1,35 +1,18 @@
 -- Laws of the tests before numbers are added, one for each way they answer.
 use mathlib.Core.Path.{◌≡◌, sym, ◌∙◌}
-use mathlib.Core.Bool.{Bool, true, false, not, ◌||◌}
+use mathlib.Core.Bool.{Bool, true, false}
 use mathlib.Core.List.{List, [], ◌∷◌}
-use Prim.Native.Nat.{ℕ, ◌+◌, ◌-◌, ◌/◌, ◌%◌, ◌≤◌}
+use Prim.Native.Nat.{ℕ, ◌-◌, ◌≤◌}
 use native.Mathlib.Omega.{arith}
-use native.Mathlib.Nat.{div-zero}
 use borrow.Author.Tests.{eq-eqb, ne_eqb}
-use lib.Dec.{eqb}
-use lib.ListN.{length, take, drop, length-drop}
+use lib.ListN.{length, take, drop}
 use Rattle.wire.specs.ByteOrder.{byte_at}
 use Rattle.wire.proofs.Parts.{part_whole}
 use Rattle.wire.proofs.Truths.{never}
 use Rattle.curves.specs.declared.Counts.{Counts}
 use Rattle.curves.specs.Area.{channel_count, curve_words, draws}
 use Rattle.curves.specs.Adding.{added_from, added}
-use Rattle.curves.specs.Rounds.{place_of, round_size, mode_of, wrong_rounds}
-
-module _ (content : List ℕ) (mode size : ℕ) (is-mode : mode ≡ byte_at content 0) (is-size : size ≡ round_size mode) where
-  sized : round_size (mode_of content) ≡ size
-  sized = rw (← is-mode) (sym is-size)
-
-  pub none_named : size ≡ 0 → true ≡ wrong_rounds content
-  unfolding wrong_rounds
-  none_named none = rw (sized, eq-eqb size 0 none)
-
-  pub not_whole : (n : ℕ) → (size ≡ 0 → ⊥) → n ≡ length content - 1 → (eqb n 0 || not (eqb (n % (size + size)) 0)) ≡ wrong_rounds content
-  unfolding wrong_rounds
-  not_whole n some is-n = rw (sized, ne_eqb size 0 some, length-drop 1 content, is-n)
-
-pub no_rounds : (n size : ℕ) → size ≡ 0 → 0 ≡ n / 2 / size
-no_rounds n size none = rw none (sym (div-zero (n / 2)))
+use Rattle.curves.specs.Rounds.{place_of, wrong_rounds}
 
 -- the tests before numbers are added
 pub has_mode : (content : List ℕ) → wrong_rounds content ≡ false → 1 ≤ length content

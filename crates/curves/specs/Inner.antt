@@ -1,14 +1,15 @@
--- No public promise cites this file: what the private functions of this crate answer and leave.
-use Rattle.std.specs.Prelude.{ℕ, ◌*◌, Bool, cond, List, ◌++◌, length, take}
-use Rattle.wire.specs.Room.{over, laid_at, Laid, lays}
-use Rattle.curves.specs.Area.{channel_words, part_of, latest}
+-- No public promise cites this file: what the private functions of this crate answer and leave, and what the private type of the numbers behind a mode byte has.
+use Rattle.std.specs.Prelude.{ℕ, List, length}
+use Rattle.wire.specs.Room.{over, Laid, lays}
+use Rattle.words.specs.Words.{words_of}
+use Rattle.curves.specs.declared.Numbers.{Numbers}
+use Rattle.curves.specs.Area.{latest}
+use Rattle.curves.specs.Rounds.{of_rounds}
 
 -- the latest of these numbers over the front of a channel's part, and how many they are
 unfoldable pub kept_in : (part numbers : List ℕ) → Laid
 kept_in part numbers = lays (length (latest numbers)) (over (latest numbers) part)
 
--- a channel of the area which has so many numbers, with new ones behind them where it is named
-unfoldable pub channel_added : (isNamed : Bool) → (new : List ℕ) → (n count : ℕ) → (area : List ℕ) → Laid
-channel_added isNamed new n count area =
-    let numbers = latest (take count (part_of n area) ++ new) in
-    cond isNamed (lays (length numbers) (laid_at (channel_words * n) numbers area)) (lays count area)
+-- "16-bit numbers in rounds": the numbers at one place of each round
+abbrev pub column : Numbers → (place : ℕ) → List ℕ
+column numbers place = of_rounds numbers.size place numbers.rounds (words_of numbers.bytes.now)

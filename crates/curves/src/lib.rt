@@ -1,6 +1,9 @@
 // The trend curves of 02, §2: eight channels over a lent area of 8,192 words, and how many numbers each has.
 #![tactic(auto)]
 
+ghost use Rattle.std.specs.Prelude.{◌*◌, ◌/◌, ◌≤◌, length};
+ghost use Rattle.curves.specs.Area.{channel_count};
+
 mod adding; // what the data of 0x84 does to the channels
 mod channel; // what one channel's part becomes
 mod counting; // the counts, read and cleared
@@ -21,4 +24,15 @@ pub const CURVE_WORDS: usize = 8192;
 #[derive(Clone, Copy)]
 pub struct Counts {
     pub each: [u16; CHANNEL_COUNT],
+}
+
+// The 16-bit numbers behind a mode byte, in so many whole rounds of this size.
+#[derive(Clone, Copy)]
+struct Numbers<'a> {
+    bytes: &'a [u8],
+    size: usize,
+    rounds: usize,
+    ghost small: { size ≤ channel_count },
+    ghost few: { rounds ≤ length bytes.now },
+    ghost whole: { rounds * size ≤ length bytes.now / 2 },
 }

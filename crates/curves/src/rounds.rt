@@ -1,45 +1,59 @@
 // The mode byte and the rounds behind it.
-ghost use Rattle.std.specs.Prelude.{◌≡◌, ◌*◌, ◌/◌, ◌≤◌, length};
-ghost use Rattle.curves.specs.Rounds.{place_of, wrong_rounds};
+ghost use Rattle.std.specs.Prelude.{◌≡◌, ◌/◌, ◌≤◌, ◌<◌, length, get_or};
+ghost use Rattle.curves.specs.Area.{channel_count};
+ghost use Rattle.curves.specs.Inner.{column};
+ghost use Rattle.curves.specs.Rounds.{named, round_size, wrong_rounds};
 
-use crate::CHANNEL_COUNT;
+use crate::Numbers;
 
-// How many channels below this one the mode byte names.
-pub(crate) fn place_of(mode: u8, channel: usize) -> usize
-    ensures value { result ≡ place_of mode channel }
-    ensures upper_bound { result ≤ channel }
+// Whether the mode byte names a channel.
+pub(crate) fn names(mode: u8, channel: usize) -> bool
+    requires { channel < channel_count }
+    ensures { result ≡ named mode channel }
 {
-    let mut rest = mode;
-    let mut place = 0;
-    let mut i = 0;
-    while i < channel {
-        place += wire::count(rest % 2);
-        rest = rest / 2;
-        i += 1;
-    }
-    place
+    (mode >> channel) & 1 == 1
 }
 
-// How many rounds of this size the bytes have.
-pub(crate) fn count_rounds(bytes: &[u8], size: usize) -> usize
-    ensures value { result ≡ length bytes.now / 2 / size }
-    ensures upper_bound { result ≤ length bytes.now }
-    ensures size_in_bounds { result * size ≤ length bytes.now / 2 }
+// How many numbers a round has: one for each channel that the mode byte names.
+pub(crate) fn size_of(mode: u8) -> usize
+    ensures value { result ≡ round_size mode }
+    ensures upper_bound { result ≤ channel_count }
 {
-    if size == 0 {
-        return 0;
+    mode.count_ones() as usize
+}
+
+impl<'a> Numbers<'a> {
+    // Those behind a mode byte.
+    pub(crate) fn behind(mode: u8, bytes: &'a [u8]) -> Numbers<'a>
+        ensures same_bytes { result.bytes.now ≡ bytes.now }
+        ensures size { result.size ≡ round_size mode }
+        ensures rounds { result.rounds ≡ length bytes.now / 2 / round_size mode }
+    {
+        let size = size_of(mode);
+        let rounds = (bytes.len() / 2).checked_div(size).unwrap_or(0);
+        Numbers {
+            bytes,
+            size,
+            rounds,
+        }
     }
-    bytes.len() / 2 / size
+
+    // The number at a place of a round.
+    pub(crate) fn at(&self, round: usize, place: usize) -> u16
+        requires { (place < self.now.size) × (round < self.now.rounds) }
+        ensures { result ≡ get_or (column self.now place) round 0 }
+    {
+        let at = (round * self.size + place) * 2;
+        wire::word(self.bytes[at], self.bytes[at + 1])
+    }
 }
 
 // The data of an 0x84 is refused: no mode byte, mode 00, no round, or one that is not finished.
+#[tactic(auto, unfolding(crate::specs::Rounds::wrong_rounds))]
 pub fn is_wrong(content: &[u8]) -> bool
     ensures { result ≡ wrong_rounds content.now }
 {
-    let size = place_of(wire::byte_at(content, 0), CHANNEL_COUNT);
-    if size == 0 {
-        return true;
-    }
-    let n = wire::above(content.len(), 1);
-    (n == 0) | (n % (size + size) != 0)
+    let size = size_of(wire::byte_at(content, 0));
+    let n = content.len().saturating_sub(1);
+    size == 0 || n == 0 || n % (size + size) != 0
 }

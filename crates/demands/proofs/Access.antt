@@ -1,4 +1,6 @@
 -- All that asking leaves: where the frame it hands over is done, after a bad check, and where nothing is handed over.
+use Rattle.std.specs.Prelude.{Option, None, Some, Ok, Err}
+use Rattle.line.specs.declared.Report.{Report}
 use mathlib.Core.Path.{◌≡◌, refl, sym, ap, ◌∙◌}
 use mathlib.Core.Bool.{Bool, true, false}
 use mathlib.Core.List.{List, [], ◌∷◌}
@@ -12,7 +14,6 @@ use Rattle.frame.specs.Frame.{most_data, most_payload}
 use Rattle.frame.proofs.Writers.{frame_laid_lem}
 use Rattle.reading.specs.Place.{bad_check, accepted_frame}
 use Rattle.line.specs.declared.Reader.{Reader}
-use Rattle.line.specs.declared.Report.{Report}
 use Rattle.line.specs.declared.Report.TheVariants as line
 use Rattle.line.specs.declared.Asked.{Asked}
 use Rattle.line.specs.State.{padded}
@@ -20,9 +21,9 @@ use Rattle.line.specs.Methods.{asked}
 use Rattle.wire.proofs.Truths.{never}
 use Rattle.wire.specs.Addresses.{word_count}
 use Rattle.words.specs.Words.{words_written}
-use Rattle.commands.specs.declared.Outcome.{Outcome}
+use Rattle.commands.specs.Outcome.{Outcome}
 use Rattle.commands.specs.Outcome as Outcome
-use Rattle.commands.specs.declared.Outcome.TheVariants.{Done, UnknownCommand, WrongData, PastEnd, Unwritable, WrongValue, ReplyTooLong}
+use Rattle.commands.specs.declared.Refusal.TheVariants.{UnknownCommand, WrongData, PastEnd, Unwritable, WrongValue, ReplyTooLong}
 use Rattle.commands.specs.Outcome.{write_registers_outcome, read_registers_outcome, write_words_outcome, read_words_outcome, add_curves_outcome, outcome, is_done}
 use Rattle.commands.specs.Effect.{words_writing, replying, registers_replying, words_replying, answered, catch_dropped, registers_writing, curves_adding}
 use Rattle.commands.specs.declared.Performed.{Performed}
@@ -51,13 +52,13 @@ use Rattle.demands.proofs.FrameAsked.{Asks, handed_asks, done_number, performanc
 -- what has number 0 is done
 zero_done : (o : Outcome) → Outcome.number_of_outcome o ≡ 0 → is_done o ≡ true
 unfolding Outcome.number_of_outcome
-zero_done Done is = refl
-zero_done UnknownCommand is = absurd (omega arith)
-zero_done WrongData is = absurd (omega arith)
-zero_done PastEnd is = absurd (omega arith)
-zero_done Unwritable is = absurd (omega arith)
-zero_done WrongValue is = absurd (omega arith)
-zero_done ReplyTooLong is = absurd (omega arith)
+zero_done (Ok tt) is = refl
+zero_done (Err UnknownCommand) is = absurd (omega arith)
+zero_done (Err WrongData) is = absurd (omega arith)
+zero_done (Err PastEnd) is = absurd (omega arith)
+zero_done (Err Unwritable) is = absurd (omega arith)
+zero_done (Err WrongValue) is = absurd (omega arith)
+zero_done (Err ReplyTooLong) is = absurd (omega arith)
 
 -- the room behind the acknowledgement, which a command is lent, and what the command does with it
 abbrev pub part_behind : Moment → (command : ℕ) → List ℕ
@@ -173,20 +174,20 @@ module _ (now : Moment) where
   abbrev a : Asked
   a = asked now.panel.reader
 
-  abbrev reported : Bool → Report → Reporting
+  abbrev reported : Bool → Option Report → Reporting
   reported enough told = reported_by now.panel now.lent enough a told
 
   pub answers_bad_check : Reachable now.panel → (command : ℕ) → handed_over now ask ≡ bad_check command ∷ [] → after now ask ≡ after_bad_check now command
   unfolding after handed_over reporting handing handing_over report_handed after_bad_check read_behind
   answers_bad_check reached command = go (well_lent now.lent) refl a.report
     where
-      go : (l : Bool) → well_lent now.lent ≡ l → (told : Report)
+      go : (l : Bool) → well_lent now.lent ≡ l → (told : Option Report)
           → report_handed (reported l told).reported.handed (reported l told).reported.payload ≡ bad_check command ∷ []
           → moment_asked (reported l told) ≡ after_bad_check now command
       go false is told hands = let none = refusal_hands_none now.lent (padded most_payload []) in never (cc)
-      go true is line.Nothing hands = never (cc)
-      go true is (line.Accepted c n) hands = never (cc)
-      go true is (line.BadCheck c) hands =
+      go true is None hands = never (cc)
+      go true is (Some (line.Accepted c n)) hands = never (cc)
+      go true is (Some (line.BadCheck c)) hands =
           let same : c ≡ command = cc in
           ap (λ (k : ℕ). record {
             panel = with_reader now.panel a.reader;
@@ -203,9 +204,9 @@ module _ (now : Moment) where
   unfolding after handed_over reporting handing handing_over report_handed
   nothing_changes_nothing = go (well_lent now.lent) a.report refl
     where
-      go : (l : Bool) (told : Report) → a.report ≡ told → report_handed (reported l told).reported.handed (reported l told).reported.payload ≡ []
+      go : (l : Bool) (told : Option Report) → a.report ≡ told → report_handed (reported l told).reported.handed (reported l told).reported.payload ≡ []
           → moment_asked (reported l told) ≡ now
       go false told is hands = refl
-      go true line.Nothing is hands = rw (nothing_keeps now.panel.reader is)
-      go true (line.Accepted c n) is hands = never (cc)
-      go true (line.BadCheck c) is hands = never (cc)
+      go true None is hands = rw (nothing_keeps now.panel.reader is)
+      go true (Some (line.Accepted c n)) is hands = never (cc)
+      go true (Some (line.BadCheck c)) is hands = never (cc)

@@ -1,4 +1,6 @@
 -- Two panels with the same reader, lent as many words and as large a room, read alike: registers, page, catch and the words' values play no part in reading.
+use Rattle.std.specs.Prelude.{Option, None, Some}
+use Rattle.line.specs.declared.Report.{Report}
 use mathlib.Core.Path.{◌≡◌, refl, sym, ap, ◌∙◌}
 use mathlib.Core.Bool.{Bool, true, false, cond}
 use mathlib.Core.List.{List, [], ◌∷◌, map}
@@ -8,7 +10,6 @@ use Rattle.reading.specs.Place as Place
 use Rattle.reading.specs.Line as Line
 use Rattle.line.specs.declared.Reader.{Reader}
 use Rattle.line.specs.declared.Asked.{Asked}
-use Rattle.line.specs.declared.Report.{Report}
 use Rattle.line.specs.declared.Report.TheVariants as line
 use Rattle.frame.specs.Frame.{most_payload}
 use Rattle.line.specs.State.{padded}
@@ -27,22 +28,22 @@ use Rattle.commands.specs.Lent.{Lent}
 use Rattle.demands.proofs.Reading.{contact_keeps_reader, second_keeps_reader, lift_keeps_reader}
 
 -- what an ask hands over and the reader that it leaves, by the reader alone and whether enough is lent
-abbrev handed_from : Report → (payload : List ℕ) → List Place.Report
-handed_from line.Nothing payload = []
-handed_from (line.BadCheck command) payload = Place.bad_check command ∷ []
-handed_from (line.Accepted command count) payload = Place.accepted_frame command (take count payload) ∷ []
+abbrev handed_from : Option Report → (payload : List ℕ) → List Place.Report
+handed_from None payload = []
+handed_from (Some (line.BadCheck command)) payload = Place.bad_check command ∷ []
+handed_from (Some (line.Accepted command count)) payload = Place.accepted_frame command (take count payload) ∷ []
 
 module _ (panel : Panel) (lent : Lent) where
   abbrev result : Bool → Asked → Reporting.Reporting
   result enough a = reported_by panel lent enough a a.report
 
-  handing_told : (a : Asked) (report : Report)
+  handing_told : (a : Asked) (report : Option Report)
       → (report_handed (Reporting.handing a report panel lent).reported.handed (Reporting.handing a report panel lent).reported.payload ≡ handed_from report a.payload)
       × ((Reporting.handing a report panel lent).reported.panel.reader ≡ a.reader)
   unfolding Reporting.handing Reporting.handing_over report_handed
-  handing_told a line.Nothing = (refl, refl)
-  handing_told a (line.BadCheck command) = (refl, refl)
-  handing_told a (line.Accepted command count) = (refl, refl)
+  handing_told a None = (refl, refl)
+  handing_told a (Some (line.BadCheck command)) = (refl, refl)
+  handing_told a (Some (line.Accepted command count)) = (refl, refl)
 
   ask_told : (report_handed (reporting panel lent).reported.handed (reporting panel lent).reported.payload
       ≡ cond (Reporting.well_lent lent) (handed_from (asked panel.reader).report (asked panel.reader).payload) [])

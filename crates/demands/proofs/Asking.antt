@@ -1,4 +1,5 @@
 -- All that asking can leave: the cases of specs/Demand2's AskLeaves are all there are.
+use Rattle.std.specs.Prelude.{None, Some, Ok, Err}
 use mathlib.Core.Path.{◌≡◌, refl, ap, ◌∙◌}
 use mathlib.Core.Logic.{◌⊎◌, inl, inr}
 use mathlib.Core.Bool.{Bool, true, false, cond}
@@ -14,8 +15,9 @@ use Rattle.wire.proofs.Truths.{never}
 use Rattle.commands.specs.Outcome as Outcome
 use Rattle.commands.specs.Outcome.{outcome}
 use Rattle.panel.specs.State.{fixed_for}
-use Rattle.panel.specs.declared.Handed.{Handed}
+use Rattle.panel.specs.Answers.{AskAnswer}
 use Rattle.panel.specs.declared.Handed.TheVariants as handed
+use Rattle.panel.specs.declared.LentError.TheVariants as lent_error
 use Rattle.panel.specs.Numbers.{report_number}
 use Rattle.panel.specs.Reporting.{Reporting, reporting}
 use Rattle.panel.specs.Reachable.{Reachable}
@@ -27,29 +29,29 @@ use Rattle.demands.proofs.Access.{writes_registers, reads_registers, writes_word
 use Rattle.demands.proofs.Refusals.{command_refused}
 
 -- one report at most, and its number where it is none or a bad check
-one_report : (h : Handed) (payload : List ℕ) (r : Place.Report) (rest : List Place.Report) → report_handed h payload ≡ r ∷ rest → rest ≡ []
+one_report : (h : AskAnswer) (payload : List ℕ) (r : Place.Report) (rest : List Place.Report) → report_handed h payload ≡ r ∷ rest → rest ≡ []
 unfolding report_handed
-one_report handed.NotLent payload r rest is = never (cc)
-one_report handed.WrongList payload r rest is = never (cc)
-one_report handed.Nothing payload r rest is = never (cc)
-one_report (handed.BadCheck command acknowledged) payload r rest is = cc
-one_report (handed.Accepted command count o acknowledged replied) payload r rest is = cc
+one_report (Err lent_error.NotLent) payload r rest is = never (cc)
+one_report (Err lent_error.WrongList) payload r rest is = never (cc)
+one_report (Ok None) payload r rest is = never (cc)
+one_report (Ok (Some (handed.BadCheck command acknowledged))) payload r rest is = cc
+one_report (Ok (Some (handed.Accepted command count o acknowledged replied))) payload r rest is = cc
 
-none_number : (h : Handed) (payload : List ℕ) → report_handed h payload ≡ [] → (report_number h ≡ 0) ⊎ ((report_number h ≡ 14) ⊎ (report_number h ≡ 16))
+none_number : (h : AskAnswer) (payload : List ℕ) → report_handed h payload ≡ [] → (report_number h ≡ 0) ⊎ ((report_number h ≡ 14) ⊎ (report_number h ≡ 16))
 unfolding report_handed report_number
-none_number handed.NotLent payload is = inr (inl refl)
-none_number handed.WrongList payload is = inr (inr refl)
-none_number handed.Nothing payload is = inl refl
-none_number (handed.BadCheck command acknowledged) payload is = never (cc)
-none_number (handed.Accepted command count o acknowledged replied) payload is = never (cc)
+none_number (Err lent_error.NotLent) payload is = inr (inl refl)
+none_number (Err lent_error.WrongList) payload is = inr (inr refl)
+none_number (Ok None) payload is = inl refl
+none_number (Ok (Some (handed.BadCheck command acknowledged))) payload is = never (cc)
+none_number (Ok (Some (handed.Accepted command count o acknowledged replied))) payload is = never (cc)
 
-bad_number : (h : Handed) (payload : List ℕ) (command : ℕ) → report_handed h payload ≡ bad_check command ∷ [] → report_number h ≡ 0
+bad_number : (h : AskAnswer) (payload : List ℕ) (command : ℕ) → report_handed h payload ≡ bad_check command ∷ [] → report_number h ≡ 0
 unfolding report_handed report_number
-bad_number handed.NotLent payload command is = never (cc)
-bad_number handed.WrongList payload command is = never (cc)
-bad_number handed.Nothing payload command is = never (cc)
-bad_number (handed.BadCheck c acknowledged) payload command is = refl
-bad_number (handed.Accepted c count o acknowledged replied) payload command is = never (cc)
+bad_number (Err lent_error.NotLent) payload command is = never (cc)
+bad_number (Err lent_error.WrongList) payload command is = never (cc)
+bad_number (Ok None) payload command is = never (cc)
+bad_number (Ok (Some (handed.BadCheck c acknowledged))) payload command is = refl
+bad_number (Ok (Some (handed.Accepted c count o acknowledged replied))) payload command is = never (cc)
 
 -- a command by its number
 pub as_command : (now : Moment) (command : ℕ) (content : List ℕ) → handed_over now ask ≡ accepted_frame command content ∷ [] → (known : ℕ) → command ≡ known

@@ -1,9 +1,9 @@
 -- Laws of sequences of calls: one sequence behind another, and the panels that are reached.
+use Rattle.std.specs.Prelude.{Ok}
 use mathlib.Core.Path.{◌≡◌, refl}
 use mathlib.Core.List.{List, [], ◌∷◌, ◌++◌, append_assoc}
 use Prim.Native.Nat.{ℕ, ◌<◌}
 use Rattle.touch.specs.declared.Setup.{Setup}
-use Rattle.panel.specs.declared.StartAnswer.TheVariants as start
 use Rattle.panel.specs.Start.{started}
 use Rattle.panel.specs.Reachable.{Reachable, by_start, by_byte, by_mark, by_second, by_bytes, by_report, by_contact, by_lift}
 use Rattle.commands.specs.Lent.{Lent}
@@ -47,7 +47,7 @@ calls_arise now [] typed arises = arises
 calls_arise now (call ∷ calls) typed arises = calls_arise (after now call) calls typed.1 (by_call now call typed.0 arises)
 
 pub sequence_arises : (setup : Setup) (table : List ℕ) (lent : Lent) → setup.h1 < 256 → setup.h2 < 256 → Halfwords lent.words
-    → Halfwords lent.curves → (started setup table).answer ≡ start.Started → (calls : List Call) → AllTyped calls → Arises (after_all (begun setup table lent) calls)
+    → Halfwords lent.curves → (started setup table).answer ≡ Ok tt → (calls : List Call) → AllTyped calls → Arises (after_all (begun setup table lent) calls)
 sequence_arises setup table lent h1 h2 are area is calls typed =
     calls_arise (begun setup table lent) calls typed (from_start setup table lent h1 h2 are area is)
 

@@ -1,4 +1,5 @@
 -- A caught slider's begin and end are 16-bit numbers, whatever calls come; so what it stores while it is dragged is what 01 prints.
+use Rattle.std.specs.Prelude.{None, Some}
 use mathlib.Core.Path.{◌≡◌, refl, sym, ap, ◌∙◌}
 use mathlib.Core.Bool.{Bool, true, false, cond}
 use mathlib.Core.List.{List}
@@ -17,8 +18,7 @@ use Rattle.touch.specs.declared.Record.{Record}
 use Rattle.touch.specs.declared.Kind.{Kind}
 use Rattle.touch.specs.declared.Kind.TheVariants.{Slider}
 use Rattle.touch.specs.declared.SliderFields.{SliderFields}
-use Rattle.touch.specs.declared.Found.{Found}
-use Rattle.touch.specs.declared.Found.TheVariants.{Nothing, At}
+use Rattle.touch.specs.Table.{Found}
 use Rattle.touch.specs.Record.{slides, is_slider, no_next, digit_mode, along, first_edge, last_edge}
 use Rattle.touch.specs.Find.{found}
 use Rattle.touch.specs.Act.{acted_of, dragged_of}
@@ -27,8 +27,7 @@ use Rattle.touch.proofs.Acts.{slider_acts_as_printed}
 use Rattle.touch.proofs.Scale.{good_slider_record}
 use Rattle.touch.proofs.GoodFields.{good_word, good_kind_lem}
 use Rattle.touch.proofs.Tables.{found_stands}
-use Rattle.contact.specs.declared.Catch.{Catch}
-use Rattle.contact.specs.declared.Catch.TheVariants.{Free, Caught}
+use Rattle.contact.specs.Contact.{Catch}
 use Rattle.contact.specs.declared.Pad.{Pad}
 use Rattle.contact.specs.Contact as Contact
 use Rattle.contact.specs.Contact.{touched}
@@ -53,9 +52,9 @@ use Rattle.demands.proofs.TouchEffects.{slider_fields_fit, contact_done_lem, con
 
 -- a copy of a slider's record that is kept has 16-bit begin and end
 abbrev Fits : Catch → Type 0
-Fits catch = (r : Record) (f : SliderFields) → catch ≡ Caught r → r.kind ≡ Slider f → (f.begin < 65536) × (f.end < 65536)
+Fits catch = (r : Record) (f : SliderFields) → catch ≡ Some r → r.kind ≡ Slider f → (f.begin < 65536) × (f.end < 65536)
 
-free_fits : Fits Free
+free_fits : Fits None
 free_fits r f is kind = never (cc)
 
 either_fits : (b : Bool) (c d : Catch) → Fits c → Fits d → Fits (cond b c d)
@@ -63,7 +62,7 @@ either_fits true c d one two = one
 either_fits false c d one two = two
 
 module _ (setup : Setup) (pad : Pad) (table words : List ℕ) (x y : ℕ) (fits : Fits pad.catch) (are : Bytes table) where
-  caught_fits : (i : ℕ) (r : Record) → found table (page_of pad.registers) x y ≡ At i r → Fits (Caught r)
+  caught_fits : (i : ℕ) (r : Record) → found table (page_of pad.registers) x y ≡ Some (i, r) → Fits (Some r)
   caught_fits i r acts q f is kind =
       let same : r ≡ q = cc in
       let stands = (found_stands table (page_of pad.registers) x y i r acts).0 in
@@ -76,14 +75,14 @@ module _ (setup : Setup) (pad : Pad) (table words : List ℕ) (x y : ℕ) (fits 
       now : Registers
       now = with_place (with_status pad.registers 0x01) x y
 
-      shown : (i : ℕ) (r : Record) → found table (page_of pad.registers) x y ≡ At i r → (b : Bool)
-          → Fits (cond b (Contact.pad_with now (Contact.catching r pad.catch)) (Contact.pad_with (with_page now r.next) Free)).catch
-      shown i r acts true = either_fits (slides r) (Caught r) pad.catch (caught_fits i r acts) fits
+      shown : (i : ℕ) (r : Record) → found table (page_of pad.registers) x y ≡ Some (i, r) → (b : Bool)
+          → Fits (cond b (Contact.pad_with now (Contact.catching r pad.catch)) (Contact.pad_with (with_page now r.next) None)).catch
+      shown i r acts true = either_fits (slides r) (Some r) pad.catch (caught_fits i r acts) fits
       shown i r acts false = free_fits
 
       behind : (f : Found) → found table (page_of pad.registers) x y ≡ f → Fits (Contact.acting setup f now pad.catch words x y).pad.catch
-      behind Nothing acts = fits
-      behind (At i r) acts = shown i r acts (no_next r)
+      behind None acts = fits
+      behind (Some (i, r)) acts = shown i r acts (no_next r)
 
       go : (b : Bool) → Fits (cond b (Contact.held_down setup pad words x y) (Contact.pressed setup pad table words x y)).pad.catch
       go true = fits
@@ -101,7 +100,7 @@ call_fits now ask typed fits =
     (λ good command count is.
     let content = take count (asked now.panel.reader).payload in
     let done = accepting now.panel.setup now.panel.registers command content now.lent in
-    either_fits done.effected.performed.drops Free now.panel.catch free_fits fits)
+    either_fits done.effected.performed.drops None now.panel.catch free_fits fits)
 call_fits now (contact c) typed fits =
     contact_ways now.panel c now.lent (λ r. Fits r.contacted.panel.catch) (λ answer. fits)
     (λ passed. touched_fits now.panel.setup (pad_of now.panel) c.table now.lent.words c.x c.y fits typed.0)
@@ -110,12 +109,12 @@ call_fits now lift typed fits = lift_ways now.panel (λ l. Fits l.panel.catch) f
 always_fits : (now : Moment) → Arises now → Fits now.panel.catch
 unfolding new_panel
 always_fits _ (from_start setup table lent h1 h2 are area is) = λ r f caught kind.
-    let none : (new_panel setup).catch ≡ Caught r = ap (λ (p : Panel). p.catch) (sym (started_new setup table is)) ∙ caught in
+    let none : (new_panel setup).catch ≡ Some r = ap (λ (p : Panel). p.catch) (sym (started_new setup table is)) ∙ caught in
     free_fits r f none kind
 always_fits _ (by_call now call typed arises) = call_fits now call typed (always_fits now arises)
 
 -- what is caught is a good slider record
-pub caught_slider_good : (now : Moment) → Arises now → (r : Record) → now.panel.catch ≡ Caught r → (f : SliderFields) → r.kind ≡ Slider f → GoodSliderRecord r f
+pub caught_slider_good : (now : Moment) → Arises now → (r : Record) → now.panel.catch ≡ Some r → (f : SliderFields) → r.kind ≡ Slider f → GoodSliderRecord r f
 caught_slider_good now arises r caught f kind =
     let sound = reachable_sound now.panel (arises_reachable now arises) in
     let fit = always_fits now arises r f caught kind in
@@ -123,7 +122,7 @@ caught_slider_good now arises r caught f kind =
 
 -- "Contact while down: .. a caught slider stores for the point moved to the nearest place in its area"
 pub dragged_slider_stores : (now : Moment) → Arises now → (c : Contact) → number_given now (contact c) ≡ 0
-    → is_down now.panel.registers ≡ true → (r : Record) → now.panel.catch ≡ Caught r → (f : SliderFields) → r.kind ≡ Slider f
+    → is_down now.panel.registers ≡ true → (r : Record) → now.panel.catch ≡ Some r → (f : SliderFields) → r.kind ≡ Slider f
     → Stores (digit_mode r.mode) (word_at_address now.lent.words r.word) (word_at_address (after now (contact c)).lent.words r.word)
     (slid_to (rounding_of now.panel.setup) (signed f.begin) (signed f.end) (first_edge r.mode r.area) (last_edge r.mode r.area) (along r.mode c.x c.y))
 unfolding after_contact number_given dragged_of telling

@@ -1,4 +1,5 @@
 -- 02, §6, "Clock": what is claimed of the clock over any calls, sentence by sentence. What the sentences suppose and say is in specs/Clock.
+use Rattle.std.specs.Prelude.{Ok}
 use mathlib.Core.Path.{◌≡◌, refl, ◌∙◌}
 use mathlib.Core.Logic.{◌⊎◌}
 use mathlib.Core.Bool.{true, false}
@@ -20,7 +21,6 @@ use Rattle.registers.proofs.ClockRuns.{touches_exactly}
 use Rattle.registers.proofs.Moments.{stands_at, eight_read_back}
 use Rattle.line.specs.Methods.{busy}
 use Rattle.touch.specs.declared.Setup.{Setup}
-use Rattle.panel.specs.declared.StartAnswer.TheVariants as start
 use Rattle.panel.specs.Start.{new_panel, started}
 use Rattle.panel.specs.State.{panel_register, panel_moment}
 use Rattle.panel.proofs.Invariant.{reachable_sound}
@@ -42,7 +42,7 @@ pub clock_always_right : (now : Moment) → Arises now → ClockRight now.panel
 clock_always_right now arises = ClockCalls.clock_right now.panel (arises_reachable now arises)
 
 -- "Panels start at the latter moment", 00:00:00 on 1 January 2000, a Saturday
-pub clock_starts : (setup : Setup) (table : List ℕ) → (started setup table).answer ≡ start.Started
+pub clock_starts : (setup : Setup) (table : List ℕ) → (started setup table).answer ≡ Ok tt
     → (panel_moment (started setup table).panel ≡ moment (dated 0 1 1) (timed 0 0 0))
     × (register_run (started setup table).panel.registers 0x1F 8 ≡ 0x00 ∷ 0x00 ∷ 0x01 ∷ 0x01 ∷ 0x06 ∷ 0x00 ∷ 0x00 ∷ 0x00 ∷ [])
 unfolding computing_registers new_panel

@@ -1,4 +1,5 @@
 -- 02, §6, of a panel's calls: what a second and a setting leave of the clock, and that nothing else changes it.
+use Rattle.std.specs.Prelude.{Ok, Err}
 use mathlib.Core.Path.{◌≡◌, refl, sym, ap, ◌∙◌}
 use mathlib.Core.Logic.{◌⊎◌, inl, inr, ⊎_elim}
 use mathlib.Core.Bool.{Bool, true, false, cond}
@@ -31,7 +32,7 @@ use Rattle.registers.specs.Clocked.{Stands, second_passed}
 use Rattle.registers.proofs.ClockRuns.{clock_touched, touched_some, none_touched, setting_run, setting_may, setting_values, setting_right, part_refused, setting_outside, clock_behind}
 use Rattle.registers.proofs.Moments.{stands_at, second_stands, setting_stands}
 use Rattle.registers.proofs.Written.{others_stay}
-use Rattle.commands.specs.declared.Outcome.TheVariants.{Done, WrongValue}
+use Rattle.commands.specs.declared.Refusal.TheVariants.{WrongValue}
 use Rattle.commands.specs.Outcome.{number_of_outcome, write_registers_outcome, outcome}
 use Rattle.commands.specs.Effect.{registers_left}
 use Rattle.commands.proofs.DoneWrites.{RegistersPassed, registers_passed}
@@ -249,7 +250,7 @@ module _ (now : Moment) (reached : Reachable now.panel) (content : List ℕ) (wr
           setting_values (byte_at content 0) (drop 1 content) now.panel.setup.pages sets,
         ) (by_wrong (wrong_setting (drop 1 content)))
       where
-        by_wrong : (w : Bool) → number_of_outcome (cond w WrongValue Done) ≡ cond w 6 0
+        by_wrong : (w : Bool) → number_of_outcome (cond w (Err WrongValue) (Ok tt)) ≡ cond w 6 0
         by_wrong true = refl
         by_wrong false = refl
 

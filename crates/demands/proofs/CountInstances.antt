@@ -1,4 +1,5 @@
 -- Reports with counts, by computation: checking and acknowledging on, a read that is done, one that is refused, a command that is not known, and a bad check.
+use Rattle.std.specs.Prelude.{Ok, Err}
 use mathlib.Core.Path.{◌≡◌, refl}
 use mathlib.Core.Bool.{true}
 use mathlib.Core.List.{List, [], ◌∷◌}
@@ -8,12 +9,11 @@ use lib.ListN.{replicate}
 use Rattle.wire.specs.Addresses.{word_count}
 use Rattle.frame.specs.Writer.{least_room}
 use Rattle.reading.proofs.ByteLists.{all_bytes, tested_bytes}
-use Rattle.commands.specs.declared.Outcome.TheVariants.{Done, UnknownCommand, PastEnd}
+use Rattle.commands.specs.declared.Refusal.TheVariants.{UnknownCommand, PastEnd}
 use Rattle.curves.specs.Area.{curve_words}
 use Rattle.watch.specs.Watched.{none_watched}
 use Rattle.commands.specs.Lent.{lending}
 use Rattle.touch.specs.declared.Setup.{Setup}
-use Rattle.panel.specs.declared.StartAnswer.TheVariants as start
 use Rattle.panel.specs.Start.{started}
 use Rattle.demands.specs.Calls.{Moment, bytes, ask, begun, after, Typed, Arises, from_start, by_call}
 use Rattle.demands.specs.Counts.{reply_to, BadCheckCounted, FrameCounted}
@@ -42,7 +42,7 @@ unknown = 0x5A ∷ 0xA5 ∷ 0x05 ∷ 0x85 ∷ 0x00 ∷ 0x01 ∷ 0xA1 ∷ 0xE9 �
 abbrev damaged : List ℕ
 damaged = 0x5A ∷ 0xA5 ∷ 0x05 ∷ 0x81 ∷ 0x00 ∷ 0x01 ∷ 0xE0 ∷ 0x29 ∷ []
 
-starts : (started acknowledging []).answer ≡ start.Started
+starts : (started acknowledging []).answer ≡ Ok tt
 unfolding computing_start
 starts = refl
 
@@ -56,15 +56,15 @@ fed_arises frame are =
 -- two bytes of data each; seven bytes of acknowledgement; nine of reply where the read is done
 pub read_counted : FrameCounted (fed version) 0x81 2 7 9
 unfolding computing_calls computing_acknowledgements all_bytes
-read_counted = counts_of_frame (fed version) (fed_arises version refl) 0x81 2 Done 7 9 refl
+read_counted = counts_of_frame (fed version) (fed_arises version refl) 0x81 2 (Ok tt) 7 9 refl
 
 pub refused_counted : FrameCounted (fed past_end) 0x81 2 7 0
 unfolding computing_calls computing_acknowledgements all_bytes
-refused_counted = counts_of_frame (fed past_end) (fed_arises past_end refl) 0x81 2 PastEnd 7 0 refl
+refused_counted = counts_of_frame (fed past_end) (fed_arises past_end refl) 0x81 2 (Err PastEnd) 7 0 refl
 
 pub unknown_counted : FrameCounted (fed unknown) 0x85 2 7 0
 unfolding computing_calls computing_acknowledgements all_bytes
-unknown_counted = counts_of_frame (fed unknown) (fed_arises unknown refl) 0x85 2 UnknownCommand 7 0 refl
+unknown_counted = counts_of_frame (fed unknown) (fed_arises unknown refl) 0x85 2 (Err UnknownCommand) 7 0 refl
 
 pub damaged_counted : BadCheckCounted (fed damaged) 0x81 7
 unfolding computing_calls computing_acknowledgements all_bytes

@@ -1,4 +1,6 @@
 -- The counts that a report hands over are those of the bytes that asking lays.
+use Rattle.std.specs.Prelude.{Option, None, Some, Ok, Err}
+use Rattle.line.specs.declared.Report.{Report}
 use mathlib.Core.Path.{◌≡◌, refl, sym, ap, ◌∙◌}
 use mathlib.Core.Bool.{Bool, true, false, cond}
 use mathlib.Core.List.{List, [], ◌∷◌, ◌++◌, append_assoc, append-nil}
@@ -15,20 +17,19 @@ use Rattle.frame.specs.Frame.{frame_of}
 use Rattle.touch.specs.Setup.{checking_of}
 use Rattle.demands.specs.Replied.{Replied}
 use Rattle.reading.specs.Place.{bad_check, accepted_frame}
-use Rattle.line.specs.declared.Report.{Report}
 use Rattle.line.specs.declared.Report.TheVariants as line
 use Rattle.line.specs.declared.Asked.{Asked}
 use Rattle.line.specs.Methods.{asked}
 use Rattle.line.specs.Reached.{report_as}
 use Rattle.wire.proofs.Truths.{never}
-use Rattle.commands.specs.declared.Outcome.{Outcome}
-use Rattle.commands.specs.declared.Outcome.TheVariants.{Done, UnknownCommand, WrongData, PastEnd, Unwritable, WrongValue, ReplyTooLong}
+use Rattle.commands.specs.Outcome.{Outcome}
+use Rattle.commands.specs.declared.Refusal.TheVariants.{UnknownCommand, WrongData, PastEnd, Unwritable, WrongValue, ReplyTooLong}
 use Rattle.commands.specs.Outcome as Outcome
 use Rattle.commands.specs.Outcome.{outcome}
 use Rattle.commands.specs.Lent.{with_room}
 use Rattle.commands.specs.Perform.{Performance, performance}
 use Rattle.commands.proofs.Performance.{performs_outcome}
-use Rattle.panel.specs.declared.Handed.{Handed}
+use Rattle.panel.specs.Answers.{AskAnswer}
 use Rattle.panel.specs.declared.Handed.TheVariants as handed
 use Rattle.panel.specs.State.{header_of, fixed_for}
 use Rattle.panel.specs.Reporting.{acknowledged, accepting, Reporting, handing, reporting, well_lent, handing_over}
@@ -85,19 +86,19 @@ module _ (now : Moment) (reached : Reachable now.panel) (command : ℕ) (content
   unfolding report_as
   data_long =
       let waits : waiting_report now.panel ≡ accepted_frame command content ∷ [] = sym (sound_ask_hands now sound asks.well) ∙ hands in
-      let told : (asked now.panel.reader).report ≡ line.Accepted command (length content) = asked_report now.panel sound ∙ ap report_as waits in
-      let same : line.Accepted command asks.count ≡ line.Accepted command (length content) = sym asks.told ∙ told in
+      let told : (asked now.panel.reader).report ≡ Some (line.Accepted command (length content)) = asked_report now.panel sound ∙ ap report_as waits in
+      let same : Some (line.Accepted command asks.count) ≡ Some (line.Accepted command (length content)) = sym asks.told ∙ told in
       cc
 
   -- the answer by the data, the acknowledgement as laid and what the command does
-  abbrev answering : (count laid : ℕ) → Performance → Handed
-  answering count laid done = handed.Accepted command count done.performed.outcome laid done.performed.replied
+  abbrev answering : (count laid : ℕ) → Performance → AskAnswer
+  answering count laid done = Ok (Some (handed.Accepted command count done.performed.outcome laid done.performed.replied))
 
   abbrev performing : List ℕ → Laid → Performance
   performing came laid = performance (fixed_for now.panel.setup) now.panel.registers command came (with_room now.lent (drop laid.count laid.room))
 
   pub handed_as : handed_by now
-      ≡ handed.Accepted command (length content) (outcome (fixed_for now.panel.setup) word_count command content) (length answer) (length reply)
+      ≡ Ok (Some (handed.Accepted command (length content) (outcome (fixed_for now.panel.setup) word_count command content) (length answer) (length reply)))
   unfolding handing handing_over accepting
   handed_as =
       let laid = acknowledged now.panel.setup command true now.lent.room in
@@ -111,9 +112,9 @@ module _ (now : Moment) (reached : Reachable now.panel) (command : ℕ) (content
       ∙ ap (λ (came : List ℕ). answering asks.count laid.count (performing came laid)) asks.content_is
       ∙ ap (λ (l : Laid). answering asks.count l.count (performing content l)) (acknowledged_laid now.panel.setup command true now.lent.room asks.well.room)
       ∙ ap (answering asks.count (length answer)) does
-      ∙ ap (λ (n : ℕ). handed.Accepted command n does_so.performed.outcome (length answer) does_so.performed.replied) data_long
-      ∙ ap (λ (n : ℕ). handed.Accepted command (length content) does_so.performed.outcome (length answer) n) does_so.replied_is
-      ∙ ap (λ (o : Outcome). handed.Accepted command (length content) o (length answer) (length reply)) same
+      ∙ ap (λ (n : ℕ). Ok (Some (handed.Accepted command n does_so.performed.outcome (length answer) does_so.performed.replied))) data_long
+      ∙ ap (λ (n : ℕ). Ok (Some (handed.Accepted command (length content) does_so.performed.outcome (length answer) n))) does_so.replied_is
+      ∙ ap (λ (o : Outcome). Ok (Some (handed.Accepted command (length content) o (length answer) (length reply)))) same
 
   pub room_left : (after now ask).lent.room ≡ over (answer ++ reply) now.lent.room
   unfolding leaving
@@ -125,16 +126,16 @@ none_above number reply above = let other : number ≡ 0 → ⊥ = λ is. omega 
 
 -- "The reply follows the acknowledgement at once in the same room. .. bytes past the reported count stay."
 pub frame_counts : (now : Moment) → Reachable now.panel → (command count : ℕ) (o : Outcome) (acknowledged replied : ℕ)
-    → handed_by now ≡ handed.Accepted command count o acknowledged replied → FrameCounted now command count acknowledged replied
+    → handed_by now ≡ Ok (Some (handed.Accepted command count o acknowledged replied)) → FrameCounted now command count acknowledged replied
 unfolding handed_over report_handed reply_to
 frame_counts now reached command count o a r is =
     let payload = (reporting now.panel now.lent).reported.payload in
     let content = take count payload in
-    let hands : handed_over now ask ≡ accepted_frame command content ∷ [] = ap (λ (h : Handed). report_handed h payload) is in
+    let hands : handed_over now ask ≡ accepted_frame command content ∷ [] = ap (λ (h : AskAnswer). report_handed h payload) is in
     let reply = reply_to now command content in
     let answer = acknowledgement_of now.panel.setup command true in
-    let same : handed.Accepted command count o a r
-    ≡ handed.Accepted command (length content) (outcome (fixed_for now.panel.setup) word_count command content) (length answer) (length reply) =
+    let same : Ok (Some (handed.Accepted command count o a r))
+    ≡ Ok (Some (handed.Accepted command (length content) (outcome (fixed_for now.panel.setup) word_count command content) (length answer) (length reply))) =
     sym is ∙ handed_as now reached command content hands in
     let is-count : count ≡ length content = cc in
     let is-a : a ≡ length answer = cc in
@@ -148,15 +149,15 @@ frame_counts now reached command count o a r is =
     }
 
 -- a command that is answered 0, where its reply is this frame
-done_is : (o : Outcome) → Outcome.number_of_outcome o ≡ 0 → o ≡ Done
+done_is : (o : Outcome) → Outcome.number_of_outcome o ≡ 0 → o ≡ Ok tt
 unfolding Outcome.number_of_outcome
-done_is Done zero = refl
-done_is UnknownCommand zero = absurd (omega arith)
-done_is WrongData zero = absurd (omega arith)
-done_is PastEnd zero = absurd (omega arith)
-done_is Unwritable zero = absurd (omega arith)
-done_is WrongValue zero = absurd (omega arith)
-done_is ReplyTooLong zero = absurd (omega arith)
+done_is (Ok tt) zero = refl
+done_is (Err UnknownCommand) zero = absurd (omega arith)
+done_is (Err WrongData) zero = absurd (omega arith)
+done_is (Err PastEnd) zero = absurd (omega arith)
+done_is (Err Unwritable) zero = absurd (omega arith)
+done_is (Err WrongValue) zero = absurd (omega arith)
+done_is (Err ReplyTooLong) zero = absurd (omega arith)
 
 pub replied_by : (now : Moment) → Reachable now.panel → (command : ℕ) (content payload : List ℕ) → handed_over now ask ≡ accepted_frame command content ∷ []
     → number_given now ask ≡ 0 → reply_to now command content ≡ frame_of (checking_of now.panel.setup) (header_of now.panel.setup) command payload
@@ -165,42 +166,42 @@ replied_by now reached command content payload hands done reply =
     let setup = now.panel.setup in
     let answer = acknowledgement_of setup command true in
     let number = done_number now (reachable_sound now.panel reached) command content (handed_asks now command content hands) in
-    let is : outcome (fixed_for setup) word_count command content ≡ Done = done_is (outcome (fixed_for setup) word_count command content) (sym number ∙ done) in
+    let is : outcome (fixed_for setup) word_count command content ≡ (Ok tt) = done_is (outcome (fixed_for setup) word_count command content) (sym number ∙ done) in
     record {
       done = done;
       counts = handed_as now reached command content hands
-          ∙ ap (λ (o : Outcome). handed.Accepted command (length content) o (length answer) (length (reply_to now command content))) is
-          ∙ ap (λ (l : List ℕ). handed.Accepted command (length content) Done (length answer) (length l)) reply;
+          ∙ ap (λ (o : Outcome). Ok (Some (handed.Accepted command (length content) o (length answer) (length (reply_to now command content))))) is
+          ∙ ap (λ (l : List ℕ). Ok (Some (handed.Accepted command (length content) (Ok tt) (length answer) (length l)))) reply;
       room = room_left now reached command content hands ∙ ap (λ (l : List ℕ). over (answer ++ l) now.lent.room) reply;
     }
 
 -- "each bad check by the same with 0x00"
-bad_acknowledged : (now : Moment) (command a : ℕ) → handed_by now ≡ handed.BadCheck command a → a ≡ length (acknowledgement_of now.panel.setup command false)
+bad_acknowledged : (now : Moment) (command a : ℕ) → handed_by now ≡ Ok (Some (handed.BadCheck command a)) → a ≡ length (acknowledgement_of now.panel.setup command false)
 unfolding reporting handing handing_over
 bad_acknowledged now command a = go (well_lent now.lent) refl by.report
   where
     by : Asked
     by = asked now.panel.reader
 
-    go : (l : Bool) → well_lent now.lent ≡ l → (told : Report) → (reported_by now.panel now.lent l by told).reported.handed ≡ handed.BadCheck command a
+    go : (l : Bool) → well_lent now.lent ≡ l → (told : Option Report) → (reported_by now.panel now.lent l by told).reported.handed ≡ Ok (Some (handed.BadCheck command a))
         → a ≡ length (acknowledgement_of now.panel.setup command false)
     go false is told hands = absurd (refusal_no_bad_check now.lent command a hands)
-    go true is line.Nothing hands = never (cc)
-    go true is (line.Accepted c n) hands = never (cc)
-    go true is (line.BadCheck c) hands =
+    go true is None hands = never (cc)
+    go true is (Some (line.Accepted c n)) hands = never (cc)
+    go true is (Some (line.BadCheck c)) hands =
         let same : c ≡ command = cc in
         let counts : (acknowledged now.panel.setup c false now.lent.room).count ≡ a = cc in
         sym counts
         ∙ ap (λ (laid : Laid). laid.count) (acknowledged_laid now.panel.setup c false now.lent.room (tested_well now.lent is).room)
         ∙ ap (λ (k : ℕ). length (acknowledgement_of now.panel.setup k false)) same
 
-pub bad_check_counts : (now : Moment) → Reachable now.panel → (command acknowledged : ℕ) → handed_by now ≡ handed.BadCheck command acknowledged
+pub bad_check_counts : (now : Moment) → Reachable now.panel → (command acknowledged : ℕ) → handed_by now ≡ Ok (Some (handed.BadCheck command acknowledged))
     → BadCheckCounted now command acknowledged
 unfolding handed_over report_handed after_bad_check
 bad_check_counts now reached command a is =
     let answer = acknowledgement_of now.panel.setup command false in
     let hands : handed_over now ask ≡ bad_check command ∷ [] =
-    ap (λ (h : Handed). report_handed h (reporting now.panel now.lent).reported.payload) is in
+    ap (λ (h : AskAnswer). report_handed h (reporting now.panel now.lent).reported.payload) is in
     record {
       hands = hands;
       counted = laid_counts now a 0 answer [] (bad_acknowledged now command a is) refl

@@ -1,4 +1,5 @@
 -- Demand 1, theorem by theorem. `Arises now`: any calls with any inputs have led to this moment from any start.
+use Rattle.std.specs.Prelude.{Err}
 use mathlib.Core.Path.{◌≡◌, sym, ◌∙◌}
 use mathlib.Core.Bool.{Bool, false}
 use mathlib.Core.List.{List}
@@ -9,8 +10,8 @@ use Rattle.watch.specs.Watched.{Watched}
 use Rattle.watch.specs.Judge.{wrong_list}
 use Rattle.commands.specs.Lent.{Lent}
 use Rattle.touch.specs.declared.Setup.{Setup}
-use Rattle.panel.specs.declared.StartAnswer.TheVariants as start
-use Rattle.panel.specs.declared.ContactAnswer.TheVariants as contact_answer
+use Rattle.panel.specs.declared.StartError.TheVariants as start_error
+use Rattle.panel.specs.declared.ContactError.TheVariants as contact_error
 use Rattle.panel.specs.Numbers.{start_number}
 use Rattle.panel.specs.Start.{started, no_panel}
 use Rattle.panel.specs.Contacts.{contacting, Contact}
@@ -78,11 +79,11 @@ writer_done_exactly_where_none_holds checking header command payload room =
 
 -- 13: "the first wrong one is named"
 pub contact_names_first_wrong : (now : Moment) (c : Contact) (i : ℕ)
-    → (contacting now.panel c now.lent).contacted.answer ≡ contact_answer.WrongRecord i
+    → (contacting now.panel c now.lent).contacted.answer ≡ Err (contact_error.WrongRecord i)
     → NamesFirstWrong now.panel.setup c.table i
 contact_names_first_wrong = TableNumbers.contact_names_first_wrong
 
-pub start_names_first_wrong : (setup : Setup) (table : List ℕ) (i : ℕ) → (started setup table).answer ≡ start.WrongRecord i → NamesFirstWrong setup table i
+pub start_names_first_wrong : (setup : Setup) (table : List ℕ) (i : ℕ) → (started setup table).answer ≡ Err (start_error.WrongRecord i) → NamesFirstWrong setup table i
 start_names_first_wrong = TableNumbers.start_names_first_wrong
 
 -- 16: "two entries in use share a word or one in use has an address not below 0x7000, or the list is longer than 16": a list is let pass exactly where it is a good one

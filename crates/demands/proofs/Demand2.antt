@@ -1,4 +1,5 @@
 -- Demand 2, theorem by theorem. `Arises now`: any calls with any inputs have led to this moment from any start.
+use Rattle.std.specs.Prelude.{Ok}
 use mathlib.Core.Path.{◌≡◌}
 use mathlib.Core.Logic.{◌≢◌, ⊎_elim}
 use mathlib.Core.Bool.{Bool, true, false}
@@ -10,7 +11,6 @@ use Rattle.wire.specs.ByteOrder.{high_first, byte_at, word_at}
 use Rattle.check_value.specs.CheckValue.{byte_step}
 use Rattle.check_value.specs.Formula.{byte_formula}
 use Rattle.check_value.proofs.Formula.{formula_steps}
-use Rattle.frame.specs.declared.Written.TheVariants.{Frame}
 use Rattle.frame.specs.Frame.{frame_of, most_data, GoodFrame}
 use Rattle.frame.specs.Writer.{writing}
 use Rattle.frame.proofs.GoodFrames.{frame_of_good, good_is_frame_of}
@@ -32,15 +32,12 @@ use Rattle.touch.specs.declared.Record.{Record}
 use Rattle.touch.specs.declared.Kind.TheVariants.{Key, Step, Slider}
 use Rattle.touch.specs.declared.StepFields.{StepFields}
 use Rattle.touch.specs.declared.SliderFields.{SliderFields}
-use Rattle.touch.specs.declared.Found.TheVariants.{At}
 use Rattle.touch.specs.Setup.{checking_of}
 use Rattle.touch.specs.Record.{up as steps_up, round as goes_round, digit_mode, along, first_edge, last_edge}
 use Rattle.touch.specs.Find.{found}
-use Rattle.contact.specs.declared.Catch.TheVariants.{Caught}
-use Rattle.commands.specs.declared.Outcome.{Outcome}
+use Rattle.commands.specs.Outcome.{Outcome}
 use Rattle.commands.specs.Lent.{Lent}
 use Rattle.panel.specs.declared.Handed.TheVariants.{BadCheck, Accepted}
-use Rattle.panel.specs.declared.StartAnswer.TheVariants as start
 use Rattle.panel.specs.State.{header_of, panel_register, panel_count}
 use Rattle.panel.specs.Start.{started}
 use Rattle.panel.proofs.Lengths.{reported_area_long}
@@ -116,12 +113,12 @@ nothing_changes_nothing = Access.nothing_changes_nothing
 
 -- "The reply follows the acknowledgement at once in the same room. .. bytes past the reported count stay.": the counts that a report hands over are those of
 -- the bytes laid, whatever is handed over
-pub counts_of_bad_check : (now : Moment) → Arises now → (command acknowledged : ℕ) → handed_by now ≡ BadCheck command acknowledged
+pub counts_of_bad_check : (now : Moment) → Arises now → (command acknowledged : ℕ) → handed_by now ≡ Ok (Some (BadCheck command acknowledged))
     → BadCheckCounted now command acknowledged
 counts_of_bad_check now arises = Counts.bad_check_counts now (arises_reachable now arises)
 
 pub counts_of_frame : (now : Moment) → Arises now → (command count : ℕ) (outcome : Outcome) (acknowledged replied : ℕ)
-    → handed_by now ≡ Accepted command count outcome acknowledged replied → FrameCounted now command count acknowledged replied
+    → handed_by now ≡ Ok (Some (Accepted command count outcome acknowledged replied)) → FrameCounted now command count acknowledged replied
 counts_of_frame now arises = Counts.frame_counts now (arises_reachable now arises)
 
 -- 02, §1: "acknowledgements, whose seven bytes are stated outright": they stand at the front of the room, the reply behind them, and the rest stays
@@ -162,7 +159,7 @@ lift_leaves = TouchEffects.lift_leaves
 
 -- "Contact while up: .. The first record of the current page holding the point acts": what it stores
 module _ (now : Moment) (c : Contact) (are : Bytes c.table) (done : number_given now (contact c) ≡ 0)
-    (up : is_down now.panel.registers ≡ false) (i : ℕ) (r : Record) (acts : found c.table (page_of now.panel.registers) c.x c.y ≡ At i r) where
+    (up : is_down now.panel.registers ≡ false) (i : ℕ) (r : Record) (acts : found c.table (page_of now.panel.registers) c.x c.y ≡ Some (i, r)) where
   -- Key: "mode 0 whole word, 1 high byte, 2 low byte; 14 code"
   pub key_stores_lem : (code : ℕ) → r.kind ≡ Key code
       → word_at_address (after now (contact c)).lent.words r.word ≡ key_stores r.mode (word_at_address now.lent.words r.word) code
@@ -185,7 +182,7 @@ module _ (now : Moment) (c : Contact) (are : Bytes c.table) (done : number_given
 
 -- "Contact while down: .. a caught slider stores for the point moved to the nearest place in its area", by the panel's sheet
 pub dragged_slider_stores : (now : Moment) → Arises now → (c : Contact) → number_given now (contact c) ≡ 0
-    → is_down now.panel.registers ≡ true → (r : Record) → now.panel.catch ≡ Caught r → (f : SliderFields) → r.kind ≡ Slider f
+    → is_down now.panel.registers ≡ true → (r : Record) → now.panel.catch ≡ Some r → (f : SliderFields) → r.kind ≡ Slider f
     → Stores (digit_mode r.mode) (word_at_address now.lent.words r.word) (word_at_address (after now (contact c)).lent.words r.word)
     (slid_to (rounding_of now.panel.setup) (signed f.begin) (signed f.end) (first_edge r.mode r.area) (last_edge r.mode r.area) (along r.mode c.x c.y))
 dragged_slider_stores = Caught.dragged_slider_stores
@@ -206,7 +203,7 @@ sheets_agree_at_the_edges = Sheets.sheets_agree_at_the_edges
 -- frame writer writes none, its length byte is always that of the general rule; crate reading proves that an acknowledgement is not read back
 pub writer_reads_back : (now : Moment) → Arises now → NothingHeldOrWaiting (rules_of now.panel) (kept_of now.panel.reader)
     → WellLent now.lent → (command : ℕ) (payload room : List ℕ) (n : ℕ)
-    → (writing (checking_of now.panel.setup) (header_of now.panel.setup) command payload room).answer ≡ Frame n
+    → (writing (checking_of now.panel.setup) (header_of now.panel.setup) command payload room).answer ≡ Ok n
     → ReadsBack now (take n (writing (checking_of now.panel.setup) (header_of now.panel.setup) command payload room).room) command payload
 writer_reads_back now arises = ReadBack.writer_reads_back now (arises_reachable now arises)
 
@@ -307,7 +304,7 @@ area_keeps_its_length now = reported_area_long now.panel now.lent
 
 -- 02, §2: "Demand 2 covers channels by the whole history since the last clear, or the start where there was none, as long as each report is lent the curve area as
 -- the one before left it.": from any start, over any sequence of calls; `left` is whatever area the first report is lent
-pub channels_keep_their_history : (setup : Setup) (table : List ℕ) (lent : Lent) → (started setup table).answer ≡ start.Started
+pub channels_keep_their_history : (setup : Setup) (table : List ℕ) (lent : Lent) → (started setup table).answer ≡ Ok tt
     → (calls : List Call) → AllTyped calls → (left : List ℕ) → LentAsLeft left (begun setup table lent) calls → (n : ℕ) → n < channel_count
     → Keeps n (after_all (begun setup table lent) calls) (area_left (begun setup table lent) calls left) (history_of n (begun setup table lent) calls)
 channels_keep_their_history setup table lent is calls typed left as_left n inside = history_kept n inside setup table lent is calls typed left as_left

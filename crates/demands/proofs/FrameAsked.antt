@@ -1,4 +1,6 @@
 -- Asking where an accepted frame is handed over: what is known then, the command's number, and what is left by what the command does.
+use Rattle.std.specs.Prelude.{Option, None, Some}
+use Rattle.line.specs.declared.Report.{Report}
 use mathlib.Core.Path.{◌≡◌, refl, ap, ◌∙◌}
 use mathlib.Core.Bool.{Bool, true, false}
 use mathlib.Core.List.{List, [], ◌∷◌, ◌++◌, append_assoc}
@@ -12,7 +14,6 @@ use Rattle.frame.specs.Frame.{header_bytes, most_data, most_payload, frame_of}
 use Rattle.frame.proofs.Writers.{length_frame_of, length_most}
 use Rattle.reading.specs.Place.{accepted_frame}
 use Rattle.line.specs.declared.Reader.{Reader}
-use Rattle.line.specs.declared.Report.{Report}
 use Rattle.line.specs.declared.Report.TheVariants as line
 use Rattle.line.specs.declared.Asked.{Asked}
 use Rattle.line.specs.State.{padded}
@@ -46,7 +47,7 @@ use Rattle.demands.proofs.Rooms.{acknowledged_laid, acknowledgement_short}
 pub record Asks (now : Moment) (command : ℕ) (content : List ℕ) : Type 0 where
   pub well : WellLent now.lent
   pub count : ℕ
-  pub told : (asked now.panel.reader).report ≡ line.Accepted command count
+  pub told : (asked now.panel.reader).report ≡ Some (line.Accepted command count)
   pub content_is : take count (asked now.panel.reader).payload ≡ content
 
 pub handed_asks : (now : Moment) (command : ℕ) (content : List ℕ) → handed_over now ask ≡ accepted_frame command content ∷ [] → Asks now command content
@@ -59,21 +60,21 @@ handed_asks now command content = go (well_lent now.lent) refl a.report refl
     a : Asked
     a = asked panel.reader
 
-    done : Bool → Report → Reporting
+    done : Bool → Option Report → Reporting
     done enough told = reported_by panel now.lent enough a told
 
-    go : (l : Bool) → well_lent now.lent ≡ l → (told : Report) → a.report ≡ told
+    go : (l : Bool) → well_lent now.lent ≡ l → (told : Option Report) → a.report ≡ told
         → report_handed (done l told).reported.handed (done l told).reported.payload ≡ accepted_frame command content ∷ []
         → Asks now command content
     go false is told tells hands = let none = refusal_hands_none now.lent (padded most_payload []) in never (cc)
-    go true is line.Nothing tells hands = never (cc)
-    go true is (line.BadCheck c) tells hands = never (cc)
-    go true is (line.Accepted c n) tells hands =
+    go true is None tells hands = never (cc)
+    go true is (Some (line.BadCheck c)) tells hands = never (cc)
+    go true is (Some (line.Accepted c n)) tells hands =
         let same : c ≡ command = cc in
         record {
           well = tested_well now.lent is;
           count = n;
-          told = tells ∙ ap (λ (k : ℕ). line.Accepted k n) same;
+          told = tells ∙ ap (λ (k : ℕ). Some (line.Accepted k n)) same;
           content_is = cc;
         }
 

@@ -1,4 +1,5 @@
 -- A panel with a new reader: what calls make of it is a run of the reading from a new one.
+use Rattle.std.specs.Prelude.{Ok}
 use mathlib.Core.Path.{◌≡◌, refl, sym, ap, ◌∙◌}
 use mathlib.Core.Bool.{Bool, true, false}
 use mathlib.Core.List.{List, [], ◌∷◌}
@@ -16,7 +17,6 @@ use Rattle.line.specs.Reached.{Reached}
 use Rattle.line.proofs.Carried.{waiting_is, reached_new}
 use Rattle.touch.specs.declared.Setup.{Setup}
 use Rattle.panel.specs.declared.Panel.{Panel}
-use Rattle.panel.specs.declared.StartAnswer.TheVariants as start
 use Rattle.panel.specs.Start.{new_panel, started}
 use Rattle.panel.specs.Inputs.{fed_byte, fed_mark, fed_bytes}
 use Rattle.panel.specs.Reporting.{handing, handing_over}
@@ -57,7 +57,7 @@ module _ (line : Declared.Line) (now : Moment) (reachable : Reachable now.panel)
       ∙ waiting_is line (run (rules_for line) fresh carried.events).kept carried.reached
 
 -- a start that is done
-pub new_reader : (setup : Setup) (table : List ℕ) (lent : Lent) → (started setup table).answer ≡ start.Started
+pub new_reader : (setup : Setup) (table : List ℕ) (lent : Lent) → (started setup table).answer ≡ Ok tt
     → (begun setup table lent).panel.reader ≡ reader_of (line_of setup) fresh
 unfolding new_panel
 new_reader setup table lent is = ap (λ (p : Panel). p.reader) (started_new setup table is)
@@ -82,6 +82,6 @@ unfolding after_all
 all_setup_stays now [] = refl
 all_setup_stays now (call ∷ calls) = all_setup_stays (after now call) calls ∙ setup_stays now call
 
-pub begun_setup : (setup : Setup) (table : List ℕ) (lent : Lent) → (started setup table).answer ≡ start.Started → (begun setup table lent).panel.setup ≡ setup
+pub begun_setup : (setup : Setup) (table : List ℕ) (lent : Lent) → (started setup table).answer ≡ Ok tt → (begun setup table lent).panel.setup ≡ setup
 unfolding new_panel
 begun_setup setup table lent is = ap (λ (p : Panel). p.setup) (started_new setup table is)

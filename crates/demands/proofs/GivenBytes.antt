@@ -1,4 +1,6 @@
 -- The inputs that calls give are bytes and marks.
+use Rattle.std.specs.Prelude.{Result, Ok, Err}
+use Rattle.line.specs.declared.Waiting.{Waiting}
 use mathlib.Core.Path.{◌≡◌}
 use mathlib.Core.List.{List, [], ◌∷◌, ◌++◌, map, append-nil}
 use Prim.Native.Nat.{ℕ, zero, suc, ◌<◌}
@@ -7,8 +9,7 @@ use Rattle.wire.specs.Bytes.{Bytes}
 use Rattle.reading.specs.Line as Line
 use Rattle.reading.specs.Line.{Input}
 use Rattle.reading.proofs.ByteLists.{bytes_nil, bytes_cons}
-use Rattle.line.specs.declared.Answer.{Answer}
-use Rattle.line.specs.declared.Answer.TheVariants.{Done, Waits}
+use Rattle.line.specs.declared.Waiting.TheVariants.{ReportWaits}
 use Rattle.panel.specs.Inputs.{fed_byte, fed_mark, fed_bytes}
 use Rattle.demands.specs.Calls.{Moment, Call, lend, byte, bytes, mark, second, ask, contact, lift, after, Typed, AllTyped}
 use Rattle.demands.specs.Given.{unless_refused, given, given_all}
@@ -31,15 +32,15 @@ are_mapped zero bs are = tt
 are_mapped (suc n) [] are = tt
 are_mapped (suc n) (b ∷ bs) are = (are 0, are_mapped n bs (λ i. are (suc i)))
 
-unless_byte : (answer : Answer) (b : ℕ) → b < 256 → AreBytes (unless_refused answer (Line.byte b))
+unless_byte : (answer : Result Unit Waiting) (b : ℕ) → b < 256 → AreBytes (unless_refused answer (Line.byte b))
 unfolding AreBytes unless_refused
-unless_byte Done b is = (is, tt)
-unless_byte Waits b is = tt
+unless_byte (Ok tt) b is = (is, tt)
+unless_byte (Err ReportWaits) b is = tt
 
-unless_mark : (answer : Answer) → AreBytes (unless_refused answer Line.mark)
+unless_mark : (answer : Result Unit Waiting) → AreBytes (unless_refused answer Line.mark)
 unfolding AreBytes unless_refused
-unless_mark Done = tt
-unless_mark Waits = tt
+unless_mark (Ok tt) = tt
+unless_mark (Err ReportWaits) = tt
 
 given_bytes : (now : Moment) (call : Call) → Typed call → AreBytes (given now call)
 unfolding AreBytes given Typed

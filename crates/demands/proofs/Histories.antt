@@ -1,4 +1,5 @@
 -- A channel holds the latest 1,024 numbers of its history, as long as each report is lent the curve area as the one before left it.
+use Rattle.std.specs.Prelude.{Ok, Err}
 use mathlib.Core.Path.{◌≡◌, refl, ◌∙◌}
 use mathlib.Core.Bool.{Bool, true, false, cond, not, ◌&&◌}
 use mathlib.Core.List.{List, [], ◌∷◌}
@@ -14,7 +15,6 @@ use Rattle.curves.proofs.Latest.{length_latest}
 use Rattle.curves.proofs.ByHistory.{holds_none, holds_added, holds_cleared, holds_left}
 use Rattle.commands.specs.Lent.{Lent}
 use Rattle.touch.specs.declared.Setup.{Setup}
-use Rattle.panel.specs.declared.StartAnswer.TheVariants as start
 use Rattle.panel.specs.Start.{new_panel, started}
 use Rattle.panel.specs.Reachable.{Reachable, by_start}
 use Rattle.panel.proofs.Lengths.{contacted_area_stands}
@@ -22,7 +22,7 @@ use Rattle.panel.proofs.Invariant.{reachable_sound}
 use Rattle.demands.specs.Calls.{Moment, Call, lend, byte, bytes, mark, second, ask, contact, lift, begun, after, after_all, handed_over, AllTyped}
 use Rattle.demands.specs.History.{recorded, history_by, history_over, left_by, area_left, AskedWith, LentAsLeft, lends_anew, none_lends_anew, Keeps}
 use Rattle.wire.proofs.Truths.{never}
-use Rattle.commands.specs.declared.Outcome.TheVariants.{Done, WrongData}
+use Rattle.commands.specs.declared.Refusal.TheVariants.{WrongData}
 use Rattle.commands.specs.Outcome.{is_done, outcome, add_curves_outcome}
 use Rattle.panel.specs.Inputs.{fed_byte, fed_mark, fed_bytes}
 use Rattle.demands.proofs.Access.{is_done_lem}
@@ -36,7 +36,7 @@ done_rounds : (content : List ℕ) → is_done (add_curves_outcome content) ≡ 
 unfolding add_curves_outcome
 done_rounds content = go (wrong_rounds content)
   where
-    go : (b : Bool) → is_done (cond b WrongData Done) ≡ true → b ≡ false
+    go : (b : Bool) → is_done (cond b (Err WrongData) (Ok tt)) ≡ true → b ≡ false
     go true done = never (cc)
     go false done = refl
 
@@ -90,7 +90,7 @@ module _ (n : ℕ) (inside : n < channel_count) where
   keeps later area history holds = record { count = holds.count ∙ length_latest history; numbers = holds.held }
 
   -- from a start
-  pub history_kept : (setup : Setup) (table : List ℕ) (lent : Lent) → (started setup table).answer ≡ start.Started → (calls : List Call) → AllTyped calls
+  pub history_kept : (setup : Setup) (table : List ℕ) (lent : Lent) → (started setup table).answer ≡ Ok tt → (calls : List Call) → AllTyped calls
       → (left : List ℕ) → LentAsLeft left (begun setup table lent) calls
       → Keeps n (after_all (begun setup table lent) calls) (area_left (begun setup table lent) calls left) (history_over n (begun setup table lent) calls [])
   unfolding new_panel

@@ -1,4 +1,5 @@
 -- The idle builds by commands: none of them keeps demand 2.
+use Rattle.std.specs.Prelude.{Ok}
 use mathlib.Core.Path.{◌≡◌, refl, sym, ap, ◌∙◌}
 use mathlib.Core.Bool.{true}
 use mathlib.Core.List.{List, [], ◌∷◌, ◌++◌}
@@ -15,7 +16,6 @@ use Rattle.touch.specs.declared.Setup.{Setup}
 use Rattle.curves.specs.Area.{curve_words}
 use Rattle.watch.specs.Watched.{none_watched}
 use Rattle.commands.specs.Lent.{lending}
-use Rattle.panel.specs.declared.StartAnswer.TheVariants as start
 use Rattle.panel.specs.Start.{started}
 use Rattle.demands.specs.Calls.{Moment, Call, bytes, mark, ask, number_given, handed_over, Halfwords, Typed, AllTyped}
 use Rattle.demands.specs.Demand2.{DoesCommands, leaving, after_read}
@@ -37,7 +37,7 @@ pub words_16_bit : Halfwords words
 words_16_bit zero = omega arith
 words_16_bit (suc k) = copies_below 28671 0 k (omega arith)
 
-pub plain_taken : (started plain []).answer ≡ start.Started
+pub plain_taken : (started plain []).answer ≡ Ok tt
 unfolding computing_start
 plain_taken = refl
 

@@ -1,4 +1,5 @@
 -- How many frames are accepted of a stretch by the build of specs/IdleBuilds that reads its first frame only.
+use Rattle.std.specs.Prelude.{None, Some, Ok, Err}
 use mathlib.Core.Path.{◌≡◌, refl, sym, ap, ◌∙◌}
 use mathlib.Core.Bool.{Bool, true, false, cond, not, ◌&&◌, ◌||◌}
 use mathlib.Core.List.{List, [], ◌∷◌, ◌++◌, map}
@@ -10,8 +11,9 @@ use Rattle.reading.specs.Line as Line
 use Rattle.reading.specs.Line.{Input}
 use Rattle.reading.specs.Demand3.{accepted_of}
 use Rattle.reading.proofs.Stable.{never, true_is_not_false}
-use Rattle.panel.specs.declared.Handed.{Handed}
+use Rattle.panel.specs.Answers.{AskAnswer}
 use Rattle.panel.specs.declared.Handed.TheVariants as handed
+use Rattle.panel.specs.declared.LentError.TheVariants as lent_error
 use Rattle.panel.specs.Reporting.{reporting}
 use Rattle.demands.specs.Calls.{Moment, Call, lend, byte, bytes, mark, second, ask, contact, lift, after, report_handed, handed_over}
 use Rattle.demands.specs.Reports.{report_waits}
@@ -59,13 +61,13 @@ pub counted_then : (these more : List Report) → counted (these ++ more) ≡ co
 counted_then these more = ap (λ (l : List Report). length l) (accepted_then these more) ∙ length-append (accepted_of these) (accepted_of more)
 
 -- a call hands over one report at most
-one_handed : (h : Handed) (payload : List ℕ) → counted (report_handed h payload) ≡ cond (has_accepted (report_handed h payload)) 1 0
+one_handed : (h : AskAnswer) (payload : List ℕ) → counted (report_handed h payload) ≡ cond (has_accepted (report_handed h payload)) 1 0
 unfolding report_handed accepted_of has_accepted
-one_handed handed.NotLent payload = refl
-one_handed handed.WrongList payload = refl
-one_handed handed.Nothing payload = refl
-one_handed (handed.BadCheck command acknowledged) payload = refl
-one_handed (handed.Accepted command count outcome acknowledged replied) payload = refl
+one_handed (Err lent_error.NotLent) payload = refl
+one_handed (Err lent_error.WrongList) payload = refl
+one_handed (Ok None) payload = refl
+one_handed (Ok (Some (handed.BadCheck command acknowledged))) payload = refl
+one_handed (Ok (Some (handed.Accepted command count outcome acknowledged replied))) payload = refl
 
 one_counted : (now : Moment) (call : Call) → counted (handed_over now call) ≡ cond (has_accepted (handed_over now call)) 1 0
 unfolding handed_over accepted_of has_accepted

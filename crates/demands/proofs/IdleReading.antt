@@ -1,4 +1,5 @@
 -- The idle builds by the line: none of them keeps demand 3.
+use Rattle.std.specs.Prelude.{Ok}
 use mathlib.Core.Path.{◌≡◌, refl, sym, ap, ◌∙◌}
 use mathlib.Core.List.{List, [], ◌∷◌, ◌++◌, map}
 use Prim.Native.Nat.{ℕ, suc, ◌+◌, ◌≤◌}
@@ -14,7 +15,6 @@ use Rattle.reading.proofs.Stable.{never}
 use Rattle.curves.specs.Area.{curve_words}
 use Rattle.watch.specs.Watched.{none_watched}
 use Rattle.commands.specs.Lent.{lending}
-use Rattle.panel.specs.declared.StartAnswer.TheVariants as start
 use Rattle.panel.specs.Start.{started}
 use Rattle.demands.specs.Calls.{Call, bytes, mark, ask, after_all, Typed, AllTyped}
 use Rattle.demands.specs.Given.{given_all}
@@ -27,7 +27,7 @@ use Rattle.demands.proofs.Builds.{since_arises}
 use Rattle.demands.proofs.Story.{zeros_16_bit, no_curves_16_bit, new_ready, version_good, version_bytes}
 
 -- the panel of specs/Story, started
-pub story_taken : (started story_setup []).answer ≡ start.Started
+pub story_taken : (started story_setup []).answer ≡ Ok tt
 unfolding computing_start
 story_taken = refl
 

@@ -1,4 +1,5 @@
 -- The words and registers that calls name: every other one stays, over one call and over a sequence.
+use Rattle.std.specs.Prelude.{Ok, Err}
 use mathlib.Core.Path.{◌≡◌, refl, ap, ◌∙◌}
 use mathlib.Core.Logic.{◌⊎◌, inl, inr, ⊎_elim}
 use mathlib.Core.Bool.{Bool, true, false}
@@ -14,8 +15,8 @@ use Rattle.line.specs.declared.Report.TheVariants as line
 use Rattle.line.specs.Methods.{number_of_answer, asked}
 use Rattle.registers.specs.Table.{register_at}
 use Rattle.words.specs.Words.{word_at_address, words_of}
-use Rattle.commands.specs.declared.Outcome.{Outcome}
-use Rattle.commands.specs.declared.Outcome.TheVariants.{Done, UnknownCommand, WrongData, PastEnd, Unwritable, WrongValue, ReplyTooLong}
+use Rattle.commands.specs.Outcome.{Outcome}
+use Rattle.commands.specs.declared.Refusal.TheVariants.{UnknownCommand, WrongData, PastEnd, Unwritable, WrongValue, ReplyTooLong}
 use Rattle.commands.specs.Outcome as Outcome
 use Rattle.commands.specs.Outcome.{outcome, is_done}
 use Rattle.commands.proofs.Named as Command
@@ -43,13 +44,13 @@ use Rattle.demands.proofs.TouchedRegisters.{Touches, touched_register}
 -- what is done has number 0
 done_is_0 : (o : Outcome) → is_done o ≡ true → Outcome.number_of_outcome o ≡ 0
 unfolding Outcome.number_of_outcome
-done_is_0 Done done = refl
-done_is_0 UnknownCommand done = cc
-done_is_0 WrongData done = cc
-done_is_0 PastEnd done = cc
-done_is_0 Unwritable done = cc
-done_is_0 WrongValue done = cc
-done_is_0 ReplyTooLong done = cc
+done_is_0 (Ok tt) done = refl
+done_is_0 (Err UnknownCommand) done = cc
+done_is_0 (Err WrongData) done = cc
+done_is_0 (Err PastEnd) done = cc
+done_is_0 (Err Unwritable) done = cc
+done_is_0 (Err WrongValue) done = cc
+done_is_0 (Err ReplyTooLong) done = cc
 
 -- an ask that hands over this command with this data, and is done
 record Handing (command : ℕ) (content : List ℕ) (r : Reporting) : Type 0 where
@@ -61,7 +62,7 @@ module _ (panel : Panel) (lent : Lent) (command count : ℕ) where
   content = take count (asked panel.reader).payload
 
   abbrev frame_handed : Reporting
-  frame_handed = handing (asked panel.reader) (line.Accepted command count) panel lent
+  frame_handed = handing (asked panel.reader) (Some (line.Accepted command count)) panel lent
 
   frame_done : (known : ℕ) → command ≡ known → is_done (outcome (fixed_for panel.setup) (length lent.words) known content) ≡ true
       → Handing known content frame_handed

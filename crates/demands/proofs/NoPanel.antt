@@ -1,23 +1,23 @@
 -- What stands where a start was refused is inert, over any calls.
+use Rattle.std.specs.Prelude.{None, Err}
 use mathlib.Core.Path.{◌≡◌, refl, ap, ◌∙◌}
 use mathlib.Core.Bool.{Bool, true, false, cond, not, ◌&&◌}
 use mathlib.Core.List.{List, [], ◌∷◌}
 use lib.ListN.{length}
 use Rattle.frame.specs.Frame.{most_payload}
-use Rattle.line.specs.declared.Report.TheVariants as line
 use Rattle.line.specs.State.{padded, no_reader}
 use Rattle.line.specs.Methods.{busy, number_of_answer, asked}
 use Rattle.wire.proofs.Truths.{never}
 use Rattle.touch.specs.Judge.{judged}
 use Rattle.watch.specs.Judge.{wrong_list}
 use Rattle.commands.specs.Lent.{Lent}
-use Rattle.panel.specs.declared.Handed.TheVariants as handed
-use Rattle.panel.specs.declared.ContactAnswer.{ContactAnswer}
-use Rattle.panel.specs.declared.ContactAnswer.TheVariants as contact_answer
+use Rattle.panel.specs.declared.LentError.TheVariants as lent_error
+use Rattle.panel.specs.Answers.{ContactAnswer}
+use Rattle.panel.specs.declared.ContactError.TheVariants as contact_error
 use Rattle.panel.specs.declared.Fed.{Fed}
 use Rattle.panel.specs.declared.FedBytes.{FedBytes}
 use Rattle.panel.specs.declared.Lifted.{Lifted}
-use Rattle.panel.specs.declared.LiftAnswer.TheVariants as lift_answer
+use Rattle.panel.specs.declared.LiftError.TheVariants as lift_error
 use Rattle.panel.specs.Numbers.{start_number, report_number, contact_number, lift_number}
 use Rattle.panel.specs.Start.{started, no_panel}
 use Rattle.panel.specs.Reporting.{enough_lent, well_lent, reports, refused, refusal, handing_over, handing, reporting}
@@ -43,7 +43,7 @@ none_busy : busy no_panel.reader ≡ true
 unfolding no_panel no_reader
 none_busy = refl
 
-none_reports : (asked no_panel.reader).report ≡ line.Nothing
+none_reports : (asked no_panel.reader).report ≡ None
 unfolding no_panel no_reader asked
 none_reports = refl
 
@@ -52,8 +52,8 @@ none_reports = refl
 -- what a contact is answered: 14, 16, or that a report waits
 abbrev contact_refusal : Lent → ContactAnswer
 contact_refusal lent =
-    cond (touch_not_lent (length lent.words) (length lent.room)) contact_answer.NotLent
-    (cond (wrong_list lent.watched) contact_answer.WrongList contact_answer.Waits)
+    cond (touch_not_lent (length lent.words) (length lent.room)) (Err contact_error.NotLent)
+    (cond (wrong_list lent.watched) (Err contact_error.WrongList) (Err contact_error.Waits))
 
 contact_none : (c : Contact) (lent : Lent) → contacting no_panel c lent ≡ silent (contact_refusal lent) no_panel lent
 unfolding contacting
@@ -62,14 +62,14 @@ contact_none c lent =
     (told no_panel.setup (contact_judged (judged no_panel.setup c.table) no_panel c lent))
   where
     go : (a l w : Bool) → w ≡ true → (other : Contacting)
-        → cond a (silent contact_answer.NotLent no_panel lent) (cond l (silent contact_answer.WrongList no_panel lent) (cond w (silent contact_answer.Waits no_panel lent) other))
-        ≡ silent (cond a contact_answer.NotLent (cond l contact_answer.WrongList contact_answer.Waits)) no_panel lent
+        → cond a (silent (Err contact_error.NotLent) no_panel lent) (cond l (silent (Err contact_error.WrongList) no_panel lent) (cond w (silent (Err contact_error.Waits) no_panel lent) other))
+        ≡ silent (cond a (Err contact_error.NotLent) (cond l (Err contact_error.WrongList) (Err contact_error.Waits))) no_panel lent
     go true l w is other = refl
     go false true w is other = refl
     go false false true is other = refl
     go false false false is other = never (cc)
 
-lift_none : lifting no_panel ≡ record { answer = lift_answer.Waits; panel = no_panel }
+lift_none : lifting no_panel ≡ record { answer = Err lift_error.Waits; panel = no_panel }
 unfolding lifting
 lift_none = rw none_busy
 
@@ -107,14 +107,14 @@ call_hands_nothing lent second = refl
 call_hands_nothing lent ask = go (well_lent lent)
   where
     go : (w : Bool)
-        → report_handed (cond w (handing (asked no_reader) line.Nothing no_panel lent) (reports (refused (refusal lent) no_panel) lent)).reported.handed
-        (cond w (handing (asked no_reader) line.Nothing no_panel lent) (reports (refused (refusal lent) no_panel) lent)).reported.payload ≡ []
+        → report_handed (cond w (handing (asked no_reader) None no_panel lent) (reports (refused (refusal lent) no_panel) lent)).reported.handed
+        (cond w (handing (asked no_reader) None no_panel lent) (reports (refused (refusal lent) no_panel) lent)).reported.payload ≡ []
     go true = refl
     go false = refusal_hands_none lent (padded most_payload [])
 call_hands_nothing lent (contact c) = refl
 call_hands_nothing lent lift = refl
 
-contact_number_lem : (a l : Bool) → contact_number (cond a contact_answer.NotLent (cond l contact_answer.WrongList contact_answer.Waits)) ≡ cond a 14 (cond l 16 1)
+contact_number_lem : (a l : Bool) → contact_number (cond a (Err contact_error.NotLent) (cond l (Err contact_error.WrongList) (Err contact_error.Waits))) ≡ cond a 14 (cond l 16 1)
 unfolding contact_number
 contact_number_lem true l = refl
 contact_number_lem false true = refl
@@ -122,7 +122,7 @@ contact_number_lem false false = refl
 
 ask_number : (lent : Lent) (e l : Bool)
     → report_number (cond (e && not l) (handing (asked no_panel.reader) (asked no_panel.reader).report no_panel lent)
-    (reports (refused (cond e handed.WrongList handed.NotLent) no_panel) lent)).reported.handed ≡ cond e (cond l 16 0) 14
+    (reports (refused (cond e (Err lent_error.WrongList) (Err lent_error.NotLent)) no_panel) lent)).reported.handed ≡ cond e (cond l 16 0) 14
 unfolding handing handing_over no_panel no_reader asked report_number
 ask_number lent true true = refl
 ask_number lent true false = refl

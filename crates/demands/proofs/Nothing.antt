@@ -14,7 +14,7 @@ use Rattle.line.specs.Methods.{busy}
 use Rattle.line.specs.Reached.{Reached}
 use Rattle.line.proofs.Carried.{waiting_is, reached_report}
 use Rattle.panel.specs.declared.Panel.{Panel}
-use Rattle.panel.specs.declared.Handed.{Handed}
+use Rattle.panel.specs.Answers.{AskAnswer}
 use Rattle.panel.specs.Reporting.{reporting}
 use Rattle.panel.specs.Sound.{line_of, Sound}
 use Rattle.panel.specs.Reachable.{Reachable}
@@ -64,7 +64,7 @@ always_until_nothing now arises well =
       nothing_waits = λ nothing.
           handed_nothing (rules_of now.panel) (kept_of now.panel.reader)
           (sym (sound_ask_hands now sound well)
-          ∙ ap (λ (h : Handed). report_handed h (reporting now.panel now.lent).reported.payload) nothing);
+          ∙ ap (λ (h : AskAnswer). report_handed h (reporting now.panel now.lent).reported.payload) nothing);
       comes =
           sym (busy_waits last (reachable_sound last (calls_reached now (replicate longest_frame ask) (asks_typed longest_frame) reachable)))
           ∙ ap (λ (r : Reader). busy r) moved.0

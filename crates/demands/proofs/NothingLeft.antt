@@ -5,7 +5,7 @@ use Rattle.reading.proofs.Moves.{nothing_handed, handed_nothing}
 use Rattle.line.specs.State.{kept_of}
 use Rattle.line.specs.Reached.{report_as}
 use Rattle.touch.specs.declared.Setup.{Setup}
-use Rattle.panel.specs.declared.Handed.{Handed}
+use Rattle.panel.specs.Answers.{AskAnswer}
 use Rattle.panel.specs.Numbers.{report_number}
 use Rattle.panel.specs.Reporting.{handing, handing_over, reporting}
 use Rattle.panel.specs.Sound.{Sound}
@@ -46,7 +46,7 @@ module _ (setup : Setup) (now : Moment) (reachable : Reachable now.panel) (calls
   nothing_hands : AnswersNothing last → HandsNothingOver last
   unfolding handed_over number_given report_handed report_number
   nothing_hands is =
-      (ap (λ (h : Handed). report_handed h (reporting last.panel last.lent).reported.payload) is, ap (λ (h : Handed). report_number h) is)
+      (ap (λ (h : AskAnswer). report_handed h (reporting last.panel last.lent).reported.payload) is, ap (λ (h : AskAnswer). report_number h) is)
 
   hands_none : HandsNothingOver last → waiting_report last.panel ≡ []
   hands_none hands = sym (sound_ask_hands last sound well) ∙ hands.0

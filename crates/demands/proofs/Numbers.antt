@@ -1,4 +1,5 @@
 -- The number of each call against the printed lists of specs/Demand1.
+use Rattle.std.specs.Prelude.{Ok, Err}
 use mathlib.Core.Path.{◌≡◌, refl, ◌∙◌}
 use mathlib.Core.Bool.{Bool, true, false, cond, not, ◌||◌}
 use mathlib.Core.List.{List, [], ◌∷◌}
@@ -11,12 +12,12 @@ use Rattle.wire.specs.Numbers.{first_said}
 use Rattle.wire.specs.Bytes.{Bytes}
 use Rattle.wire.specs.Room.{over}
 use Rattle.frame.specs.Frame.{frame_of, most_data}
-use Rattle.frame.specs.declared.Written.TheVariants.{Frame, DataTooLong, RoomTooSmall}
+use Rattle.frame.specs.declared.WriteError.TheVariants.{DataTooLong, RoomTooSmall}
 use Rattle.frame.specs.Writer as Writer
 use Rattle.frame.specs.Writer.{least_room, answers, writing}
 use Rattle.line.specs.declared.Reader.{Reader}
 use Rattle.line.specs.declared.Gave.{Gave}
-use Rattle.line.specs.declared.Answer.TheVariants as line_answer
+use Rattle.line.specs.declared.Waiting.TheVariants as line_answer
 use Rattle.line.specs.Methods as Line
 use Rattle.line.specs.Methods.{busy, given_byte, given_mark, given_bytes, gave, plus, gives}
 use Rattle.registers.specs.Touched.{is_down}
@@ -24,7 +25,7 @@ use Rattle.registers.specs.Clocked.{second_passed}
 use Rattle.contact.specs.Contact.{lifted}
 use Rattle.panel.specs.declared.Panel.{Panel}
 use Rattle.panel.specs.declared.Fed.{Fed}
-use Rattle.panel.specs.declared.LiftAnswer.TheVariants as lift_answer
+use Rattle.panel.specs.declared.LiftError.TheVariants as lift_error
 use Rattle.panel.specs.Numbers.{lift_number}
 use Rattle.panel.specs.Inputs.{fed_byte, fed_mark, fed_second, fed_bytes}
 use Rattle.panel.specs.State.{pad_of, with_pad, with_registers}
@@ -41,7 +42,7 @@ use Rattle.demands.proofs.TableNumbers.{contact_number_lem}
 
 -- a byte, a mark: "byte or mark 1"
 fed_number : (waits : Bool) (r s : Reader)
-    → Line.number_of_answer (cond waits (gives line_answer.Waits r) (gives line_answer.Done s)).answer ≡ cond waits 1 0
+    → Line.number_of_answer (cond waits (gives (Err line_answer.ReportWaits) r) (gives (Ok tt) s)).answer ≡ cond waits 1 0
 unfolding Line.number_of_answer
 fed_number true r s = refl
 fed_number false r s = refl
@@ -59,8 +60,8 @@ pub second_number : (now : Moment) → Sound now.panel → number_given now seco
 unfolding number_given printed fed_second first_said Line.number_of_answer
 second_number now sound = rw (← busy_waits now.panel sound) (go (busy now.panel.reader))
   where
-    go : (waits : Bool) → Line.number_of_answer (cond {A = Fed} waits (record { answer = line_answer.Waits; panel = now.panel })
-        (record { answer = line_answer.Done; panel = with_registers now.panel (second_passed now.panel.registers) })).answer ≡ cond waits 1 0
+    go : (waits : Bool) → Line.number_of_answer (cond {A = Fed} waits (record { answer = Err line_answer.ReportWaits; panel = now.panel })
+        (record { answer = Ok tt; panel = with_registers now.panel (second_passed now.panel.registers) })).answer ≡ cond waits 1 0
     go true = refl
     go false = refl
 
@@ -105,7 +106,7 @@ lift_number_lem now sound = rw (← busy_waits now.panel sound) (go (busy now.pa
     panel = now.panel
 
     go : (a b : Bool)
-        → lift_number (cond a (lifts lift_answer.Waits panel) (cond b (lifts lift_answer.IsUp panel) (lifts lift_answer.Done (with_pad panel (lifted (pad_of panel)))))).answer
+        → lift_number (cond a (lifts (Err lift_error.Waits) panel) (cond b (lifts (Err lift_error.IsUp) panel) (lifts (Ok tt) (with_pad panel (lifted (pad_of panel)))))).answer
         ≡ cond a 1 (cond b 10 0)
     go true b = refl
     go false true = refl
@@ -133,7 +134,7 @@ writer_as_printed checking header command payload room = go (ltb (length room) l
     frame = frame_of checking header command payload
 
     go : (a b : Bool)
-        → Writer.number_of_written (cond a (answers RoomTooSmall room) (cond b (answers DataTooLong room) (answers (Frame (length frame)) (over frame room)))).answer
+        → Writer.number_of_written (cond a (answers (Err RoomTooSmall) room) (cond b (answers (Err DataTooLong) room) (answers (Ok (length frame)) (over frame room)))).answer
         ≡ cond a 14 (cond b 3 0)
     go true b = refl
     go false true = refl

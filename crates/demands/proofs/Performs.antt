@@ -1,4 +1,5 @@
 -- What a command that asking hands over does, with its reply: refused, not known, or one of the five.
+use Rattle.std.specs.Prelude.{Err}
 use mathlib.Core.Path.{◌≡◌, refl, ap, ◌∙◌}
 use mathlib.Core.Bool.{Bool, true, false, cond}
 use mathlib.Core.List.{List, [], ◌∷◌}
@@ -11,7 +12,7 @@ use Rattle.wire.specs.ByteOrder.{word_at}
 use Rattle.words.specs.Words.{words_written}
 use Rattle.wire.proofs.Over.{over_nil}
 use Rattle.reading.specs.Place.{accepted_frame}
-use Rattle.commands.specs.declared.Outcome.TheVariants.{UnknownCommand}
+use Rattle.commands.specs.declared.Refusal.TheVariants.{UnknownCommand}
 use Rattle.commands.specs.declared.Performed.{Performed}
 use Rattle.commands.specs.Effect.{answered}
 use Rattle.commands.specs.Lent.{Lent, with_words}
@@ -49,7 +50,7 @@ module _ (now : Moment) (reached : Reachable now.panel) (command : ℕ) (content
   unfolding performance
   unknown_performs a b c d e =
       record {
-        performed = answered UnknownCommand 0;
+        performed = answered (Err UnknownCommand) 0;
         lent = now.lent;
         replied_is = refl;
         does = rw (a, b, c, d, e, over_nil part);

@@ -1,4 +1,5 @@
 -- A frame given to a panel while nothing is held or waiting: it is taken whole, handed over, and nothing is left.
+use Rattle.std.specs.Prelude.{Ok, Err}
 use mathlib.Core.Path.{◌≡◌, refl, sym, ap, ◌∙◌}
 use mathlib.Core.Bool.{Bool, true, false, cond}
 use mathlib.Core.List.{List, [], ◌∷◌, ◌++◌, append_assoc, append-nil}
@@ -10,7 +11,7 @@ use lib.ListN.{length, take, drop, length-append}
 use lib.Seq.{drop_at}
 use Rattle.wire.specs.Room.{over}
 use Rattle.wire.proofs.Over.{take_over}
-use Rattle.frame.specs.declared.Written.TheVariants.{Frame, DataTooLong, RoomTooSmall}
+use Rattle.frame.specs.declared.WriteError.TheVariants.{DataTooLong, RoomTooSmall}
 use Rattle.frame.specs.Frame.{header_bytes, frame_of, most_data, longest_frame}
 use Rattle.frame.specs.Writer.{least_room, Writing, answers, writing}
 use Rattle.frame.proofs.GoodFrames.{frame_of_good}
@@ -198,7 +199,7 @@ module _ (now : Moment) (sound : Sound now.panel) (nothing : NothingHeldOrWaitin
 
 -- the frame writer answers a frame's length only where that frame stands at the front of the room it leaves
 wrote : (checking : Bool) (header : List ℕ) (command : ℕ) (payload room : List ℕ) (n : ℕ)
-    → (writing checking header command payload room).answer ≡ Frame n
+    → (writing checking header command payload room).answer ≡ Ok n
     → (length payload ≤ most_data checking) × (take n (writing checking header command payload room).room ≡ frame_of checking header command payload)
 unfolding writing
 wrote checking header command payload room n = go (ltb (length room) least_room) (ltb (most_data checking) (length payload)) refl
@@ -207,9 +208,9 @@ wrote checking header command payload room n = go (ltb (length room) least_room)
     frame = frame_of checking header command payload
 
     done : Bool → Bool → Writing
-    done a b = cond a (answers RoomTooSmall room) (cond b (answers DataTooLong room) (answers (Frame (length frame)) (over frame room)))
+    done a b = cond a (answers (Err RoomTooSmall) room) (cond b (answers (Err DataTooLong) room) (answers (Ok (length frame)) (over frame room)))
 
-    go : (a b : Bool) → ltb (most_data checking) (length payload) ≡ b → (done a b).answer ≡ Frame n
+    go : (a b : Bool) → ltb (most_data checking) (length payload) ≡ b → (done a b).answer ≡ Ok n
         → (length payload ≤ most_data checking) × (take n (done a b).room ≡ frame)
     go true b is answer = never (cc)
     go false true is answer = never (cc)
@@ -219,7 +220,7 @@ wrote checking header command payload room n = go (ltb (length room) least_room)
 -- are set up.
 pub writer_reads_back : (now : Moment) → Reachable now.panel → NothingHeldOrWaiting (rules_of now.panel) (kept_of now.panel.reader)
     → WellLent now.lent → (command : ℕ) (payload room : List ℕ) (n : ℕ)
-    → (writing (checking_of now.panel.setup) (header_of now.panel.setup) command payload room).answer ≡ Frame n
+    → (writing (checking_of now.panel.setup) (header_of now.panel.setup) command payload room).answer ≡ Ok n
     → ReadsBack now (take n (writing (checking_of now.panel.setup) (header_of now.panel.setup) command payload room).room) command payload
 writer_reads_back now reached nothing well command payload room n answer =
     let sound = reachable_sound now.panel reached in

@@ -1,4 +1,6 @@
 -- What a panel is given and what it hands over, in any sequence of calls, is a run of crate reading.
+use Rattle.std.specs.Prelude.{Result, Ok, Err}
+use Rattle.line.specs.declared.Waiting.{Waiting}
 use mathlib.Core.Path.{◌≡◌, refl, sym, ap, ◌∙◌}
 use mathlib.Core.Bool.{Bool, true, false, cond}
 use mathlib.Core.List.{List, [], ◌∷◌, ◌++◌, map, append-nil}
@@ -17,8 +19,7 @@ use Rattle.reading.proofs.Run.{run_append}
 use Rattle.line.specs.declared.Line as Declared
 use Rattle.line.specs.declared.Reader.{Reader}
 use Rattle.line.specs.declared.Given.{Given}
-use Rattle.line.specs.declared.Answer.{Answer}
-use Rattle.line.specs.declared.Answer.TheVariants.{Done, Waits}
+use Rattle.line.specs.declared.Waiting.TheVariants.{ReportWaits}
 use Rattle.line.specs.declared.Asked.{Asked}
 use Rattle.line.specs.State.{padded, rules_for, reader_of}
 use Rattle.line.specs.Methods.{busy, gave, plus, given_byte, given_mark, given_bytes, asked}
@@ -50,14 +51,14 @@ module _ (line : Declared.Line) (kept : Kept) (reached : Reached line kept) wher
   unfolding run
   still reader is = record { events = []; gives = refl; hands = refl; reads = is; reached = reached }
 
-  abbrev answered : Answer → Kept → Given
+  abbrev answered : Result Unit Waiting → Kept → Given
   answered answer next = record { answer = answer; reader = reader_of line next }
 
   -- one input, taken or refused
   one_input : (input : Input) → (waiting (rules_for line) kept ≡ false → Reached line (with_input (rules_for line) kept input))
       → (w : Bool) → waiting (rules_for line) kept ≡ w
-      → Carries line kept (unless_refused (cond w (answered Waits kept) (answered Done (with_input (rules_for line) kept input))).answer input) []
-      (cond w (answered Waits kept) (answered Done (with_input (rules_for line) kept input))).reader
+      → Carries line kept (unless_refused (cond w (answered (Err ReportWaits) kept) (answered (Ok tt) (with_input (rules_for line) kept input))).answer input) []
+      (cond w (answered (Err ReportWaits) kept) (answered (Ok tt) (with_input (rules_for line) kept input))).reader
   unfolding run unless_refused
   one_input input next true waits =
       record { events = []; gives = refl; hands = refl; reads = refl; reached = reached }

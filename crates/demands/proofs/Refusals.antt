@@ -1,4 +1,6 @@
 -- What a call with a number above 0 leaves, call by call.
+use Rattle.std.specs.Prelude.{Option, None, Some, Ok, Err}
+use Rattle.line.specs.declared.Report.{Report}
 use mathlib.Core.Path.{◌≡◌, refl, sym, ap, ◌∙◌}
 use mathlib.Core.Logic.{◌⊎◌, inl, inr}
 use mathlib.Core.Bool.{Bool, true, false, cond}
@@ -13,22 +15,21 @@ use Rattle.wire.specs.Addresses.{word_count}
 use Rattle.reading.specs.Place.{accepted_frame}
 use Rattle.line.specs.declared.Reader.{Reader}
 use Rattle.line.specs.declared.Gave.{Gave}
-use Rattle.line.specs.declared.Answer.TheVariants as line_answer
-use Rattle.line.specs.declared.Report.{Report}
+use Rattle.line.specs.declared.Waiting.TheVariants as line_answer
 use Rattle.line.specs.declared.Report.TheVariants as line
 use Rattle.line.specs.Methods as Line
 use Rattle.line.specs.Methods.{busy, given_byte, given_mark, given_bytes, gave, plus, asked, gives}
 use Rattle.wire.proofs.Truths.{never}
-use Rattle.commands.specs.declared.Outcome.{Outcome}
-use Rattle.commands.specs.declared.Outcome.TheVariants.{Done, UnknownCommand, WrongData, PastEnd, Unwritable, WrongValue, ReplyTooLong}
+use Rattle.commands.specs.Outcome.{Outcome}
+use Rattle.commands.specs.declared.Refusal.TheVariants.{UnknownCommand, WrongData, PastEnd, Unwritable, WrongValue, ReplyTooLong}
 use Rattle.commands.specs.Outcome as Outcome
 use Rattle.commands.specs.Outcome.{outcome}
 use Rattle.commands.proofs.Refusals.{number_at_most_7}
 use Rattle.panel.specs.declared.Panel.{Panel}
-use Rattle.panel.specs.declared.ContactAnswer.{ContactAnswer}
-use Rattle.panel.specs.declared.ContactAnswer.TheVariants as contact_answer
-use Rattle.panel.specs.declared.LiftAnswer.{LiftAnswer}
-use Rattle.panel.specs.declared.LiftAnswer.TheVariants as lift_answer
+use Rattle.panel.specs.Answers.{ContactAnswer}
+use Rattle.panel.specs.declared.ContactError.TheVariants as contact_error
+use Rattle.panel.specs.Answers.{LiftAnswer}
+use Rattle.panel.specs.declared.LiftError.TheVariants as lift_error
 use Rattle.panel.specs.Numbers.{report_number, contact_number, lift_number}
 use Rattle.panel.specs.State.{with_reader, fixed_for}
 use Rattle.panel.specs.Inputs.{fed_byte, fed_mark, fed_bytes}
@@ -53,13 +54,13 @@ use Rattle.demands.proofs.Access.{refused_does}
 -- the numbers of a refused command
 refused_numbers : (o : Outcome) → 0 < Outcome.number_of_outcome o → 2 ≤ Outcome.number_of_outcome o
 unfolding Outcome.number_of_outcome
-refused_numbers Done above = absurd (omega arith)
-refused_numbers UnknownCommand above = omega arith
-refused_numbers WrongData above = omega arith
-refused_numbers PastEnd above = omega arith
-refused_numbers Unwritable above = omega arith
-refused_numbers WrongValue above = omega arith
-refused_numbers ReplyTooLong above = omega arith
+refused_numbers (Ok tt) above = absurd (omega arith)
+refused_numbers (Err UnknownCommand) above = omega arith
+refused_numbers (Err WrongData) above = omega arith
+refused_numbers (Err PastEnd) above = omega arith
+refused_numbers (Err Unwritable) above = omega arith
+refused_numbers (Err WrongValue) above = omega arith
+refused_numbers (Err ReplyTooLong) above = omega arith
 
 -- an ask that hands over an accepted frame whose command is refused
 pub record CommandRefused (now : Moment) (command : ℕ) : Type 0 where
@@ -95,23 +96,23 @@ frame_refused now sound command content asks hands above =
     })
 
 -- an ask that is lent what it must be is refused only at an accepted frame
-lent_number : (now : Moment) → well_lent now.lent ≡ true → (told : Report) → (asked now.panel.reader).report ≡ told
+lent_number : (now : Moment) → well_lent now.lent ≡ true → (told : Option Report) → (asked now.panel.reader).report ≡ told
     → number_given now ask ≡ report_number (handing (asked now.panel.reader) told now.panel now.lent).reported.handed
 unfolding number_given reporting
 lent_number now is told tells = rw (is, tells)
 
 lent_handed : (now : Moment) → well_lent now.lent ≡ true → (command count : ℕ)
-    → (asked now.panel.reader).report ≡ line.Accepted command count
+    → (asked now.panel.reader).report ≡ Some (line.Accepted command count)
     → handed_over now ask ≡ accepted_frame command (take count (asked now.panel.reader).payload) ∷ []
 unfolding handed_over reporting handing handing_over report_handed
 lent_handed now is command count tells = rw (is, tells)
 
-lent_refused : (now : Moment) → Sound now.panel → well_lent now.lent ≡ true → (told : Report)
+lent_refused : (now : Moment) → Sound now.panel → well_lent now.lent ≡ true → (told : Option Report)
     → (asked now.panel.reader).report ≡ told → 0 < number_given now ask → RefusalLeaves now ask
 unfolding handing handing_over report_number
-lent_refused now sound is line.Nothing tells above = let none = lent_number now is line.Nothing tells in absurd (omega arith)
-lent_refused now sound is (line.BadCheck c) tells above = let none = lent_number now is (line.BadCheck c) tells in absurd (omega arith)
-lent_refused now sound is (line.Accepted c n) tells above =
+lent_refused now sound is None tells above = let none = lent_number now is None tells in absurd (omega arith)
+lent_refused now sound is (Some (line.BadCheck c)) tells above = let none = lent_number now is (Some (line.BadCheck c)) tells in absurd (omega arith)
+lent_refused now sound is (Some (line.Accepted c n)) tells above =
     let content = take n (asked now.panel.reader).payload in
     let hands = lent_handed now is c n tells in
     frame_refused now sound c content (handed_asks now c content hands) hands above
@@ -136,15 +137,15 @@ same_moment now panel is = rw is
 ask_refused : (now : Moment) → Sound now.panel → 0 < number_given now ask → RefusalLeaves now ask
 ask_refused now sound above = go (well_lent now.lent) refl (asked now.panel.reader).report refl
   where
-    go : (l : Bool) → well_lent now.lent ≡ l → (told : Report) → (asked now.panel.reader).report ≡ told → RefusalLeaves now ask
+    go : (l : Bool) → well_lent now.lent ≡ l → (told : Option Report) → (asked now.panel.reader).report ≡ told → RefusalLeaves now ask
     go false is told tells = not_lent_refused now is
     go true is told tells = lent_refused now sound is told tells above
 
 -- a byte and a mark
 fed_refused : (now : Moment) (w : Bool) (r : Reader)
-    → 0 < Line.number_of_answer (cond w (gives line_answer.Waits now.panel.reader) (gives line_answer.Done r)).answer
-    → (Line.number_of_answer (cond w (gives line_answer.Waits now.panel.reader) (gives line_answer.Done r)).answer ≡ 1)
-    × (with_panel now (with_reader now.panel (cond w (gives line_answer.Waits now.panel.reader) (gives line_answer.Done r)).reader) ≡ now)
+    → 0 < Line.number_of_answer (cond w (gives (Err line_answer.ReportWaits) now.panel.reader) (gives (Ok tt) r)).answer
+    → (Line.number_of_answer (cond w (gives (Err line_answer.ReportWaits) now.panel.reader) (gives (Ok tt) r)).answer ≡ 1)
+    × (with_panel now (with_reader now.panel (cond w (gives (Err line_answer.ReportWaits) now.panel.reader) (gives (Ok tt) r)).reader) ≡ now)
 unfolding Line.number_of_answer
 fed_refused now true r above = (refl, refl)
 fed_refused now false r above = absurd (omega arith)
@@ -172,20 +173,20 @@ second_refused now above =
 -- a contact and a lift
 contact_numbers : (a : ContactAnswer) → 0 < contact_number a → (contact_number a ≡ 1) ⊎ (8 ≤ contact_number a)
 unfolding contact_number
-contact_numbers contact_answer.Done above = absurd (omega arith)
-contact_numbers contact_answer.NotLent above = inr (omega arith)
-contact_numbers contact_answer.WrongList above = inr (omega arith)
-contact_numbers contact_answer.Waits above = inl refl
-contact_numbers contact_answer.NotRecords above = inr (omega arith)
-contact_numbers (contact_answer.WrongRecord i) above = inr (omega arith)
-contact_numbers contact_answer.TouchOff above = inr (omega arith)
-contact_numbers contact_answer.OffScreen above = inr (omega arith)
+contact_numbers (Ok tt) above = absurd (omega arith)
+contact_numbers (Err contact_error.NotLent) above = inr (omega arith)
+contact_numbers (Err contact_error.WrongList) above = inr (omega arith)
+contact_numbers (Err contact_error.Waits) above = inl refl
+contact_numbers (Err contact_error.NotRecords) above = inr (omega arith)
+contact_numbers (Err (contact_error.WrongRecord i)) above = inr (omega arith)
+contact_numbers (Err contact_error.TouchOff) above = inr (omega arith)
+contact_numbers (Err contact_error.OffScreen) above = inr (omega arith)
 
 lift_numbers : (a : LiftAnswer) → 0 < lift_number a → (lift_number a ≡ 1) ⊎ (8 ≤ lift_number a)
 unfolding lift_number
-lift_numbers lift_answer.Done above = absurd (omega arith)
-lift_numbers lift_answer.Waits above = inl refl
-lift_numbers lift_answer.IsUp above = inr (omega arith)
+lift_numbers (Ok tt) above = absurd (omega arith)
+lift_numbers (Err lift_error.Waits) above = inl refl
+lift_numbers (Err lift_error.IsUp) above = inr (omega arith)
 
 contact_refused : (now : Moment) (c : Contact) → 0 < number_given now (contact c) → RefusalLeaves now (contact c)
 unfolding number_given after

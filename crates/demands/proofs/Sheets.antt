@@ -1,4 +1,6 @@
 -- 02, §5, of a panel's calls: a panel keeps to its sheet; at a contact at an edge of the slider that acts, and wherever no slider acts, the sheet does not matter.
+use Rattle.std.specs.Prelude.{Option, None, Some, Ok, Err}
+use Rattle.words.specs.declared.WordAddress.{WordAddress}
 use mathlib.Core.Path.{◌≡◌, refl, sym, ap, ◌∙◌}
 use mathlib.Core.Bool.{Bool, true, false, cond, not}
 use mathlib.Core.List.{List, ◌∷◌, ◌++◌}
@@ -16,10 +18,9 @@ use Rattle.touch.specs.declared.Setup.{Setup}
 use Rattle.touch.specs.declared.SliderFields.{SliderFields}
 use Rattle.touch.specs.declared.Kind.TheVariants.{Slider}
 use Rattle.touch.specs.declared.Record.{Record}
-use Rattle.touch.specs.declared.Verdict.{Verdict}
-use Rattle.touch.specs.declared.Verdict.TheVariants.{Good, NotRecords, Wrong}
-use Rattle.touch.specs.declared.Found.{Found}
-use Rattle.touch.specs.declared.Found.TheVariants.{Nothing, At}
+use Rattle.touch.specs.Judge.{Verdict}
+use Rattle.touch.specs.declared.TableError.TheVariants.{NotRecords, Wrong}
+use Rattle.touch.specs.Table.{Found}
 use Rattle.touch.specs.Setup.{checking_of}
 use Rattle.touch.specs.Rounding.{sheet_of}
 use Rattle.touch.specs.Record.{slides, along, first_edge, last_edge}
@@ -29,8 +30,7 @@ use Rattle.touch.specs.Act.{acted_of, dragged_of}
 use Rattle.touch.specs.Scale.{GoodSliderRecord}
 use Rattle.touch.proofs.Tables.{found_stands, found_good}
 use Rattle.touch.proofs.Scale as Scale
-use Rattle.contact.specs.declared.Catch.{Catch}
-use Rattle.contact.specs.declared.Catch.TheVariants.{Free, Caught}
+use Rattle.contact.specs.Contact.{Catch}
 use Rattle.contact.specs.declared.Pad.{Pad}
 use Rattle.contact.specs.Contact as Touch
 use Rattle.contact.specs.Contact.{Touching, touched}
@@ -38,15 +38,13 @@ use Rattle.wire.specs.ByteOrder.{high_first}
 use Rattle.wire.specs.Room.{over}
 use Rattle.frame.specs.Frame.{frame_of}
 use Rattle.line.specs.Methods.{busy}
-use Rattle.watch.specs.declared.Due.{Due}
-use Rattle.watch.specs.declared.Due.TheVariants as due
 use Rattle.watch.specs.Watched.{with_values}
 use Rattle.watch.specs.Sending.{sending}
 use Rattle.watch.specs.Judge.{wrong_list}
 use Rattle.commands.specs.Lent.{Lent, with_words, with_room, with_watched}
 use Rattle.panel.specs.declared.Panel.{Panel}
-use Rattle.panel.specs.declared.ContactAnswer.{ContactAnswer}
-use Rattle.panel.specs.declared.ContactAnswer.TheVariants as contact_answer
+use Rattle.panel.specs.Answers.{ContactAnswer}
+use Rattle.panel.specs.declared.ContactError.TheVariants as contact_error
 use Rattle.panel.specs.State.{header_of, pad_of, with_pad}
 use Rattle.panel.specs.Watching.{Telling, tells, unasked, telling}
 use Rattle.panel.specs.Contacts.{Contact, Contacting, contacts, silent, on_screen, is_touch, contact_on, contact_judged, told, touch_not_lent, contacting}
@@ -87,8 +85,8 @@ module _ (now : Moment) (c : Contact) (edges : EdgesOnly now c) (flags : ℕ) (s
       → found c.table (page_of now.panel.registers) c.x c.y ≡ f
       → Touch.acting other f registers catch now.lent.words c.x c.y ≡ Touch.acting setup f registers catch now.lent.words c.x c.y
   unfolding Touch.acting
-  acts_alike registers catch Nothing up is = refl
-  acts_alike registers catch (At i r) up is =
+  acts_alike registers catch None up is = refl
+  acts_alike registers catch (Some (i, r)) up is =
       let words = now.lent.words in
       ap (λ (w : ℕ). Touch.touching (Touch.showing r registers (Touch.catching r catch)) (word_set words r.word w))
       (stores_alike r (while_up i up is) (word_at_address words r.word))
@@ -96,8 +94,8 @@ module _ (now : Moment) (c : Contact) (edges : EdgesOnly now c) (flags : ℕ) (s
   drags_alike : (catch : Catch) → is_down now.panel.registers ≡ true → now.panel.catch ≡ catch
       → Touch.dragging other catch now.lent.words c.x c.y ≡ Touch.dragging setup catch now.lent.words c.x c.y
   unfolding Touch.dragging dragged_of
-  drags_alike Free down is = refl
-  drags_alike (Caught r) down is =
+  drags_alike None down is = refl
+  drags_alike (Some r) down is =
       let words = now.lent.words in
       let old = word_at_address words r.word in
       ap (λ (w : ℕ). word_set words r.word (cond (slides r) w old)) (stores_alike r (while_down down is) old)
@@ -131,23 +129,23 @@ module _ (now : Moment) (c : Contact) (edges : EdgesOnly now c) (flags : ℕ) (s
       done s = touched s (pad_of now.panel) c.table now.lent.words c.x c.y
 
       left : Panel → Touching → Contacting
-      left panel t = silent contact_answer.Done (with_pad panel t.pad) (with_words now.lent t.words)
+      left panel t = silent (Ok tt) (with_pad panel t.pad) (with_words now.lent t.words)
 
       go : (a b : Bool)
-          → cond a (silent contact_answer.TouchOff (flagged flags now.panel) now.lent)
-          (cond b (silent contact_answer.OffScreen (flagged flags now.panel) now.lent) (left (flagged flags now.panel) (done other)))
+          → cond a (silent (Err contact_error.TouchOff) (flagged flags now.panel) now.lent)
+          (cond b (silent (Err contact_error.OffScreen) (flagged flags now.panel) now.lent) (left (flagged flags now.panel) (done other)))
           ≡ reflagged flags
-          (cond a (silent contact_answer.TouchOff now.panel now.lent)
-          (cond b (silent contact_answer.OffScreen now.panel now.lent) (left now.panel (done setup))))
+          (cond a (silent (Err contact_error.TouchOff) now.panel now.lent)
+          (cond b (silent (Err contact_error.OffScreen) now.panel now.lent) (left now.panel (done setup))))
       go true b = refl
       go false true = refl
       go false false = ap (left (flagged flags now.panel)) touched_alike
 
   judged_alike : (v : Verdict) → contact_judged v (flagged flags now.panel) c now.lent ≡ reflagged flags (contact_judged v now.panel c now.lent)
   unfolding contact_judged
-  judged_alike Good = on_alike
-  judged_alike NotRecords = refl
-  judged_alike (Wrong i) = refl
+  judged_alike (Ok tt) = on_alike
+  judged_alike (Err NotRecords) = refl
+  judged_alike (Err (Wrong i)) = refl
 
   same_verdict : judged other c.table ≡ judged setup c.table
   unfolding judged wrong good_record
@@ -157,10 +155,10 @@ module _ (now : Moment) (c : Contact) (edges : EdgesOnly now c) (flags : ℕ) (s
   same_checking : checking_of other ≡ checking_of setup
   same_checking = let lowest : flags % 2 ≡ setup.flags % 2 = omega (arith, same) in ap (λ (n : ℕ). eqb n 1) lowest
 
-  unasked_alike : (words : List ℕ) (d : Due) → unasked other words d ≡ unasked setup words d
+  unasked_alike : (words : List ℕ) (d : Option WordAddress) → unasked other words d ≡ unasked setup words d
   unfolding unasked
-  unasked_alike words due.Nothing = refl
-  unasked_alike words (due.Word address) =
+  unasked_alike words None = refl
+  unasked_alike words (Some address) =
       ap (λ (b : Bool). frame_of b (header_of setup) 0x83 (high_first address.0 ++ (1 ∷ high_first (word_at_address words address.0)))) same_checking
 
   telling_alike : (lent : Lent) → telling other lent ≡ telling setup lent
@@ -201,12 +199,12 @@ module _ (now : Moment) (c : Contact) (edges : EdgesOnly now c) (flags : ℕ) (s
           ∙ told_alike (judging setup now.panel)
 
       go : (p q b : Bool)
-          → cond p (refusal contact_answer.NotLent (flagged flags now.panel))
-          (cond q (refusal contact_answer.WrongList (flagged flags now.panel))
-          (cond b (refusal contact_answer.Waits (flagged flags now.panel)) (told other (judging other (flagged flags now.panel)))))
+          → cond p (refusal (Err contact_error.NotLent) (flagged flags now.panel))
+          (cond q (refusal (Err contact_error.WrongList) (flagged flags now.panel))
+          (cond b (refusal (Err contact_error.Waits) (flagged flags now.panel)) (told other (judging other (flagged flags now.panel)))))
           ≡ reflagged flags
-          (cond p (refusal contact_answer.NotLent now.panel)
-          (cond q (refusal contact_answer.WrongList now.panel) (cond b (refusal contact_answer.Waits now.panel) (told setup (judging setup now.panel)))))
+          (cond p (refusal (Err contact_error.NotLent) now.panel)
+          (cond q (refusal (Err contact_error.WrongList) now.panel) (cond b (refusal (Err contact_error.Waits) now.panel) (told setup (judging setup now.panel)))))
       go true q b = refl
       go false true b = refl
       go false false true = refl
@@ -223,8 +221,8 @@ module _ (now : Moment) (c : Contact) (edges : EdgesOnly now c) (flags : ℕ) (s
   )
 
 -- every slider that a contact finds in a table that is judged good is a good slider record
-pub found_slider_good : (setup : Setup) (table : List ℕ) → Bytes table → judged setup table ≡ Good → (page x y i : ℕ) (r : Record)
-    → found table page x y ≡ At i r → (f : SliderFields) → r.kind ≡ Slider f → GoodSliderRecord r f
+pub found_slider_good : (setup : Setup) (table : List ℕ) → Bytes table → judged setup table ≡ Ok tt → (page x y i : ℕ) (r : Record)
+    → found table page x y ≡ Some (i, r) → (f : SliderFields) → r.kind ≡ Slider f → GoodSliderRecord r f
 found_slider_good setup table are good page x y i r acts f is =
     let stands = (found_stands table page x y i r acts).0 in
     let fit = slider_fields_fit table are i f (ap (λ (q : Record). q.kind) (sym stands) ∙ is) in

@@ -1,5 +1,6 @@
 -- "There are 256 register bytes and 28,672 variable words, .. lent by the caller as 16-bit numbers": whatever calls come, every register stays a byte and
 -- every word a 16-bit number.
+use Rattle.std.specs.Prelude.{Ok, Err}
 use mathlib.Core.Path.{◌≡◌, refl}
 use mathlib.Core.Bool.{Bool, true, false, cond, not}
 use mathlib.Core.List.{List}
@@ -11,14 +12,14 @@ use Rattle.registers.specs.Table.{register_at}
 use Rattle.words.specs.Words.{word_at_address}
 use Rattle.contact.specs.Contact.{lifted}
 use Rattle.touch.specs.declared.Setup.{Setup}
-use Rattle.touch.specs.declared.Verdict.{Verdict}
-use Rattle.touch.specs.declared.Verdict.TheVariants.{Good, NotRecords, Wrong}
+use Rattle.touch.specs.Judge.{Verdict}
+use Rattle.touch.specs.declared.TableError.TheVariants.{NotRecords, Wrong}
 use Rattle.touch.specs.Setup.{checking_of, acknowledging_of, good_setup}
 use Rattle.touch.specs.Judge.{judged}
 use Rattle.line.specs.Methods.{asked}
 use Rattle.wire.proofs.Truths.{never}
 use Rattle.panel.specs.declared.Panel.{Panel}
-use Rattle.panel.specs.declared.StartAnswer.TheVariants as start
+use Rattle.panel.specs.declared.StartError.TheVariants as start_error
 use Rattle.panel.specs.State as State
 use Rattle.panel.specs.State.{panel_register, fixed_for}
 use Rattle.panel.specs.Start.{refuses, new_panel, start_judged, started}
@@ -117,16 +118,16 @@ call_sized now sound (contact c) typed sized = contacted_sized now c typed.0 typ
 call_sized now sound lift typed sized = lifted_sized now sized
 
 -- a start that is done gives a new panel
-pub started_new : (setup : Setup) (table : List ℕ) → (started setup table).answer ≡ start.Started → (started setup table).panel ≡ new_panel setup
+pub started_new : (setup : Setup) (table : List ℕ) → (started setup table).answer ≡ Ok tt → (started setup table).panel ≡ new_panel setup
 unfolding started start_judged
 started_new setup table = go (not (good_setup setup)) (judged setup table)
   where
-    go : (b : Bool) (v : Verdict) → (cond b (refuses start.WrongSetup) (start_judged v setup)).answer ≡ start.Started
-        → (cond b (refuses start.WrongSetup) (start_judged v setup)).panel ≡ new_panel setup
+    go : (b : Bool) (v : Verdict) → (cond b (refuses (Err start_error.WrongSetup)) (start_judged v setup)).answer ≡ Ok tt
+        → (cond b (refuses (Err start_error.WrongSetup)) (start_judged v setup)).panel ≡ new_panel setup
     go true v is = never (cc)
-    go false Good is = refl
-    go false NotRecords is = never (cc)
-    go false (Wrong i) is = never (cc)
+    go false (Ok tt) is = refl
+    go false (Err NotRecords) is = never (cc)
+    go false (Err (Wrong i)) is = never (cc)
 
 sized : (now : Moment) → Arises now → Sized now
 unfolding new_panel

@@ -1,4 +1,5 @@
 -- What writes, contacts and a start store: bytes in registers, 16-bit numbers in words.
+use Rattle.std.specs.Prelude.{None, Some}
 use mathlib.Core.Path.{◌≡◌, refl}
 use mathlib.Core.Bool.{Bool, true, false, cond, ◌||◌}
 use mathlib.Core.List.{List, [], ◌∷◌, ◌++◌}
@@ -36,12 +37,10 @@ use Rattle.touch.specs.declared.Kind.TheVariants.{Key, Step, Slider, Other}
 use Rattle.touch.specs.declared.StepFields.{StepFields}
 use Rattle.touch.specs.declared.SliderFields.{SliderFields}
 use Rattle.touch.specs.Record.{step_fields, slider_fields, kind_of, record_of, is_slider, up, round, digit_mode, along, first_edge, last_edge, no_next}
-use Rattle.touch.specs.declared.Found.{Found}
-use Rattle.touch.specs.declared.Found.TheVariants.{Nothing, At}
+use Rattle.touch.specs.Table.{Found}
 use Rattle.touch.specs.Find.{found}
 use Rattle.touch.proofs.Tables.{found_stands}
-use Rattle.contact.specs.declared.Catch.{Catch}
-use Rattle.contact.specs.declared.Catch.TheVariants.{Free, Caught}
+use Rattle.contact.specs.Contact.{Catch}
 use Rattle.contact.specs.declared.Pad.{Pad}
 use Rattle.contact.specs.Contact as Contact
 use Rattle.contact.specs.Contact.{showing, catching, acting, pressed, dragging, touched}
@@ -233,13 +232,13 @@ module _ (setup : Setup) (pad : Pad) (table words : List ℕ) (x y : ℕ) (are :
       now = with_place (with_status pad.registers 0x01) x y
 
       shown : (r : Record) (catch : Catch) → r.next < 65536 → (b : Bool)
-          → Bytes (cond b (Contact.pad_with now catch) (Contact.pad_with (with_page now r.next) Free)).registers.bytes
+          → Bytes (cond b (Contact.pad_with now catch) (Contact.pad_with (with_page now r.next) None)).registers.bytes
       shown r catch next true = marked_bytes 0x01 (omega arith)
       shown r catch next false = page_bytes now r.next (marked_bytes 0x01 (omega arith)) next
 
       behind : (f : Found) → found table (page_of pad.registers) x y ≡ f → Bytes (acting setup f now pad.catch words x y).pad.registers.bytes
-      behind Nothing is = marked_bytes 0x01 (omega arith)
-      behind (At i r) is =
+      behind None is = marked_bytes 0x01 (omega arith)
+      behind (Some (i, r)) is =
           let same = (found_stands table (page_of pad.registers) x y i r is).0 in
           shown r (catching r pad.catch) (rw same (next_below table table-are i)) (no_next r)
 
@@ -255,15 +254,15 @@ module _ (setup : Setup) (pad : Pad) (table words : List ℕ) (x y : ℕ) (are :
       now = with_place (with_status pad.registers 0x01) x y
 
       behind : (f : Found) → found table (page_of pad.registers) x y ≡ f → Halfwords (acting setup f now pad.catch words x y).words
-      behind Nothing is = old
-      behind (At i r) is =
+      behind None is = old
+      behind (Some (i, r)) is =
           let same = (found_stands table (page_of pad.registers) x y i r is).0 in
           below_set 65536 word_some words r.word (acted_of setup r (get_or words r.word 0) x y) old
           (rw same (acted_below setup table table-are i (get_or words (record_at table i).word 0) (old (record_at table i).word) x y))
 
       drag : (c : Catch) → Halfwords (dragging setup c words x y)
-      drag Free = old
-      drag (Caught r) =
+      drag None = old
+      drag (Some r) =
           below_set 65536 word_some words r.word (dragged_of setup r (get_or words r.word 0) x y) old
           (dragged_below setup r (get_or words r.word 0) (old r.word) x y)
 

@@ -1,4 +1,5 @@
 -- The numbers that go by a table, at a contact and at a start: 12, then 13; and 13 names the first wrong record.
+use Rattle.std.specs.Prelude.{None, Some, Ok, Err}
 use mathlib.Core.Path.{◌≡◌, refl, sym, ap, ◌∙◌}
 use mathlib.Core.Bool.{Bool, true, false, cond, not, ◌&&◌, ◌||◌}
 use mathlib.Core.List.{List, [], ◌∷◌}
@@ -12,18 +13,17 @@ use Rattle.wire.proofs.Truths.{never}
 use Rattle.registers.specs.Touched.{is_touch_off}
 use Rattle.touch.specs.declared.Setup.{Setup}
 use Rattle.touch.specs.declared.Record.{Record}
-use Rattle.touch.specs.declared.Found.{Found}
-use Rattle.touch.specs.declared.Found.TheVariants.{Nothing, At}
-use Rattle.touch.specs.declared.Verdict.{Verdict}
-use Rattle.touch.specs.declared.Verdict.TheVariants.{Good, NotRecords, Wrong}
+use Rattle.touch.specs.Table.{Found}
+use Rattle.touch.specs.Judge.{Verdict}
+use Rattle.touch.specs.declared.TableError.TheVariants.{NotRecords, Wrong}
 use Rattle.touch.specs.Setup.{good_setup}
 use Rattle.touch.specs.Table.{first_of, records_of}
 use Rattle.touch.specs.Judge.{good_record, wrong, named_wrong, not_records, judged}
 use Rattle.contact.specs.Contact.{Touching}
 use Rattle.touch.proofs.Tables.{thirteen_names_first}
 use Rattle.panel.specs.declared.Panel.{Panel}
-use Rattle.panel.specs.declared.ContactAnswer.TheVariants as contact_answer
-use Rattle.panel.specs.declared.StartAnswer.TheVariants as start
+use Rattle.panel.specs.declared.ContactError.TheVariants as contact_error
+use Rattle.panel.specs.declared.StartError.TheVariants as start_error
 use Rattle.panel.specs.Numbers.{start_number, contact_number}
 use Rattle.panel.specs.Start.{refuses, start_judged, started}
 use Rattle.panel.specs.State.{with_pad}
@@ -38,8 +38,8 @@ use Rattle.demands.proofs.Waits.{busy_waits}
 
 -- a table: 12, then 13
 abbrev is_at : Found → Bool
-is_at Nothing = false
-is_at (At i r) = true
+is_at None = false
+is_at (Some (i, r)) = true
 
 some_wrong : (setup : Setup) (i : ℕ) (rs : List Record) → one_wrong setup rs ≡ is_at (first_of (wrong setup) i rs)
 unfolding one_wrong first_of wrong
@@ -47,7 +47,7 @@ some_wrong setup i [] = refl
 some_wrong setup i (r ∷ rs) = go (not (good_record setup r)) (some_wrong setup (i + 1) rs)
   where
     go : (b : Bool) → one_wrong setup rs ≡ is_at (first_of (wrong setup) (i + 1) rs)
-        → (b || one_wrong setup rs) ≡ is_at (cond b (At i r) (first_of (wrong setup) (i + 1) rs))
+        → (b || one_wrong setup rs) ≡ is_at (cond b (Some (i, r)) (first_of (wrong setup) (i + 1) rs))
     go true ih = refl
     go false ih = ih
 
@@ -62,8 +62,8 @@ module _ (panel : Panel) (c : Contact) (lent : Lent) where
   on_number = go (is_touch_off panel.registers) (not (ltb c.x panel.setup.width && ltb c.y panel.setup.height))
     where
       go : (a b : Bool)
-          → contact_number (cond a (silent contact_answer.TouchOff panel lent) (cond b (silent contact_answer.OffScreen panel lent)
-          (silent contact_answer.Done (with_pad panel done_by.pad) (with_words lent done_by.words)))).contacted.answer
+          → contact_number (cond a (silent (Err contact_error.TouchOff) panel lent) (cond b (silent (Err contact_error.OffScreen) panel lent)
+          (silent (Ok tt) (with_pad panel done_by.pad) (with_words lent done_by.words)))).contacted.answer
           ≡ cond a 9 (cond b 8 0)
       go true b = refl
       go false true = refl
@@ -77,11 +77,11 @@ module _ (panel : Panel) (c : Contact) (lent : Lent) where
       rw (some_wrong panel.setup 0 (records_of c.table)) (go (not_whole_records c.table) (first_of (wrong panel.setup) 0 (records_of c.table)))
     where
       go : (b : Bool) (f : Found)
-          → contact_number (contact_judged (cond b NotRecords (named_wrong f)) panel c lent).contacted.answer
+          → contact_number (contact_judged (cond b (Err NotRecords) (named_wrong f)) panel c lent).contacted.answer
           ≡ cond b 12 (cond (is_at f) 13 (cond (is_touch_off panel.registers) 9 (cond (off_screen panel.setup c.x c.y) 8 0)))
       go true f = refl
-      go false (At i r) = refl
-      go false Nothing = on_number
+      go false (Some (i, r)) = refl
+      go false None = on_number
 
 pub contact_number_lem : (now : Moment) → Sound now.panel → (c : Contact)
     → number_given now (contact c) ≡ first_number (printed now (contact c))
@@ -94,8 +94,8 @@ contact_number_lem now sound c =
     panel = now.panel
 
     go : (a w b : Bool)
-        → contact_number (cond a (silent contact_answer.NotLent panel now.lent) (cond w (silent contact_answer.WrongList panel now.lent)
-        (cond b (silent contact_answer.Waits panel now.lent) (told panel.setup (contact_judged (judged panel.setup c.table) panel c now.lent))))).contacted.answer
+        → contact_number (cond a (silent (Err contact_error.NotLent) panel now.lent) (cond w (silent (Err contact_error.WrongList) panel now.lent)
+        (cond b (silent (Err contact_error.Waits) panel now.lent) (told panel.setup (contact_judged (judged panel.setup c.table) panel c now.lent))))).contacted.answer
         ≡ cond a 14 (cond w 16 (cond b 1 (cond (not_whole_records c.table) 12 (cond (one_wrong panel.setup (records_of c.table)) 13
         (cond (is_touch_off panel.registers) 9 (cond (off_screen panel.setup c.x c.y) 8 0))))))
     go true w b = refl
@@ -111,42 +111,42 @@ start_as_printed setup table =
     rw (some_wrong setup 0 (records_of table)) (go (not (good_setup setup)) (not_whole_records table) (first_of (wrong setup) 0 (records_of table)))
   where
     go : (a b : Bool) (f : Found)
-        → start_number (cond a (refuses start.WrongSetup) (start_judged (cond b NotRecords (named_wrong f)) setup)).answer
+        → start_number (cond a (refuses (Err start_error.WrongSetup)) (start_judged (cond b (Err NotRecords) (named_wrong f)) setup)).answer
         ≡ cond a 11 (cond b 12 (cond (is_at f) 13 0))
     go true b f = refl
     go false true f = refl
-    go false false (At i r) = refl
-    go false false Nothing = refl
+    go false false (Some (i, r)) = refl
+    go false false None = refl
 
 -- 13: "the first wrong one is named"
-picked_within : (picks : Record → Bool) (rs : List Record) (i j : ℕ) (r : Record) → first_of picks i rs ≡ At j r → j < i + length rs
+picked_within : (picks : Record → Bool) (rs : List Record) (i j : ℕ) (r : Record) → first_of picks i rs ≡ Some (j, r) → j < i + length rs
 unfolding first_of
 picked_within picks [] i j r is = never (cc)
 picked_within picks (q ∷ rs) i j r is = go (picks q) is (picked_within picks rs (i + 1) j r)
   where
-    go : (b : Bool) → cond b (At i q) (first_of picks (i + 1) rs) ≡ At j r → (first_of picks (i + 1) rs ≡ At j r → j < i + 1 + length rs)
+    go : (b : Bool) → cond b (Some (i, q)) (first_of picks (i + 1) rs) ≡ Some (j, r) → (first_of picks (i + 1) rs ≡ Some (j, r) → j < i + 1 + length rs)
         → j < i + suc (length rs)
     go true is further = let same : i ≡ j = cc in omega arith
     go false is further = let below = further is in omega arith
 
-wrong_within : (setup : Setup) (table : List ℕ) (i : ℕ) → judged setup table ≡ Wrong i → i < length (records_of table)
+wrong_within : (setup : Setup) (table : List ℕ) (i : ℕ) → judged setup table ≡ Err (Wrong i) → i < length (records_of table)
 unfolding judged
 wrong_within setup table i = go (not_records table) (first_of (wrong setup) 0 (records_of table)) refl
   where
-    go : (b : Bool) (f : Found) → first_of (wrong setup) 0 (records_of table) ≡ f → cond b NotRecords (named_wrong f) ≡ Wrong i → i < length (records_of table)
+    go : (b : Bool) (f : Found) → first_of (wrong setup) 0 (records_of table) ≡ f → cond b (Err NotRecords) (named_wrong f) ≡ Err (Wrong i) → i < length (records_of table)
     go true f finds is = never (cc)
-    go false Nothing finds is = never (cc)
-    go false (At j r) finds is =
+    go false None finds is = never (cc)
+    go false (Some (j, r)) finds is =
         let same : j ≡ i = cc in
         let below = picked_within (wrong setup) (records_of table) 0 j r finds in
         omega arith
 
-names_first : (setup : Setup) (table : List ℕ) (i : ℕ) → judged setup table ≡ Wrong i → NamesFirstWrong setup table i
+names_first : (setup : Setup) (table : List ℕ) (i : ℕ) → judged setup table ≡ Err (Wrong i) → NamesFirstWrong setup table i
 names_first setup table i is =
     let named = thirteen_names_first setup table i is in
     record { within = wrong_within setup table i is; is_wrong = named.0; first = named.1.1 }
 
-on_names_none : (panel : Panel) (c : Contact) (lent : Lent) (i : ℕ) → (contact_on panel c lent).contacted.answer ≡ contact_answer.WrongRecord i → ⊥
+on_names_none : (panel : Panel) (c : Contact) (lent : Lent) (i : ℕ) → (contact_on panel c lent).contacted.answer ≡ Err (contact_error.WrongRecord i) → ⊥
 unfolding contact_on
 on_names_none panel c lent i = go (is_touch_off panel.registers) (not (ltb c.x panel.setup.width && ltb c.y panel.setup.height))
   where
@@ -154,15 +154,15 @@ on_names_none panel c lent i = go (is_touch_off panel.registers) (not (ltb c.x p
     done = touched_by panel c lent
 
     go : (a b : Bool)
-        → (cond a (silent contact_answer.TouchOff panel lent) (cond b (silent contact_answer.OffScreen panel lent)
-        (silent contact_answer.Done (with_pad panel done.pad) (with_words lent done.words)))).contacted.answer
-        ≡ contact_answer.WrongRecord i → ⊥
+        → (cond a (silent (Err contact_error.TouchOff) panel lent) (cond b (silent (Err contact_error.OffScreen) panel lent)
+        (silent (Ok tt) (with_pad panel done.pad) (with_words lent done.words)))).contacted.answer
+        ≡ Err (contact_error.WrongRecord i) → ⊥
     go true b is = never (cc)
     go false true is = never (cc)
     go false false is = never (cc)
 
 pub contact_names_first_wrong : (now : Moment) (c : Contact) (i : ℕ)
-    → (contacting now.panel c now.lent).contacted.answer ≡ contact_answer.WrongRecord i
+    → (contacting now.panel c now.lent).contacted.answer ≡ Err (contact_error.WrongRecord i)
     → NamesFirstWrong now.panel.setup c.table i
 unfolding contacting contact_judged
 contact_names_first_wrong now c i =
@@ -172,30 +172,30 @@ contact_names_first_wrong now c i =
     panel : Panel
     panel = now.panel
 
-    behind : (v : Verdict) → judged panel.setup c.table ≡ v → (contact_judged v panel c now.lent).contacted.answer ≡ contact_answer.WrongRecord i
+    behind : (v : Verdict) → judged panel.setup c.table ≡ v → (contact_judged v panel c now.lent).contacted.answer ≡ Err (contact_error.WrongRecord i)
         → NamesFirstWrong panel.setup c.table i
-    behind Good judges is = absurd (on_names_none panel c now.lent i is)
-    behind NotRecords judges is = never (cc)
-    behind (Wrong j) judges is =
-        let same : j ≡ i = cc in names_first panel.setup c.table i (judges ∙ ap (λ (k : ℕ). Wrong k) same)
+    behind (Ok tt) judges is = absurd (on_names_none panel c now.lent i is)
+    behind (Err NotRecords) judges is = never (cc)
+    behind (Err (Wrong j)) judges is =
+        let same : j ≡ i = cc in names_first panel.setup c.table i (judges ∙ ap (λ (k : ℕ). Err (Wrong k)) same)
 
     go : (a w b : Bool) (v : Verdict) → judged panel.setup c.table ≡ v
-        → (cond a (silent contact_answer.NotLent panel now.lent) (cond w (silent contact_answer.WrongList panel now.lent)
-        (cond b (silent contact_answer.Waits panel now.lent) (told panel.setup (contact_judged v panel c now.lent))))).contacted.answer
-        ≡ contact_answer.WrongRecord i
+        → (cond a (silent (Err contact_error.NotLent) panel now.lent) (cond w (silent (Err contact_error.WrongList) panel now.lent)
+        (cond b (silent (Err contact_error.Waits) panel now.lent) (told panel.setup (contact_judged v panel c now.lent))))).contacted.answer
+        ≡ Err (contact_error.WrongRecord i)
         → NamesFirstWrong panel.setup c.table i
     go true w b v judges is = never (cc)
     go false true b v judges is = never (cc)
     go false false true v judges is = never (cc)
     go false false false v judges is = behind v judges (sym (told_answers panel.setup (contact_judged v panel c now.lent)) ∙ is)
 
-pub start_names_first_wrong : (setup : Setup) (table : List ℕ) (i : ℕ) → (started setup table).answer ≡ start.WrongRecord i → NamesFirstWrong setup table i
+pub start_names_first_wrong : (setup : Setup) (table : List ℕ) (i : ℕ) → (started setup table).answer ≡ Err (start_error.WrongRecord i) → NamesFirstWrong setup table i
 unfolding started start_judged
 start_names_first_wrong setup table i = go (not (good_setup setup)) (judged setup table) refl
   where
     go : (b : Bool) (v : Verdict) → judged setup table ≡ v
-        → (cond b (refuses start.WrongSetup) (start_judged v setup)).answer ≡ start.WrongRecord i → NamesFirstWrong setup table i
+        → (cond b (refuses (Err start_error.WrongSetup)) (start_judged v setup)).answer ≡ Err (start_error.WrongRecord i) → NamesFirstWrong setup table i
     go true v judges is = never (cc)
-    go false Good judges is = never (cc)
-    go false NotRecords judges is = never (cc)
-    go false (Wrong j) judges is = let same : j ≡ i = cc in names_first setup table i (judges ∙ ap (λ (k : ℕ). Wrong k) same)
+    go false (Ok tt) judges is = never (cc)
+    go false (Err NotRecords) judges is = never (cc)
+    go false (Err (Wrong j)) judges is = let same : j ≡ i = cc in names_first setup table i (judges ∙ ap (λ (k : ℕ). Err (Wrong k)) same)

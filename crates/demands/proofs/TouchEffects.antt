@@ -1,4 +1,5 @@
 -- What a contact and a lift that are done leave, and what the record that acts or is caught stores.
+use Rattle.std.specs.Prelude.{Some, Ok, Err}
 use mathlib.Core.Path.{◌≡◌, refl, sym, ap, ◌∙◌}
 use mathlib.Core.Bool.{Bool, true, false, cond, not}
 use mathlib.Core.List.{List}
@@ -19,14 +20,12 @@ use Rattle.stores.specs.Step.{stepped, fenced}
 use Rattle.stores.specs.Slider.{slid_to}
 use Rattle.wire.specs.Addresses.{word_count}
 use Rattle.words.specs.Words.{word_at_address, word_set}
-use Rattle.touch.specs.declared.Verdict.TheVariants.{Good}
 use Rattle.touch.specs.declared.Record.{Record}
 use Rattle.touch.specs.declared.Kind.TheVariants.{Key, Step, Slider, Other}
 use Rattle.touch.specs.declared.StepFields.{StepFields}
 use Rattle.touch.specs.declared.SliderFields.{SliderFields}
-use Rattle.touch.specs.declared.Found.TheVariants.{At}
 use Rattle.touch.specs.declared.Kind.{Kind}
-use Rattle.touch.specs.declared.Found.{Found}
+use Rattle.touch.specs.Table.{Found}
 use Rattle.touch.specs.Record.{step_fields, slider_fields, kind_of, record_of, up as steps_up, round as goes_round, digit_mode, along, first_edge, last_edge}
 use Rattle.touch.specs.Table.{record_at, record_bytes}
 use Rattle.touch.specs.Find.{found}
@@ -36,15 +35,14 @@ use Rattle.touch.specs.Judge.{good_record, judged}
 use Rattle.watch.specs.Judge.{wrong_list}
 use Rattle.touch.proofs.GoodFields.{good_word, good_kind_lem}
 use Rattle.touch.proofs.Tables.{found_stands, found_good}
-use Rattle.contact.specs.declared.Catch.{Catch}
-use Rattle.contact.specs.declared.Catch.TheVariants.{Caught}
+use Rattle.contact.specs.Contact.{Catch}
 use Rattle.contact.specs.declared.Pad.{Pad}
 use Rattle.contact.specs.Contact as Contact
 use Rattle.contact.specs.Contact.{touched}
 use Rattle.panel.specs.declared.Panel.{Panel}
-use Rattle.panel.specs.declared.ContactAnswer.{ContactAnswer}
-use Rattle.panel.specs.declared.ContactAnswer.TheVariants as contact_answer
-use Rattle.panel.specs.declared.LiftAnswer.TheVariants as lift_answer
+use Rattle.panel.specs.Answers.{ContactAnswer}
+use Rattle.panel.specs.declared.ContactError.TheVariants as contact_error
+use Rattle.panel.specs.declared.LiftError.TheVariants as lift_error
 use Rattle.panel.specs.Numbers.{contact_number, lift_number}
 use Rattle.panel.specs.State.{pad_of, with_pad}
 use Rattle.panel.specs.Watching.{telling}
@@ -64,20 +62,20 @@ use Rattle.demands.proofs.Stored.{step_keeps_other, slider_keeps_other}
 pub record Touched (panel : Panel) (c : Contact) (lent : Lent) : Type 0 where
   pub whole : length lent.words ≡ word_count
   pub good_list : wrong_list lent.watched ≡ false
-  pub good : judged panel.setup c.table ≡ Good
+  pub good : judged panel.setup c.table ≡ Ok tt
   pub touches : contacting panel c lent ≡ contact_done panel c lent
 
 -- only a contact that is done has number 0
 number_touches : (answer : ContactAnswer) → contact_number answer ≡ 0 → is_touch answer ≡ true
 unfolding contact_number
-number_touches contact_answer.Done is = refl
-number_touches contact_answer.NotLent is = absurd (omega arith)
-number_touches contact_answer.WrongList is = absurd (omega arith)
-number_touches contact_answer.Waits is = absurd (omega arith)
-number_touches contact_answer.NotRecords is = absurd (omega arith)
-number_touches (contact_answer.WrongRecord i) is = absurd (omega arith)
-number_touches contact_answer.TouchOff is = absurd (omega arith)
-number_touches contact_answer.OffScreen is = absurd (omega arith)
+number_touches (Ok tt) is = refl
+number_touches (Err contact_error.NotLent) is = absurd (omega arith)
+number_touches (Err contact_error.WrongList) is = absurd (omega arith)
+number_touches (Err contact_error.Waits) is = absurd (omega arith)
+number_touches (Err contact_error.NotRecords) is = absurd (omega arith)
+number_touches (Err (contact_error.WrongRecord i)) is = absurd (omega arith)
+number_touches (Err contact_error.TouchOff) is = absurd (omega arith)
+number_touches (Err contact_error.OffScreen) is = absurd (omega arith)
 
 lent_whole : (words room : ℕ) → touch_not_lent words room ≡ false → words ≡ word_count
 unfolding touch_not_lent
@@ -112,8 +110,8 @@ lift_leaves now is = go (busy panel.reader) (not (is_down panel.registers)) is
     lifted : Panel
     lifted = with_pad panel (Contact.lifted (pad_of panel))
 
-    go : (a b : Bool) → lift_number (cond a (lifts lift_answer.Waits panel) (cond b (lifts lift_answer.IsUp panel) (lifts lift_answer.Done lifted))).answer ≡ 0
-        → with_panel now (cond a (lifts lift_answer.Waits panel) (cond b (lifts lift_answer.IsUp panel) (lifts lift_answer.Done lifted))).panel ≡ with_panel now lifted
+    go : (a b : Bool) → lift_number (cond a (lifts (Err lift_error.Waits) panel) (cond b (lifts (Err lift_error.IsUp) panel) (lifts (Ok tt) lifted))).answer ≡ 0
+        → with_panel now (cond a (lifts (Err lift_error.Waits) panel) (cond b (lifts (Err lift_error.IsUp) panel) (lifts (Ok tt) lifted))).panel ≡ with_panel now lifted
     go true b is = absurd (omega arith)
     go false true is = absurd (omega arith)
     go false false is = refl
@@ -158,7 +156,7 @@ module _ (table : List ℕ) (are : Bytes table) (i : ℕ) where
 
 -- the words that a record which acts, and a caught one, leave
 pressed_words : (setup : Setup) (pad : Pad) (table words : List ℕ) (x y i : ℕ) (r : Record) → is_down pad.registers ≡ false
-    → found table (page_of pad.registers) x y ≡ At i r
+    → found table (page_of pad.registers) x y ≡ Some (i, r)
     → (touched setup pad table words x y).words ≡ word_set words r.word (acted_of setup r (word_at_address words r.word) x y)
 unfolding touched Contact.pressed Contact.acting
 pressed_words setup pad table words x y i r up acts =
@@ -166,7 +164,7 @@ pressed_words setup pad table words x y i r up acts =
     ap (λ (b : Bool). (cond b (Contact.held_down setup pad words x y) (Contact.pressed setup pad table words x y)).words) up
     ∙ ap (λ (f : Found). (Contact.acting setup f now pad.catch words x y).words) acts
 
-pub dragged_words : (setup : Setup) (pad : Pad) (table words : List ℕ) (x y : ℕ) (r : Record) → is_down pad.registers ≡ true → pad.catch ≡ Caught r
+pub dragged_words : (setup : Setup) (pad : Pad) (table words : List ℕ) (x y : ℕ) (r : Record) → is_down pad.registers ≡ true → pad.catch ≡ Some r
     → (touched setup pad table words x y).words ≡ word_set words r.word (dragged_of setup r (word_at_address words r.word) x y)
 unfolding touched Contact.held_down Contact.dragging
 dragged_words setup pad table words x y r down is =
@@ -180,7 +178,7 @@ word_set_lem words address value inside = get_or-set_same words address value 0 
 
 -- "Contact while up: .. The first record of the current page holding the point acts"
 module _ (now : Moment) (c : Contact) (are : Bytes c.table) (done : number_given now (contact c) ≡ 0)
-    (up : is_down now.panel.registers ≡ false) (i : ℕ) (r : Record) (acts : found c.table (page_of now.panel.registers) c.x c.y ≡ At i r) where
+    (up : is_down now.panel.registers ≡ false) (i : ℕ) (r : Record) (acts : found c.table (page_of now.panel.registers) c.x c.y ≡ Some (i, r)) where
   acting_good : good_record now.panel.setup r ≡ true
   unfolding number_given
   acting_good =

@@ -1,4 +1,5 @@
 -- Demand 2's touch effects have something to speak of: a step of a low byte, a slider of a high byte that runs downward, and its drag, by computation.
+use Rattle.std.specs.Prelude.{Ok}
 use mathlib.Core.Path.{◌≡◌, refl}
 use mathlib.Core.List.{List, [], ◌∷◌, ◌++◌}
 use Prim.Native.Nat.{ℕ}
@@ -12,7 +13,6 @@ use Rattle.reading.proofs.ByteLists.{all_bytes, tested_bytes}
 use Rattle.words.specs.Words.{word_at_address}
 use Rattle.touch.specs.declared.Setup.{Setup}
 use Rattle.touch.specs.Record.{step_fields, slider_fields, record_of}
-use Rattle.panel.specs.declared.StartAnswer.TheVariants as start
 use Rattle.panel.specs.Start.{started}
 use Rattle.panel.specs.Contacts.{Contact}
 use Rattle.curves.specs.Area.{curve_words}
@@ -72,7 +72,7 @@ pub are_bytes : Bytes table
 unfolding all_bytes
 are_bytes = tested_bytes table refl
 
-up_starts : (started setup table).answer ≡ start.Started
+up_starts : (started setup table).answer ≡ Ok tt
 unfolding computing_contacts
 up_starts = refl
 

@@ -1,4 +1,5 @@
 -- The registers that a contact which is done changes: the status; flag and place where the flag isn't 5A; the page where a next page is shown.
+use Rattle.std.specs.Prelude.{None, Some}
 use mathlib.Core.Path.{◌≡◌, refl, sym, ap, ◌∙◌}
 use mathlib.Core.Logic.{◌⊎◌, ◌≢◌, inl, inr, ⊎_elim}
 use mathlib.Core.Bool.{Bool, true, false, cond}
@@ -15,12 +16,10 @@ use Rattle.registers.specs.Touched.{page_of, with_page, is_down, with_status, wi
 use Rattle.registers.proofs.Touched.{length_with_status, status_only, page_only, length_with_place, place_only}
 use Rattle.registers.proofs.Touching.{place_stays}
 use Rattle.touch.specs.declared.Record.{Record}
-use Rattle.touch.specs.declared.Found.{Found}
-use Rattle.touch.specs.declared.Found.TheVariants.{Nothing, At}
+use Rattle.touch.specs.Table.{Found}
 use Rattle.touch.specs.Record.{no_next}
 use Rattle.touch.specs.Find.{found}
-use Rattle.contact.specs.declared.Catch.{Catch}
-use Rattle.contact.specs.declared.Catch.TheVariants.{Free}
+use Rattle.contact.specs.Contact.{Catch}
 use Rattle.contact.specs.declared.Pad.{Pad}
 use Rattle.contact.specs.Contact as Contact
 use Rattle.touch.specs.declared.Setup.{Setup}
@@ -29,7 +28,7 @@ use Rattle.contact.specs.Contact.{showing, catching, acting, pressed, touched}
 pub data Touches (pad : Pad) (table : List ℕ) (x y address : ℕ) : Type 0 where
   status : address ≡ 0x06 → Touches pad table x y address
   place : register_at pad.registers 0x05 ≢ 0x5A → (address ≡ 0x05) ⊎ ((0x07 ≤ address) × (address < 0x0B)) → Touches pad table x y address
-  page : (i : ℕ) (r : Record) → is_down pad.registers ≡ false → found table (page_of pad.registers) x y ≡ At i r → no_next r ≡ false
+  page : (i : ℕ) (r : Record) → is_down pad.registers ≡ false → found table (page_of pad.registers) x y ≡ Some (i, r) → no_next r ≡ false
       → (address ≡ 0x03) ⊎ (address ≡ 0x04) → Touches pad table x y address
 
 -- where a register lies
@@ -104,7 +103,7 @@ module _ (pad : Pad) (whole : length pad.registers.bytes ≡ register_count) (ta
       go (elsewhere (inr is)) = inl (outside_stays registers whole mark x y address (λ e. omega arith) (inr is) (λ e. omega arith))
 
   -- "then its next page is shown"
-  shown_register : (i : ℕ) (r : Record) → is_down pad.registers ≡ false → found table (page_of pad.registers) x y ≡ At i r → (registers : Registers)
+  shown_register : (i : ℕ) (r : Record) → is_down pad.registers ≡ false → found table (page_of pad.registers) x y ≡ Some (i, r) → (registers : Registers)
       → length registers.bytes ≡ register_count → (catch : Catch)
       → (register_at (showing r registers catch).registers address ≡ register_at registers address) ⊎ Touches pad table x y address
   unfolding showing
@@ -120,7 +119,7 @@ module _ (pad : Pad) (whole : length pad.registers.bytes ≡ register_count) (ta
       paged next (elsewhere (inr at)) = inl (page_only registers long r.next address (inr (omega arith)))
 
       go : (b : Bool) → no_next r ≡ b
-          → (register_at (cond b (Contact.pad_with registers catch) (Contact.pad_with (with_page registers r.next) Free)).registers address ≡ register_at registers address)
+          → (register_at (cond b (Contact.pad_with registers catch) (Contact.pad_with (with_page registers r.next) None)).registers address ≡ register_at registers address)
           ⊎ Touches pad table x y address
       go true next = inl refl
       go false next = paged next (lies address)
@@ -139,8 +138,8 @@ module _ (pad : Pad) (whole : length pad.registers.bytes ≡ register_count) (ta
 
       behind : (f : Found) → found table (page_of pad.registers) x y ≡ f → is_down pad.registers ≡ false
           → (register_at (acting setup f now pad.catch words x y).pad.registers address ≡ register_at now address) ⊎ Touches pad table x y address
-      behind Nothing is up = inl refl
-      behind (At i r) is up = shown_register i r up is now long (catching r pad.catch)
+      behind None is up = inl refl
+      behind (Some (i, r)) is up = shown_register i r up is now long (catching r pad.catch)
 
       go : (b : Bool) → is_down pad.registers ≡ b
           → (register_at (cond b (Contact.held_down setup pad words x y) (pressed setup pad table words x y)).pad.registers address ≡ register_at pad.registers address)

@@ -1,4 +1,6 @@
 -- What the panel's reader tells is what the reading of what it keeps says: whether a report waits, and which.
+use Rattle.std.specs.Prelude.{Option, Some}
+use Rattle.line.specs.declared.Report.{Report}
 use mathlib.Core.Path.{◌≡◌, refl, sym, ap, ◌∙◌}
 use Prim.Native.Nat.{ℕ, ◌≤◌}
 use native.Mathlib.Omega.{arith}
@@ -7,7 +9,6 @@ use Rattle.frame.specs.Frame.{content_of, most_payload, longest_frame}
 use Rattle.reading.specs.Place.{Rules, Seen, pass, wait, bad, accepted, look, report_of}
 use Rattle.reading.specs.Moves.{Kept, waiting, handed, after_report}
 use Rattle.line.specs.declared.Reader.{Reader}
-use Rattle.line.specs.declared.Report.{Report}
 use Rattle.line.specs.declared.Report.TheVariants as line
 use Rattle.line.specs.declared.Asked.{Asked}
 use Rattle.line.specs.State.{reader_of, kept_of}
@@ -60,7 +61,7 @@ module _ (panel : Panel) (sound : Sound panel) where
       ∙ ap (λ (k : Kept). reader_of (line_of panel.setup) (after_report (rules_of panel) k)) (sym kept_same)
 
 -- what asking hands over is the report that waits
-handing_hands : (panel : Panel) (lent : Lent) (a : Asked) (told : Report) (rules : Rules) (seen : Seen) → told ≡ report_as (report_of rules seen)
+handing_hands : (panel : Panel) (lent : Lent) (a : Asked) (told : Option Report) (rules : Rules) (seen : Seen) → told ≡ report_as (report_of rules seen)
     → a.payload ≡ payload_as (report_of rules seen)
     → report_handed (handing a told panel lent).reported.handed (handing a told panel lent).reported.payload ≡ report_of rules seen
 unfolding handing handing_over report_handed report_of report_as payload_as
@@ -98,14 +99,14 @@ sound_ask_hands now sound well =
 
 -- asking with words and room as they must be, where an accepted frame waits
 pub frame_reporting : (panel : Panel) (lent : Lent) → WellLent lent → (command count : ℕ)
-    → (asked panel.reader).report ≡ line.Accepted command count
-    → reporting panel lent ≡ handing (asked panel.reader) (line.Accepted command count) panel lent
+    → (asked panel.reader).report ≡ Some (line.Accepted command count)
+    → reporting panel lent ≡ handing (asked panel.reader) (Some (line.Accepted command count)) panel lent
 unfolding reporting
 frame_reporting panel lent well command count told = rw (well_tested lent well, told)
 
 -- it leaves the reader behind the frame
 pub ask_reads_on : (now : Moment) → WellLent now.lent → (command count : ℕ)
-    → (asked now.panel.reader).report ≡ line.Accepted command count → (after now ask).panel.reader ≡ (asked now.panel.reader).reader
+    → (asked now.panel.reader).report ≡ Some (line.Accepted command count) → (after now ask).panel.reader ≡ (asked now.panel.reader).reader
 unfolding after handing
 ask_reads_on now well command count told =
     ap (λ (r : Reporting). r.reported.panel.reader) (frame_reporting now.panel now.lent well command count told)

@@ -1,4 +1,5 @@
 -- A frame writer that refuses leaves the room that it was lent.
+use Rattle.std.specs.Prelude.{Ok, Err}
 use mathlib.Core.Path.{◌≡◌, refl}
 use mathlib.Core.Bool.{Bool, true, false, cond}
 use mathlib.Core.List.{List, [], ◌∷◌}
@@ -8,7 +9,7 @@ use lib.Dec.{ltb}
 use lib.ListN.{length, replicate}
 use Rattle.wire.specs.Room.{over}
 use Rattle.frame.specs.Frame.{frame_of, most_data, check_length}
-use Rattle.frame.specs.declared.Written.TheVariants.{Frame, DataTooLong, RoomTooSmall}
+use Rattle.frame.specs.declared.WriteError.TheVariants.{DataTooLong, RoomTooSmall}
 use Rattle.frame.specs.Writer.{least_room, Writing, answers, writing, number_of_written}
 
 pub refused_writer_room : (checking : Bool) (header : List ℕ) (command : ℕ) (payload room : List ℕ)
@@ -20,7 +21,7 @@ refused_writer_room checking header command payload room = go (ltb (length room)
     frame = frame_of checking header command payload
 
     written : (small long : Bool) → Writing
-    written small long = cond small (answers RoomTooSmall room) (cond long (answers DataTooLong room) (answers (Frame (length frame)) (over frame room)))
+    written small long = cond small (answers (Err RoomTooSmall) room) (cond long (answers (Err DataTooLong) room) (answers (Ok (length frame)) (over frame room)))
 
     go : (small long : Bool) → 0 < number_of_written (written small long).answer → (written small long).room ≡ room
     go true long above = refl

@@ -1,4 +1,5 @@
 -- 01, "Reading the line": what is asked for and what is held, from a start and over any sequence of calls.
+use Rattle.std.specs.Prelude.{None, Ok}
 use Rattle.std.specs.Prelude.{ℕ, ◌≤◌, ◌≡◌, false, List, ◌++◌, length, replicate}
 use Rattle.frame.specs.Frame.{longest_frame}
 use Rattle.reading.specs.Place.{Report}
@@ -10,9 +11,7 @@ use Rattle.line.specs.State.{rules_for, kept_of}
 use Rattle.commands.specs.Lent.{Lent}
 use Rattle.touch.specs.declared.Setup.{Setup}
 use Rattle.panel.specs.declared.Panel.{Panel}
-use Rattle.panel.specs.declared.StartAnswer.TheVariants as start
 use Rattle.panel.specs.Start.{started}
-use Rattle.panel.specs.declared.Handed.TheVariants as handed
 use Rattle.panel.specs.Sound.{line_of}
 use Rattle.panel.specs.Reporting.{reporting}
 use Rattle.demands.specs.Calls.{Moment, WellLent, Call, ask, begun, after_all, handed_over_all, AllTyped, Arises}
@@ -48,13 +47,13 @@ pub record AsRead (setup : Setup) (now : Moment) (calls : List Call) : Type 0 wh
 -- from every start, after any sequence of calls
 abbrev pub AlwaysAsRead : Type 0
 AlwaysAsRead =
-    (setup : Setup) (table : List ℕ) (lent : Lent) → (started setup table).answer ≡ start.Started
+    (setup : Setup) (table : List ℕ) (lent : Lent) → (started setup table).answer ≡ Ok tt
     → (calls : List Call) → AllTyped calls → AsRead setup (begun setup table lent) calls
 
 -- "reports are then asked for one at a time until the answer is 'nothing'": at a panel that is lent what it must be, the answer says
 -- that no report waits, and 258 asks are enough for it
 pub record AskedUntilNothing (now : Moment) : Type 0 where
-  pub nothing_waits : (reporting now.panel now.lent).reported.handed ≡ handed.Nothing → report_waits now.panel ≡ false
+  pub nothing_waits : (reporting now.panel now.lent).reported.handed ≡ Ok None → report_waits now.panel ≡ false
   pub comes : report_waits (after_all now (replicate longest_frame ask)).panel ≡ false
 
 -- at every moment that calls lead to, where what must be lent is lent

@@ -1,12 +1,12 @@
 -- A build, as far as the idle ones are told from ours: what it hands over and what it leaves, by how it was started and by all the calls that were made of it
 -- since, so that it may go by anything that came before. Demands 2 and 3 are said of any build here; ours keeps both (proofs/Builds). Which inputs were given,
 -- which report an ask hands over and with which number, and when all reports are asked for, is as 01 says (`since`, which is our panel) and not the build's choice.
+use Rattle.std.specs.Prelude.{Ok}
 use Rattle.std.specs.Prelude.{ℕ, ◌<◌, ◌≡◌, List, [], ◌∷◌, ◌++◌}
 use Rattle.reading.specs.Place.{Report}
 use Rattle.reading.specs.Demand3.{accepted_of}
 use Rattle.commands.specs.Lent.{Lent}
 use Rattle.touch.specs.declared.Setup.{Setup}
-use Rattle.panel.specs.declared.StartAnswer.TheVariants as start
 use Rattle.panel.specs.Start.{started}
 use Rattle.demands.specs.Calls.{Moment, Call, ask, begun, after_all, handed_over_all, Halfwords, AllTyped}
 use Rattle.demands.specs.Demand2.{DoesCommands}
@@ -21,7 +21,7 @@ pub record Start : Type 0 where
   pub h2 : setup.h2 < 256
   pub words : Halfwords lent.words
   pub curves : Halfwords lent.curves
-  pub taken : (started setup table).answer ≡ start.Started
+  pub taken : (started setup table).answer ≡ Ok tt
 
 -- the moment right behind a start
 abbrev pub first : Start → Moment

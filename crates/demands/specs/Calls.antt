@@ -1,5 +1,6 @@
 -- Sequences of calls of one panel. Demand 1: "No sequence of line bytes, quiet marks, contacts, lifts, tables or lent buffers ..", and 02, §6: "A new input, one
 -- second".
+use Rattle.std.specs.Prelude.{None, Some, Ok, Err}
 use Prim.{Unit}
 use Rattle.std.specs.Prelude.{ℕ, ◌≤◌, ◌<◌, ◌≡◌, false, cond, List, [], ◌∷◌, ◌++◌, eqb, length, take, get_or}
 use Rattle.wire.specs.Addresses.{word_count}
@@ -12,9 +13,9 @@ use Rattle.watch.specs.Judge.{wrong_list}
 use Rattle.commands.specs.Lent.{Lent}
 use Rattle.touch.specs.declared.Setup.{Setup}
 use Rattle.panel.specs.declared.Panel.{Panel}
-use Rattle.panel.specs.declared.StartAnswer.TheVariants as start
-use Rattle.panel.specs.declared.Handed.{Handed}
+use Rattle.panel.specs.Answers.{AskAnswer}
 use Rattle.panel.specs.declared.Handed.TheVariants as handed
+use Rattle.panel.specs.declared.LentError.TheVariants as lent_error
 use Rattle.panel.specs.Numbers.{report_number, contact_number, lift_number}
 use Rattle.panel.specs.Start.{started}
 use Rattle.panel.specs.Inputs.{fed_byte, fed_mark, fed_second, fed_bytes}
@@ -92,12 +93,12 @@ number_given now (contact c) = contact_number (contacting now.panel c now.lent).
 number_given now lift = lift_number (lifting now.panel).answer
 
 -- the report that an answer hands over: of an accepted frame "its command and data", which stands beside the answer
-unfoldable pub report_handed : Handed → (payload : List ℕ) → List Report
-report_handed handed.NotLent payload = []
-report_handed handed.WrongList payload = []
-report_handed handed.Nothing payload = []
-report_handed (handed.BadCheck command acknowledged) payload = bad_check command ∷ []
-report_handed (handed.Accepted command count outcome acknowledged replied) payload = accepted_frame command (take count payload) ∷ []
+unfoldable pub report_handed : AskAnswer → (payload : List ℕ) → List Report
+report_handed (Err lent_error.NotLent) payload = []
+report_handed (Err lent_error.WrongList) payload = []
+report_handed (Ok None) payload = []
+report_handed (Ok (Some (handed.BadCheck command acknowledged))) payload = bad_check command ∷ []
+report_handed (Ok (Some (handed.Accepted command count outcome acknowledged replied))) payload = accepted_frame command (take count payload) ∷ []
 
 -- "reports are then asked for one at a time": what a call hands over; only asking does
 unfoldable pub handed_over : Moment → Call → List Report
@@ -149,5 +150,5 @@ AllTyped (call ∷ calls) = Typed call × AllTyped calls
 -- the moments that calls lead to from a start: any setup and table that are not refused, whatever is lent
 pub data Arises : Moment → Type 0 where
   from_start : (setup : Setup) (table : List ℕ) (lent : Lent) → setup.h1 < 256 → setup.h2 < 256 → Halfwords lent.words
-      → Halfwords lent.curves → (started setup table).answer ≡ start.Started → Arises (begun setup table lent)
+      → Halfwords lent.curves → (started setup table).answer ≡ Ok tt → Arises (begun setup table lent)
   by_call : (now : Moment) (call : Call) → Typed call → Arises now → Arises (after now call)

@@ -2,14 +2,14 @@
 -- reported count stay." The theorems are in proofs/Demand2.
 use Rattle.std.specs.Prelude.{◌≡◌, true, false, cond, List, [], ◌∷◌, ℕ, ◌+◌, ◌<◌, eqb, length, take, drop}
 use Rattle.reading.specs.Place.{bad_check, accepted_frame}
-use Rattle.panel.specs.declared.Handed.{Handed}
+use Rattle.panel.specs.Answers.{AskAnswer}
 use Rattle.panel.specs.Reporting.{reporting}
 use Rattle.demands.specs.Calls.{Moment, ask, after, number_given, handed_over}
 use Rattle.demands.specs.Reports.{acknowledgement_of}
 use Rattle.demands.specs.Demand2.{read_reply, fetch_reply}
 
 -- what asking answers: the report that it hands over, with its counts
-abbrev pub handed_by : Moment → Handed
+abbrev pub handed_by : Moment → AskAnswer
 handed_by now = (reporting now.panel now.lent).reported.handed
 
 -- "Reply 0x81, address, count, bytes."; "Reply 0x83, address, count, words.": the reply frame to a command that asking hands over, where it is done

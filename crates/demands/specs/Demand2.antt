@@ -1,6 +1,7 @@
 -- Demand 2: "Frames, check values, register and word access, and touch effects are those of the public SGUS and AGUS manuals as condensed in document
 -- 01. What our frame writer writes, our reader reads back as the same command and data. No word or register changes but those the command or touch
 -- rule names." 02, §2: "Demand 2 covers channels by the whole history": that is in specs/History. The theorems are in proofs/Demand2.
+use Rattle.std.specs.Prelude.{None, Some}
 use Rattle.std.specs.Prelude.{ℕ, ◌+◌, ◌*◌, ◌≤◌, ◌<◌, ◌≡◌, ◌⊎◌, ◌≢◌, true, false, cond, List, [], ◌∷◌, ◌++◌, eqb, length, get_or, drop}
 use Rattle.wire.specs.ByteOrder.{high_first, byte_at, word_at}
 use Rattle.wire.specs.Room.{over}
@@ -23,12 +24,10 @@ use Rattle.commands.specs.Effect.{registers_left, counts_left, catch_dropped}
 use Rattle.registers.specs.Touched.{page_of, is_down}
 use Rattle.words.specs.Words.{word_at_address, words_of, bytes_of, word_run, words_written}
 use Rattle.touch.specs.declared.Record.{Record}
-use Rattle.touch.specs.declared.Found.TheVariants.{At}
 use Rattle.touch.specs.Setup.{checking_of}
 use Rattle.touch.specs.Record.{no_next}
 use Rattle.touch.specs.Find.{found}
-use Rattle.contact.specs.declared.Catch.{Catch}
-use Rattle.contact.specs.declared.Catch.TheVariants.{Free, Caught}
+use Rattle.contact.specs.Contact.{Catch}
 use Rattle.contact.specs.Contact as Touch
 use Rattle.panel.specs.Contacts.{Contact}
 use Rattle.panel.specs.Watching.{telling}
@@ -43,10 +42,10 @@ pub data NamesWord (now : Moment) (k : ℕ) : Call → Type 0 where
       → word_at content 0 ≤ k → k < word_at content 0 + length (words_of (drop 2 content)) → NamesWord now k ask
   -- "Contact while up: .. The first record of the current page holding the point acts"
   by_acting : (c : Contact) (i : ℕ) (r : Record) → number_given now (contact c) ≡ 0 → is_down now.panel.registers ≡ false
-      → found c.table (page_of now.panel.registers) c.x c.y ≡ At i r → k ≡ r.word → NamesWord now k (contact c)
+      → found c.table (page_of now.panel.registers) c.x c.y ≡ Some (i, r) → k ≡ r.word → NamesWord now k (contact c)
   -- "Contact while down: .. a caught slider stores ..; nothing else acts"
   by_dragging : (c : Contact) (r : Record) → number_given now (contact c) ≡ 0 → is_down now.panel.registers ≡ true
-      → now.panel.catch ≡ Caught r → k ≡ r.word → NamesWord now k (contact c)
+      → now.panel.catch ≡ Some r → k ≡ r.word → NamesWord now k (contact c)
   -- the caller lends other words, with another number there
   by_lending : (lent : Lent) → word_at_address lent.words k ≢ word_at_address now.lent.words k → NamesWord now k (lend lent)
 
@@ -62,7 +61,7 @@ pub data NamesRegister (now : Moment) (address : ℕ) : Call → Type 0 where
       → (address ≡ 0x05) ⊎ ((0x07 ≤ address) × (address < 0x0B)) → NamesRegister now address (contact c)
   -- "The first record of the current page holding the point acts, then its next page is shown.": 03-04
   by_page : (c : Contact) (i : ℕ) (r : Record) → number_given now (contact c) ≡ 0 → is_down now.panel.registers ≡ false
-      → found c.table (page_of now.panel.registers) c.x c.y ≡ At i r → no_next r ≡ false → (address ≡ 0x03) ⊎ (address ≡ 0x04)
+      → found c.table (page_of now.panel.registers) c.x c.y ≡ Some (i, r) → no_next r ≡ false → (address ≡ 0x03) ⊎ (address ≡ 0x04)
       → NamesRegister now address (contact c)
   -- 02, §6: "Demand 2's last sentence then also lets a second change the clock's registers": 20 to 26
   by_second : number_given now second ≡ 0 → 0x20 ≤ address → address ≤ 0x26 → NamesRegister now address second
@@ -120,7 +119,7 @@ leaving now command registers catch counts lent reply =
 -- "0x80, address (1), one or more bytes: write registers." "Every page write by a command .. drops the catch." 02, §2: "Register EB .. clears"; the area stays
 unfoldable pub after_write : Moment → List ℕ → Moment
 after_write now content =
-    leaving now 0x80 (registers_left now.panel.registers content) (cond (catch_dropped content) Free now.panel.catch)
+    leaving now 0x80 (registers_left now.panel.registers content) (cond (catch_dropped content) None now.panel.catch)
     (counts_left now.panel.counts content) now.lent []
 
 -- "0x81, address (1), count (1): read registers. Reply 0x81, address, count, bytes."

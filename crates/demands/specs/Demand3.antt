@@ -1,5 +1,6 @@
 -- Demand 3, over a panel and any sequence of calls. The words about frames (good frames end to end, what has come of one that is not whole, no place
 -- that begins one, the frames accepted) are those of crate reading, specs/Demand3.
+use Rattle.std.specs.Prelude.{Ok}
 use Rattle.std.specs.Prelude.{ℕ, ◌≤◌, ◌≡◌, true, false, List, [], ◌∷◌, ◌++◌, map, length}
 use Rattle.reading.specs.Place.{Report}
 use Rattle.reading.specs.Line as Line
@@ -9,7 +10,6 @@ use Rattle.line.specs.State.{kept_of}
 use Rattle.commands.specs.Lent.{Lent}
 use Rattle.touch.specs.declared.Setup.{Setup}
 use Rattle.touch.specs.Setup.{checking_of}
-use Rattle.panel.specs.declared.StartAnswer.TheVariants as start
 use Rattle.panel.specs.Start.{new_panel, started}
 use Rattle.demands.specs.Calls.{Moment, Call, begun, after_all, handed_over_all, AllTyped, Arises}
 use Rattle.demands.specs.Reports.{rules_of, report_waits}
@@ -90,7 +90,7 @@ pub record AsNew (setup : Setup) (table : List ℕ) (now : Moment) : Type 0 wher
 -- "After a quiet mark and its reports, with checking on or off, reading goes on as from a new panel, and no premise is needed.": from every start, in any calls
 abbrev pub AfterAMark : Type 0
 AfterAMark =
-    (setup : Setup) (table : List ℕ) (lent : Lent) → (started setup table).answer ≡ start.Started
+    (setup : Setup) (table : List ℕ) (lent : Lent) → (started setup table).answer ≡ Ok tt
     → (calls : List Call) → AllTyped calls
     → (before : List Input) → given_all (begun setup table lent) calls ≡ before ++ (Line.mark ∷ [])
     → AllAskedFor (begun setup table lent) calls
@@ -99,7 +99,7 @@ AfterAMark =
 -- and so, where checking is on, the first sentence applies again
 abbrev pub ReadyAgain : Type 0
 ReadyAgain =
-    (setup : Setup) (table : List ℕ) (lent : Lent) → Arises (begun setup table lent) → (started setup table).answer ≡ start.Started
+    (setup : Setup) (table : List ℕ) (lent : Lent) → Arises (begun setup table lent) → (started setup table).answer ≡ Ok tt
     → (calls : List Call) → AllTyped calls
     → (before : List Input) → given_all (begun setup table lent) calls ≡ before ++ (Line.mark ∷ [])
     → AllAskedFor (begun setup table lent) calls

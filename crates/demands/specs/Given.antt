@@ -1,16 +1,17 @@
 -- 01, "Reading the line": which inputs a sequence of calls has given to the panel.
+use Rattle.std.specs.Prelude.{Result, Ok, Err}
+use Rattle.line.specs.declared.Waiting.{Waiting}
 use Rattle.std.specs.Prelude.{List, [], ◌∷◌, ◌++◌, map, take}
 use Rattle.reading.specs.Line as Line
 use Rattle.reading.specs.Line.{Input}
-use Rattle.line.specs.declared.Answer.{Answer}
-use Rattle.line.specs.declared.Answer.TheVariants.{Done, Waits}
+use Rattle.line.specs.declared.Waiting.TheVariants.{ReportWaits}
 use Rattle.panel.specs.Inputs.{fed_byte, fed_mark, fed_bytes}
 use Rattle.demands.specs.Calls.{Moment, Call, lend, byte, bytes, mark, second, ask, contact, lift, after}
 
 -- "An input refused with 1 was not given"
-unfoldable pub unless_refused : Answer → Input → List Input
-unless_refused Done input = input ∷ []
-unless_refused Waits input = []
+unfoldable pub unless_refused : Result Unit Waiting → Input → List Input
+unless_refused (Ok tt) input = input ∷ []
+unless_refused (Err ReportWaits) input = []
 
 -- "An input refused with 1 was not given": the inputs of the line that a call gives, a byte, a mark, or as many of the bytes as were taken. A
 -- second is none of them

@@ -1,11 +1,10 @@
 -- 01, "Reading the line": when an input is answered 1, and when asking is answered "nothing", over the reading of all that was given.
+use Rattle.std.specs.Prelude.{None, Ok}
 use Rattle.std.specs.Prelude.{ℕ, ◌≡◌, List, [], ◌∷◌, ◌++◌, map}
 use Rattle.wire.specs.Bytes.{Bytes}
 use Rattle.reading.specs.Place.{Report}
 use Rattle.commands.specs.Lent.{Lent}
 use Rattle.touch.specs.declared.Setup.{Setup}
-use Rattle.panel.specs.declared.StartAnswer.TheVariants as start
-use Rattle.panel.specs.declared.Handed.TheVariants as handed
 use Rattle.panel.specs.Start.{started}
 use Rattle.panel.specs.Contacts.{Contact}
 use Rattle.panel.specs.Reporting.{reporting}
@@ -45,7 +44,7 @@ pub record AnsweredOne (setup : Setup) (now : Moment) (calls : List Call) : Type
 
 -- "reports are then asked for one at a time until the answer is 'nothing'": that answer
 abbrev pub AnswersNothing : Moment → Type 0
-AnswersNothing now = (reporting now.panel now.lent).reported.handed ≡ handed.Nothing
+AnswersNothing now = (reporting now.panel now.lent).reported.handed ≡ Ok None
 
 -- what the answer 'nothing' tells: no report is handed over, and the number is 0
 abbrev pub HandsNothingOver : Moment → Type 0
@@ -59,12 +58,12 @@ pub record AnsweredNothing (setup : Setup) (now : Moment) (calls : List Call) : 
 -- "While one of them is left, a report waits": from every start, over any sequence of calls
 abbrev pub OneWhileLeft : Type 0
 OneWhileLeft =
-    (setup : Setup) (table : List ℕ) (lent : Lent) → (started setup table).answer ≡ start.Started
+    (setup : Setup) (table : List ℕ) (lent : Lent) → (started setup table).answer ≡ Ok tt
     → (calls : List Call) → AllTyped calls → AnsweredOne setup (begun setup table lent) calls
 
 -- "until the answer is 'nothing'": from every start, over any sequence of calls, where what must be lent is lent at the end of it
 abbrev pub NothingWhereNoneLeft : Type 0
 NothingWhereNoneLeft =
-    (setup : Setup) (table : List ℕ) (lent : Lent) → (started setup table).answer ≡ start.Started
+    (setup : Setup) (table : List ℕ) (lent : Lent) → (started setup table).answer ≡ Ok tt
     → (calls : List Call) → AllTyped calls → WellLent (after_all (begun setup table lent) calls).lent
     → AnsweredNothing setup (begun setup table lent) calls

@@ -1,7 +1,7 @@
 -- A read that is replied to: "Reply 0x81, address, count, bytes.", "Reply 0x83, address, count, words."
+use Rattle.std.specs.Prelude.{Ok}
 use Rattle.std.specs.Prelude.{◌≡◌, true, List, ℕ, length}
 use Rattle.frame.specs.Frame.{frame_of}
-use Rattle.commands.specs.declared.Outcome.TheVariants.{Done}
 use Rattle.touch.specs.Setup.{checking_of}
 use Rattle.panel.specs.declared.Handed.TheVariants.{Accepted}
 use Rattle.panel.specs.State.{header_of}
@@ -15,6 +15,6 @@ use Rattle.demands.specs.Counts.{handed_by}
 pub record Replied (now : Moment) (command : ℕ) (content payload : List ℕ) : Type 0 where
   pub done : number_given now ask ≡ 0
   pub counts : handed_by now
-      ≡ Accepted command (length content) Done (length (acknowledgement_of now.panel.setup command true))
+      ≡ Accepted command (length content) (Ok tt) (length (acknowledgement_of now.panel.setup command true))
       (length (frame_of (checking_of now.panel.setup) (header_of now.panel.setup) command payload))
   pub room : (after now ask).lent.room ≡ with_reply now command payload

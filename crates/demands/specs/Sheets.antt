@@ -1,14 +1,13 @@
 -- 02, §5, of a panel's calls: the same panel by the other scale sheet, and the contacts at which the sheet does not matter.
+use Rattle.std.specs.Prelude.{Some}
 use Rattle.std.specs.Prelude.{◌≡◌, true, false, ◌⊎◌, ℕ}
 use Rattle.wire.specs.Numbers.{Said}
 use Rattle.stores.specs.Sheets.{AtEdge}
 use Rattle.touch.specs.declared.Setup.{Setup}
 use Rattle.touch.specs.declared.Record.{Record}
-use Rattle.touch.specs.declared.Found.TheVariants.{At}
 use Rattle.touch.specs.Record.{slides, along, first_edge, last_edge}
 use Rattle.touch.specs.Find.{found}
 use Rattle.registers.specs.Touched.{is_down, page_of}
-use Rattle.contact.specs.declared.Catch.TheVariants.{Caught}
 use Rattle.panel.specs.declared.Panel.{Panel}
 use Rattle.panel.specs.Contacts.{Contact, contacting}
 use Rattle.panel.specs.Numbers.{contact_said}
@@ -35,8 +34,8 @@ answer_to now c =
 
 -- the record by which a contact stores: "The first record of the current page holding the point acts"; "Contact while down: .. a caught slider stores"
 pub data ActsAt (now : Moment) (c : Contact) (r : Record) : Type 0 where
-  while_up : (i : ℕ) → is_down now.panel.registers ≡ false → found c.table (page_of now.panel.registers) c.x c.y ≡ At i r → ActsAt now c r
-  while_down : is_down now.panel.registers ≡ true → now.panel.catch ≡ Caught r → ActsAt now c r
+  while_up : (i : ℕ) → is_down now.panel.registers ≡ false → found c.table (page_of now.panel.registers) c.x c.y ≡ Some (i, r) → ActsAt now c r
+  while_down : is_down now.panel.registers ≡ true → now.panel.catch ≡ Some r → ActsAt now c r
 
 -- "Both agree at the two edges": where a slider acts, the point is at an edge of it or beyond
 abbrev pub EdgesOnly : Moment → Contact → Type 0

@@ -1,6 +1,6 @@
 -- Laws of good frames: the frame for any command and data within the limit is good, and every good frame is one of these.
 use mathlib.Core.Path.{◌≡◌, refl, sym, ap, ap₂, ◌∙◌}
-use mathlib.Core.Bool.{Bool, true, false, ◌&&◌}
+use mathlib.Core.Bool.{Bool, true, false}
 use mathlib.Core.List.{List, [], ◌∷◌, ◌++◌, append_assoc, append-nil}
 use Prim.Native.Nat.{ℕ, suc, ◌+◌, ◌-◌, ◌≤◌, ◌<◌}
 use native.Mathlib.Omega.{arith}
@@ -9,6 +9,7 @@ use lib.Dec.{eqb}
 use lib.ListN.{length, get_or, take, drop, length-append, length-drop, take-append-drop, drop_of_length-le}
 use lib.Seq.{take_at, take_all, take-append_seam, get_or-append_seam, get_or-append-add, drop-cons}
 use Rattle.wire.specs.ByteOrder.{low_byte, high_byte}
+use Rattle.wire.proofs.Truths.{and_left, and_right}
 use Rattle.check_value.specs.CheckValue.{check_value}
 use Rattle.frame.specs.Frame.{check_length, check_bytes, length_byte, enclosed, framed, frame_of, least_length, most_data, content_of, right_check, GoodFrame}
 use Rattle.frame.proofs.Laying.{length_check_bytes}
@@ -50,10 +51,6 @@ two_left n xs is =
     ∙ ap (λ (rest : List ℕ). get_or xs n 0 ∷ rest)
     (drop-cons xs (suc n) 0 (omega arith) ∙ ap₂ (λ (b : ℕ) (rest : List ℕ). b ∷ rest) (ap (λ (k : ℕ). get_or xs k 0) (sym one)) (drop_of_length-le xs all))
 
-both : (a b : Bool) → (a && b) ≡ true → (a ≡ true) × (b ≡ true)
-both true b t = (refl, t)
-both false b t = absurd (let z : ◌≡◌ {A = ℕ} 0 1 = cc in omega arith)
-
 -- right check bytes are those that are sent
 pub right_is_check : (checking : Bool) (body : List ℕ) → least_length checking ≤ length body → right_check checking body ≡ true
     → body ≡ content_of checking body ++ check_bytes checking (content_of checking body)
@@ -62,11 +59,12 @@ right_is_check false body least right = sym (append-nil (take (length body - 0) 
 right_is_check true body least right =
     let n = length body - 2 in
     let value = check_value (take n body) in
-    let bytes = both (eqb (get_or body n 0) (low_byte value)) (eqb (get_or body (n + 1) 0) (high_byte value)) right in
+    let low = eqb (get_or body n 0) (low_byte value) in
+    let high = eqb (get_or body (n + 1) 0) (high_byte value) in
     let long : length body ≡ n + 2 = omega arith in
     sym (take-append-drop n body)
     ∙ ap (λ (rest : List ℕ). take n body ++ rest)
-    (two_left n body long ∙ ap₂ (λ (a b : ℕ). a ∷ b ∷ []) (eqb-true (get_or body n 0) (low_byte value) bytes.0) (eqb-true (get_or body (n + 1) 0) (high_byte value) bytes.1))
+    (two_left n body long ∙ ap₂ (λ (a b : ℕ). a ∷ b ∷ []) (eqb-true (get_or body n 0) (low_byte value) (and_left low high right)) (eqb-true (get_or body (n + 1) 0) (high_byte value) (and_right low high right)))
 
 -- "whatever its command and data": the frame for any command and data within the limit is good
 pub frame_of_good : (checking : Bool) (header : List ℕ) (command : ℕ) (payload : List ℕ) → length payload ≤ most_data checking

@@ -11,7 +11,7 @@ use Rattle.wire.specs.Room.{over}
 use Rattle.wire.proofs.Over.{over_part, over_mid, over_longer, take_over}
 use Rattle.frame.specs.Frame.{check_length, check_bytes, enclosed}
 
-pub first_laid : (b : ℕ) (room : List ℕ) → 1 ≤ length room → set room 0 b ≡ over (b ∷ []) room
+first_laid : (b : ℕ) (room : List ℕ) → 1 ≤ length room → set room 0 b ≡ over (b ∷ []) room
 unfolding over
 first_laid b room fits = sets-eq (b ∷ []) room 0 fits
 
@@ -28,11 +28,11 @@ content_checked checking n content room l r is p q =
     q ∙ rw (front, p) (over_longer content (check_bytes checking content) room)
 
 -- a command laid first, and its data copied behind it
-pub command_laid : (command : ℕ) (payload room l r : List ℕ) → l ≡ over (command ∷ []) room → r ≡ payload
-    → put_mid 1 (1 + length payload - 1) l r ≡ over (command ∷ payload) room
-command_laid command payload room l r p q =
+pub command_laid : (command : ℕ) (payload room r : List ℕ) → 1 ≤ length room → r ≡ payload
+    → put_mid 1 (1 + length payload - 1) (set room 0 command) r ≡ over (command ∷ payload) room
+command_laid command payload room r fits q =
     let n : length payload ≡ 1 + length payload - 1 = omega arith in
-    rw q (over_mid (command ∷ []) payload room l 1 (1 + length payload - 1) refl n p)
+    rw q (over_mid (command ∷ []) payload room (set room 0 command) 1 (1 + length payload - 1) refl n (first_laid command room fits))
 
 pub length_prefix : (header : List ℕ) (l : ℕ) → length (header ++ (l ∷ [])) ≡ length header + 1
 length_prefix header l = length-append header (l ∷ [])

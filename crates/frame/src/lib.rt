@@ -1,4 +1,6 @@
-// Frames of 01, "Frame": the public frame writer, and the inner writers that lay frames into a part of a lent room.
+// Frames of 01, "Frame": the public frame writer, and the inner writers that lay frames into a part of a lent room. Header and checking choice
+// are parameters of their own, as 01 lists them: "any header pair, checking choice, command byte, data and room". An inner writer answers how many
+// bytes it laid, 0 where none: callers go on behind them (`&mut room[k..]`), and of an Option they would take that number again.
 #![tactic(auto)]
 
 ghost use Rattle.std.specs.Prelude.{◌≡◌, [], ◌∷◌, ◌++◌, ◌+◌, ◌≤◌, length, take};
@@ -39,6 +41,7 @@ const ACKNOWLEDGEMENT_LENGTH: u8 = 2;
 const BEHIND_HEADER: usize = 5;
 
 impl Header {
+    #[tactic(auto, unfolding(crate::specs::Frame::header_bytes))]
     pub fn length(self) -> usize
         ensures value { result ≡ length (header_bytes self) }
         ensures upper_bound { result ≤ 2 }
@@ -48,6 +51,7 @@ impl Header {
 }
 
 // How many check bytes a frame has.
+#[tactic(auto, unfolding(crate::specs::Frame::check_length))]
 pub fn check_length(checking: bool) -> usize
     ensures value { result ≡ check_length checking }
     ensures upper_bound { result ≤ 2 }
@@ -56,6 +60,7 @@ pub fn check_length(checking: bool) -> usize
 }
 
 // How much data a frame can carry.
+#[tactic(auto, unfolding(crate::specs::Frame::most_data))]
 pub fn most_data(checking: bool) -> usize
     ensures value { result ≡ most_data checking }
     ensures upper_bound { result ≤ most_payload }
@@ -64,13 +69,12 @@ pub fn most_data(checking: bool) -> usize
 }
 
 // Lays header and length byte.
+#[tactic(auto, unfolding(crate::specs::Frame::header_bytes, wire::specs::Room::over))]
 fn put_prefix(header: Header, l: u8, room: &mut [u8])
     requires { length (header_bytes header) + 1 ≤ length room.old }
     ensures { room.new ≡ over (header_bytes header ++ (l ∷ [])) room.old }
 {
-    room[0] = header.h1;
-    room[1] = header.h2;
-    room[2] = l;
+    room[..3].copy_from_slice(&[header.h1, header.h2, l]);
 }
 
 // Lays the check bytes behind the n bytes of command and data that stand at the front; answers how long both are.
@@ -78,22 +82,12 @@ fn put_check(checking: bool, n: usize, body: &mut [u8]) -> usize
     requires { n + check_length checking ≤ length body.old }
     ensures { (result ≡ n + check_length checking) × (body.new ≡ over (take n body.old ++ check_bytes checking (take n body.old)) body.old) }
 {
-    if checking {
-        let value = check_value::check_value(&body[..n]);
-        body[n] = wire::low_byte(value);
-        body[n + 1] = wire::high_byte(value);
-        n + 2
-    } else {
-        n
+    if !checking {
+        return n;
     }
-}
-
-// Lays one byte.
-fn put_first(b: u8, room: &mut [u8])
-    requires { 1 ≤ length room.old }
-    ensures { room.new ≡ over (b ∷ []) room.old }
-{
-    room[0] = b;
+    let value = check_value::check_value(&body[..n]);
+    body[n..n + 2].copy_from_slice(&value.to_le_bytes());
+    n + 2
 }
 
 // Lays command, data and check bytes; answers how long they are.
@@ -101,10 +95,10 @@ fn put_body(checking: bool, command: u8, payload: &[u8], body: &mut [u8]) -> usi
     requires { 1 + length payload.now + check_length checking ≤ length body.old }
     ensures { (result ≡ 1 + length payload.now + check_length checking) × (body.new ≡ over ((command ∷ payload.now) ++ check_bytes checking (command ∷ payload.now)) body.old) }
 {
-    put_first(command, body);
-    let n = payload.len();
-    body[1..1 + n].copy_from_slice(payload);
-    put_check(checking, 1 + n, body)
+    let n = 1 + payload.len();
+    body[0] = command;
+    body[1..n].copy_from_slice(payload);
+    put_check(checking, n, body)
 }
 
 // Lays a frame whose length byte is l.
@@ -121,8 +115,7 @@ fn put_enclosed(
 {
     put_prefix(header, l, room);
     let k = header.length() + 1;
-    let m = put_body(checking, command, payload, &mut room[k..]);
-    k + m
+    k + put_body(checking, command, payload, &mut room[k..])
 }
 
 // Lays a frame at the front of a lent part of a room: the panel's way to write, without the test for 265 bytes.
@@ -147,6 +140,7 @@ pub fn put_frame(
 }
 
 // FF for an accepted frame, 00 for a bad check.
+#[tactic(auto, unfolding(crate::specs::Acknowledgement::verdict))]
 fn verdict_byte(accepted: bool) -> u8
     ensures { result ≡ verdict accepted }
 {
@@ -160,13 +154,12 @@ pub fn put_acknowledgement(header: Header, command: u8, accepted: bool, room: &m
     if room.len() < header.length() + BEHIND_HEADER {
         return 0;
     }
-    let payload = [verdict_byte(accepted)];
     put_enclosed(
         header,
         ACKNOWLEDGEMENT_LENGTH,
         true,
         command,
-        &payload,
+        &[verdict_byte(accepted)],
         room,
     )
 }
@@ -184,8 +177,7 @@ pub fn close_frame(header: Header, checking: bool, n: usize, room: &mut [u8]) ->
         return 0;
     }
     put_prefix(header, l as u8, room);
-    let m = put_check(checking, n, &mut room[k..]);
-    k + m
+    k + put_check(checking, n, &mut room[k..])
 }
 
 // The frame writer of 01.

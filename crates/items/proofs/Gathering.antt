@@ -5,7 +5,7 @@ use Prim.Native.Nat.{ℕ, zero, suc, ◌+◌, ◌*◌, ◌-◌, ◌/◌, ◌≤�
 use native.Mathlib.Nat.{sub-zero}
 use native.Mathlib.Omega.{arith}
 use borrow.Author.Tests.{ne_eqb}
-use lib.ListN.{length, take, drop, get_or, set, length-drop, length-set}
+use lib.ListN.{length, take, drop, get_or, set, length-drop}
 use lib.Seq.{drop-cons, take-suc-set, length-take-le}
 use Rattle.wire.specs.Room.{over, Laid, lays}
 use Rattle.wire.proofs.Over.{over_nil, over_more, take_over, length_over}
@@ -40,23 +40,20 @@ run_over (suc m) (kind ∷ b ∷ rest) none = absurd (omega arith)
 
 -- a run so far: what is gathered lies over the room, and with what is still to come it is the whole
 pub record Gathering (input room run : List ℕ) (n : ℕ) : Type 0 where
-  pub few : n ≤ length room
-  pub long : length run ≡ length room
   pub so_far : line_run (length room) input ≡ take n run ++ line_run (length room - n) (drop (2 * n) input)
   pub over_room : run ≡ over (take n run) room
 
 pub run_begins : (input room : List ℕ) → Gathering input room room 0
 run_begins input room =
     record {
-      few = omega arith;
-      long = refl;
       so_far = ap (λ (m : ℕ). line_run m input) (sym (sub-zero (length room)));
       over_room = sym (over_nil room);
     }
 
-module _ (input room run : List ℕ) (n : ℕ) (g : Gathering input room run n) where
+module _ (input room run : List ℕ) (n most : ℕ) (g : Gathering input room run n) (long : length run ≡ length room)
+    (is-most : most ≡ min (length room) (length input / 2)) (within : n ≤ most) where
   front_long : length (take n run) ≡ n
-  front_long = length-take-le n run (omega (arith, g.few, g.long))
+  front_long = length-take-le n run (omega arith)
 
   whole_run : take n run ≡ line_run (length room) input → lays n run ≡ gathered input room
   unfolding gathered
@@ -64,9 +61,9 @@ module _ (input room run : List ℕ) (n : ℕ) (g : Gathering input room run n) 
       ap (λ (k : ℕ). lays k run) (sym front_long) ∙ ap (λ (l : List ℕ). lays (length (take n run)) l) g.over_room
       ∙ ap (λ (l : List ℕ). lays (length l) (over l room)) is
 
-  module _ (most : ℕ) (is-most : most ≡ min (length room) (length input / 2)) (more : n < most) where
+  module _ (more : n < most) where
     run_room : n < length run
-    run_room = omega (arith, g.long)
+    run_room = omega arith
 
     run_inside : 2 * n + 1 < length input
     run_inside = omega arith
@@ -74,7 +71,7 @@ module _ (input room run : List ℕ) (n : ℕ) (g : Gathering input room run n) 
     left_is : line_run (length room - n) (drop (2 * n) input)
         ≡ line_run (suc (length room - (n + 1))) (get_or input (2 * n) 0 ∷ get_or input (2 * n + 1) 0 ∷ drop (2 * (n + 1)) input)
     left_is =
-        let a : length room - n ≡ suc (length room - (n + 1)) = omega (arith, run_room, g.long) in
+        let a : length room - n ≡ suc (length room - (n + 1)) = omega arith in
         ap (λ (m : ℕ). line_run m (drop (2 * n) input)) a
         ∙ ap (λ (l : List ℕ). line_run (suc (length room - (n + 1))) l) (pair_front input n run_inside)
 
@@ -103,20 +100,18 @@ module _ (input room run : List ℕ) (n : ℕ) (g : Gathering input room run n) 
       laid : set run n b ≡ over (take (n + 1) (set run n b)) room
       laid =
           ap (λ (l : List ℕ). set l n b) g.over_room
-          ∙ over_more (take n run) room b n front_long (omega (arith, run_room, g.long))
+          ∙ over_more (take n run) room b n front_long (omega arith)
           ∙ ap (λ (l : List ℕ). over l room) (sym put)
 
       pub run_more : Gathering input room (set run n b) (n + 1)
       run_more =
           record {
-            few = omega (arith, run_room, g.long);
-            long = length-set run n b ∙ g.long;
             so_far = further;
             over_room = laid;
           }
 
-  pub run_ends : (most : ℕ) → most ≡ min (length room) (length input / 2) → n ≤ most → most ≤ n → lays most run ≡ gathered input room
-  run_ends most is-most within all =
+  pub run_ends : most ≤ n → lays most run ≡ gathered input room
+  run_ends all =
       let done : n ≡ most = omega arith in
       let none : min (length room - n) (length (drop (2 * n) input) / 2) ≡ 0 = rw length-drop (omega arith) in
       ap (λ (k : ℕ). lays k run) (sym done)

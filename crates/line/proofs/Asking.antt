@@ -7,7 +7,7 @@ use Prim.Native.Nat.{ℕ, ◌+◌, ◌-◌, ◌≤◌}
 use native.Mathlib.Omega.{arith}
 use borrow.Author.Tests.{ltb-false}
 use lib.Dec.{eqb, ltb}
-use lib.ListN.{length, take, drop, length-take}
+use lib.ListN.{length, take, drop}
 use lib.Seq.{take-take}
 use Rattle.frame.specs.Frame.{header_bytes, content_of, longest_frame, most_payload}
 use Rattle.place.specs.declared.Look.{Look}
@@ -31,12 +31,6 @@ module _ (k n : ℕ) (obeyed : (eqb k 0 || ltb n k || ltb longest_frame n) ≡ f
 
   pub held_fits : n ≤ longest_frame
   held_fits = ltb-false longest_frame n (or_right (eqb k 0 || ltb n k) (ltb longest_frame n) obeyed)
-
-  pub part_inside : (held : List ℕ) → length held ≡ longest_frame → n ≤ length held
-  part_inside held long = let b = held_fits in omega arith
-
-  pub rest_fits : (j : ℕ) (held : List ℕ) → length (take (n - j) (drop j held)) ≤ longest_frame
-  rest_fits j held = let b = held_fits in simp length-take (omega arith)
 
 pub body_inside : (held : List ℕ) (h l : ℕ) → length held ≡ longest_frame → h ≤ 2 → l ≤ 255 → h + 1 + l ≤ length held
 body_inside held h l long short byte = omega arith
@@ -80,8 +74,8 @@ none_there : (header : List ℕ) (checking : Bool) (head : Look) (body : List �
     → (eqb (span header head) 0 || ltb n (span header head) || ltb longest_frame n) ≡ true
 none_there header checking Pass body n none = refl
 none_there header checking Wait body n none = refl
-none_there header checking (Bad command) body n none = absurd (let z : ◌≡◌ {A = ℕ} 0 1 = cc in omega arith)
-none_there header checking (Good l) body n none = absurd (let z : ◌≡◌ {A = ℕ} 0 1 = cc in omega arith)
+none_there header checking (Bad command) body n none = cc
+none_there header checking (Good l) body n none = cc
 
 keeps_if : (none : Bool) (reader next : Reader) (report : Option Report) (payload empty : List ℕ) → (report ≡ None → none ≡ true)
     → (cond none (ask_gives None empty reader) (ask_gives report payload next)).report ≡ None
@@ -89,7 +83,7 @@ keeps_if : (none : Bool) (reader next : Reader) (report : Option Report) (payloa
 keeps_if true reader next report payload empty only is = refl
 keeps_if false reader next report payload empty only is =
     let e : false ≡ true = only is in
-    absurd (let z : ◌≡◌ {A = ℕ} 0 1 = cc in omega arith)
+    cc
 
 pub nothing_keeps : (reader : Reader) → (asked reader).report ≡ None → (asked reader).reader ≡ reader
 unfolding asked

@@ -11,7 +11,6 @@ use Rattle.frame.specs.Frame.{least_length}
 use Rattle.reading.specs.Place.{Rules, pass, wait, cut_short, decided_by_check, after_header, behind, look}
 use Rattle.reading.specs.Moves.{is_pass}
 use Rattle.line.specs.Inner.{decided_at}
-use Rattle.wire.proofs.Truths.{never}
 
 -- while fewer than w bytes are held, with these in front, the front waits
 unfoldable pub Blind : Rules → List ℕ → ℕ → Type 0
@@ -37,7 +36,7 @@ blind_length checking l xs ys stands short = go (ltb l (least_length checking)) 
   where
     go : (b : Bool) → is_pass (cond b pass (cond (ltb (length xs) l) wait (decided_by_check checking (take l xs)))) ≡ false
         → cond b pass (cond (ltb (length (xs ++ ys)) l) wait (decided_by_check checking (take l (xs ++ ys)))) ≡ wait
-    go true is = never (cc)
+    go true is = cc
     go false is = rw (lt-ltb (length (xs ++ ys)) l short)
 
 blind_behind : (checking : Bool) (header xs ys : List ℕ) → is_pass (behind checking false header xs) ≡ false → length header < length xs
@@ -52,7 +51,7 @@ blind_behind checking (h ∷ header) (x ∷ xs) ys stands long short =
     go : (b : Bool) → (is_pass (behind checking false header xs) ≡ false → behind checking false header (xs ++ ys) ≡ wait)
         → is_pass (cond b (behind checking false header xs) pass) ≡ false → cond b (behind checking false header (xs ++ ys)) pass ≡ wait
     go true ih is = ih is
-    go false ih is = never (cc)
+    go false ih is = cc
 
 -- bytes whose front is not passed over decide nothing before they are as long as its frame
 pub blind_whole : (rules : Rules) (xs : List ℕ) → is_pass (look rules false xs) ≡ false → Blind rules xs (decided_at rules.header xs)

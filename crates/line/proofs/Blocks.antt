@@ -9,7 +9,7 @@ use native.Mathlib.Numerals.{one-add}
 use borrow.Author.Tests.{lt-ltb}
 use borrow.Rule.Slice.PartMut.{put_mid}
 use lib.Dec.{ltb}
-use lib.ListN.{length, get_or, take, drop, set, length-append, length-take, length-drop, take-append-drop}
+use lib.ListN.{length, get_or, take, drop, set, length-append, length-drop, take-append-drop}
 use lib.Seq.{drop-cons, length-take-le, drop-drop}
 use Rattle.wire.proofs.Parts.{part_whole}
 use Rattle.frame.specs.Frame.{longest_frame}
@@ -119,15 +119,6 @@ module _ (line : Line) (bytes : List ℕ) (i n k need : ℕ) (held held' : List 
       ∙ block_fold line (take n held) block (drop (i + k) bytes) need blind short least)
       ∙ plus_plus i (length block) (given_bytes (opened line (padded longest_frame (take n held ++ block)) (length (take n held ++ block)) Wait) (drop (i + k) bytes))
       ∙ rw (block-long, ends)
-
-pub block_counted : (k : ℕ) (bytes : List ℕ) → k ≤ length bytes → k ≡ length (take k bytes)
-block_counted k bytes fits = sym (length-take-le k bytes fits)
-
-pub block_room : (n k need : ℕ) (held bytes : List ℕ) → k ≤ need - 1 - n → n + 1 < need → need ≤ longest_frame → length held ≡ longest_frame
-    → length (take k bytes) ≤ length (take (length held - n) (drop n held))
-block_room n k need held bytes below known least long =
-    let short : length (take k bytes) ≤ k = simp length-take (omega arith) in
-    rw (part_whole held n) (simp length-drop (omega arith))
 
 -- a byte of a block, behind those that are held
 pub byte_behind : (n need : ℕ) (held bytes : List ℕ) → n + 1 < need → need ≤ longest_frame → 0 < length bytes → length held ≡ longest_frame → held ≡ padded longest_frame (take n held)

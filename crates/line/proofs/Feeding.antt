@@ -79,22 +79,22 @@ module _ (line : Line) (bytes : List ℕ) (i n : ℕ) (held : List ℕ) (head : 
   -- a byte behind those that are held
   pub fed_byte : (step : Step) (held' : List ℕ) → step ≡ step_of line (take n held ++ (get_or bytes i 0 ∷ []))
       → held' ≡ padded longest_frame (left_of line (take n held ++ (get_or bytes i 0 ∷ [])))
-      → start ≡ plus (i + 1) (given_bytes (opened line held' step.len step.head) (drop (i + 1) bytes))
+      → start ≡ plus (i + 1) (given_bytes (opened line held' step.rest.len step.rest.head) (drop (i + 1) bytes))
   fed_byte step held' is_step held_is =
-      turn (opened line held' step.len step.head) (rw (is_step, held_is) (open_still line (take n held ++ (get_or bytes i 0 ∷ []))))
+      turn (opened line held' step.rest.len step.rest.head) (rw (is_step, held_is) (open_still line (take n held ++ (get_or bytes i 0 ∷ []))))
 
 -- a byte that was taken
 module _ (line : Line) (step : Step) (xs held' : List ℕ) (is_step : step ≡ step_of line xs) (held_is : held' ≡ padded longest_frame (left_of line xs)) where
-  left_long : length (left_of line xs) ≡ step.len
-  left_long = sym (ap (λ (s : Step). s.len) is_step)
+  left_long : length (left_of line xs) ≡ step.rest.len
+  left_long = sym (ap (λ (s : Step). s.rest.len) is_step)
 
-  front_left : take step.len held' ≡ left_of line xs
-  front_left = rw held_is (take_padded longest_frame step.len (left_of line xs) left_long)
+  front_left : take step.rest.len held' ≡ left_of line xs
+  front_left = rw held_is (take_padded longest_frame step.rest.len (left_of line xs) left_long)
 
-  pub step_front : held' ≡ padded longest_frame (take step.len held')
+  pub step_front : held' ≡ padded longest_frame (take step.rest.len held')
   step_front = held_is ∙ ap (padded longest_frame) (sym front_left)
 
-  pub step_blind : Blind (rules_for line) (take step.len held') step.need
+  pub step_blind : Blind (rules_for line) (take step.rest.len held') step.need
   unfolding settled still_closed
   step_blind =
       let whole : step.need ≡ decided_at (header_bytes line.header) (left_of line xs) = ap (λ (s : Step). s.need) is_step in
@@ -183,9 +183,9 @@ module _ (reader : Reader) (r : Bool) (is : r ≡ busy reader) (free : r ≡ fal
           rw (sym is ∙ free, open_free, same)
 
       pub bytes_given : (bytes held' : List ℕ) (fed : Fed) → (length bytes ≡ 0 → ⊥)
-          → gave fed.used (opened reader.line held' fed.len fed.head)
+          → gave fed.used (opened reader.line held' fed.rest.len fed.rest.head)
           ≡ given_bytes (opened reader.line held reader.len Wait) bytes
-          → gave fed.used (opened reader.line held' fed.len fed.head) ≡ given_bytes reader bytes
+          → gave fed.used (opened reader.line held' fed.rest.len fed.rest.head) ≡ given_bytes reader bytes
       bytes_given bytes held' fed some is-fed = is-fed ∙ sym (enter bytes some)
 
 pub all_fed : (line : Line) (bytes held : List ℕ) (start : Gave) (t : Bool) (i n : ℕ) (head : Look)

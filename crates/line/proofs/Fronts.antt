@@ -1,34 +1,24 @@
 -- Laws of what the small functions answer.
 use mathlib.Core.Path.{◌≡◌, sym, ap, ◌∙◌}
-use mathlib.Core.Bool.{Bool, not, ◌&&◌}
+use mathlib.Core.Bool.{Bool}
 use mathlib.Core.List.{List}
 use Rattle.std.specs.Prelude.{Some}
 use Prim.Native.Nat.{ℕ, ◌+◌, ◌-◌, ◌≤◌, ◌<◌}
 use native.Mathlib.Omega.{arith}
 use borrow.Author.Tests.{lt-ltb, le-ltb}
-use lib.Dec.{ltb}
 use lib.ListN.{length, get_or, take, drop, length-drop}
 use lib.Seq.{length-take-le}
-use Rattle.frame.specs.Frame.{check_length, content_of, longest_frame}
+use Rattle.frame.specs.Frame.{check_length, content_of}
 use Rattle.place.specs.declared.Look.{Look}
-use Rattle.place.specs.declared.Look.TheVariants.{Bad, Good}
-use Rattle.line.specs.declared.Report.TheVariants.{Accepted, BadCheck}
+use Rattle.place.specs.declared.Look.TheVariants.{Good}
+use Rattle.line.specs.declared.Report.TheVariants.{Accepted}
 use Rattle.line.specs.Inner.{decided_at}
-use Rattle.line.specs.Methods.{is_answer, takes, span, told}
+use Rattle.line.specs.Methods.{told}
 use Rattle.line.proofs.Padding.{drop_take}
 
-pub takes_if : (n : ℕ) (head : Look) (r : Bool) → r ≡ is_answer head → (ltb n longest_frame && not r) ≡ takes n head
-takes_if n head r is = rw is
-
-pub span_good : (header : List ℕ) (look : Look) (h l : ℕ) → h ≡ length header → look ≡ Good l → h + 1 + l ≡ span header look
-span_good header look h l is-h is = rw (is-h, is)
-
-pub span_fits : (h l : ℕ) → h ≤ 2 → l < 256 → h + 1 + l ≤ longest_frame
-span_fits h l short byte = omega arith
-
-pub whole_known : (header xs : List ℕ) (h : ℕ) → h ≡ length header → h < length xs → h + 1 + get_or xs h 0 ≡ decided_at header xs
+pub whole_known : (header xs : List ℕ) (h l : ℕ) → h ≡ length header → h < length xs → l ≡ get_or xs h 0 → h + 1 + l ≡ decided_at header xs
 unfolding decided_at
-whole_known header xs h is inside = rw (← is, lt-ltb h (length xs) inside)
+whole_known header xs h l is inside is-l = rw (← is, lt-ltb h (length xs) inside, is-l)
 
 pub whole_unknown : (header xs : List ℕ) (h : ℕ) → h ≡ length header → length xs ≤ h → 0 ≡ decided_at header xs
 unfolding decided_at
@@ -47,9 +37,6 @@ unfolding content_of
 content_part checking body c end is_c is-end =
     let same : length body - check_length checking ≡ end = omega arith in
     rw same (drop_take 1 end body)
-
-pub told_bad : (checking : Bool) (look : Look) (body : List ℕ) (command : ℕ) → look ≡ Bad command → Some (BadCheck command) ≡ told checking look body
-told_bad checking look body command is = rw is
 
 pub told_good : (checking : Bool) (look : Look) (body : List ℕ) (l command n c : ℕ) → look ≡ Good l → command ≡ get_or body 0 0
     → c ≡ check_length checking → n ≡ length body - (1 + c) → Some (Accepted command n) ≡ told checking look body

@@ -10,7 +10,7 @@ use mir.Val.{Fits}
 use mir.Syntax.{w64}
 use borrow.Author.Tests.{ltb-true}
 use lib.Dec.{ltb}
-use lib.ListN.{length, take, set, length-take, length-set}
+use lib.ListN.{length, take, set, replicate, length-take, length-set}
 use lib.Seq.{take-suc-set, length-take-le}
 use Rattle.frame.specs.Frame.{longest_frame}
 use Rattle.reading.specs.Moves.{fresh, with_byte, with_mark}
@@ -22,6 +22,8 @@ use Rattle.line.specs.declared.Reader.{Reader}
 use Rattle.line.specs.declared.Waiting.TheVariants.{ReportWaits}
 use Rattle.line.specs.State.{rules_for, padded, reader_of, settled_reader, no_reader}
 use Rattle.line.specs.Methods.{is_answer, takes, busy, gives, given_byte, given_mark}
+use Rattle.line.specs.Inner.{opened}
+use Rattle.line.proofs.Padding.{zeros_empty}
 use Rattle.wire.proofs.Truths.{and_left}
 
 -- an input that is taken finds room
@@ -50,19 +52,19 @@ module _ (n : ℕ) (head : Look) (r : Bool) (is : r ≡ takes n head) (free : r 
   pub longer_fits : (held : List ℕ) (b : ℕ) → length (take (n + 1) (set held n b)) ≤ longest_frame
   longer_fits held b = let h = below_full in simp length-take (omega arith)
 
+-- zeros in the array
+pub empty_is : (line : Line) (held : List ℕ) (len : ℕ) → held ≡ replicate longest_frame 0
+    → ◌≡◌ {A = Reader} (record { line = line; held = held; len = len; closed = false; head = Wait }) (opened line (padded longest_frame []) len Wait)
+empty_is line held len zeros = rw (zeros_empty longest_frame held zeros)
+
 -- a new reader keeps nothing
-pub new_is : (line : Line) (held : List ℕ) → held ≡ padded longest_frame []
-    → ◌≡◌ {A = Reader} (record { line = line; held = held; len = 0; closed = false; head = Wait }) (reader_of line fresh)
-new_is line held empty = rw (empty, look_nothing (rules_for line))
+pub new_is : (line : Line) (reader : Reader) → reader ≡ opened line (padded longest_frame []) 0 Wait → reader ≡ reader_of line fresh
+new_is line reader is = rw (is, look_nothing (rules_for line))
 
 -- what stands where there is none
-pub none_is : (held : List ℕ) → held ≡ padded longest_frame []
-    → ◌≡◌ {A = Reader} (record { line = record { header = record { h1 = 0; h2 = 0 }; checking = false }; held = held; len = longest_frame; closed = false; head = Wait }) no_reader
+pub none_is : (reader : Reader) → reader ≡ opened (record { header = record { h1 = 0; h2 = 0 }; checking = false }) (padded longest_frame []) longest_frame Wait → reader ≡ no_reader
 unfolding no_reader
-none_is held empty = rw empty
-
-pub waits_if : (reader : Reader) (r : Bool) → r ≡ takes reader.len reader.head → not r ≡ busy reader
-waits_if reader r is = ap not is
+none_is reader is = is
 
 module _ (reader : Reader) (r : Bool) (is : r ≡ takes reader.len reader.head) where
   is_busy : busy reader ≡ not r

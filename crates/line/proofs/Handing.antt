@@ -22,6 +22,7 @@ use Rattle.place.proofs.Stops.{look_nothing}
 use Rattle.line.specs.declared.Line.{Line}
 use Rattle.line.specs.declared.Reader.{Reader}
 use Rattle.line.specs.declared.Report.{Report}
+use Rattle.line.specs.declared.Rest.{Rest}
 use Rattle.line.specs.declared.Handover.{Handover}
 use Rattle.line.specs.declared.Asked.{Asked}
 use Rattle.line.specs.declared.Fed.{Fed}
@@ -35,9 +36,6 @@ use Rattle.line.proofs.Feeding.{old_few, old_fits, old_front, bytes_given}
 use Rattle.line.proofs.Asking.{ask_gives, nothing_asked, report_asked}
 
 -- bytes laid over the front of an array
-pub end_inside : (n : ℕ) (held : List ℕ) → n ≤ longest_frame → length held ≡ longest_frame → n ≤ length held
-end_inside n held few long = omega arith
-
 pub copied_over : (n : ℕ) (xs out part : List ℕ) → length xs ≡ n → part ≡ xs → part ++ drop n out ≡ over xs out
 unfolding over
 copied_over n xs out part long is = rw (is, long)
@@ -198,28 +196,28 @@ module _ (line : Line) (closed : Bool) (n k : ℕ) (held : List ℕ) (stop : Sto
       rw (rest_long, z) at (settled_is line closed (take (n - k) (drop k held)) stop is left' front)
 
 -- the report, its data and what is left
-pub report_handed : (reader : Reader) (h l k len : ℕ) (look : Look) (report : Option Report) (payload left : List ℕ)
+pub report_handed : (reader : Reader) (h l k : ℕ) (rest : Rest) (report : Option Report) (payload left : List ℕ)
     → k ≡ span (header_bytes reader.line.header) reader.head → h ≡ length (header_bytes reader.line.header) → l ≡ body_length reader.head
     → report ≡ told reader.line.checking reader.head (take (h + 1 + l - (h + 1)) (drop (h + 1) reader.held))
     → payload
     ≡ padded most_payload (drop 1 (content_of reader.line.checking (take (body_length reader.head) (drop (length (header_bytes reader.line.header) + 1) reader.held))))
-    → reader_with reader.line reader.closed len look left
+    → reader_with reader.line reader.closed rest.len rest.head left
     ≡ settled_reader reader.line reader.closed (take (reader.len - k) (drop k reader.held))
-    → asked_with reader.line (record { report = report; len = len; closed = reader.closed && ltb 0 len; head = look }) payload left ≡ answer_with_report reader
+    → asked_with reader.line (record { report = report; closed = reader.closed && ltb 0 rest.len; rest = rest }) payload left ≡ answer_with_report reader
 unfolding answer_with_report
-report_handed reader h l k len look report payload left is-k is-h is-l is-report is-payload is-left =
+report_handed reader h l k rest report payload left is-k is-h is-l is-report is-payload is-left =
     let z : h + 1 + l - (h + 1) ≡ l = omega arith in
     let body : List ℕ = take (body_length reader.head) (drop (length (header_bytes reader.line.header) + 1) reader.held) in
     let is-told : report ≡ told reader.line.checking reader.head body = is-report ∙ rw (z, is-h, is-l) in
-    let rest : reader_with reader.line reader.closed len look left
+    let next : reader_with reader.line reader.closed rest.len rest.head left
     ≡ settled_reader reader.line reader.closed
     (take (reader.len - span (header_bytes reader.line.header) reader.head) (drop (span (header_bytes reader.line.header) reader.head) reader.held)) =
     rw (← is-k) is-left in
-    rw (is-told, is-payload) (ap (ask_gives (told reader.line.checking reader.head body) (padded most_payload (drop 1 (content_of reader.line.checking body)))) rest)
+    rw (is-told, is-payload) (ap (ask_gives (told reader.line.checking reader.head body) (padded most_payload (drop 1 (content_of reader.line.checking body)))) next)
 
 module _ (reader : Reader) (k : ℕ) (is-k : k ≡ span (header_bytes reader.line.header) reader.head) where
   pub nothing_handed_asked : (t : Handover) (payload left : List ℕ) → (eqb k 0 || ltb reader.len k || ltb longest_frame reader.len) ≡ true → payload ≡ padded most_payload []
-      → t ≡ record { report = None; len = reader.len; closed = reader.closed; head = reader.head } → left ≡ reader.held
+      → t ≡ record { report = None; closed = reader.closed; rest = record { len = reader.len; head = reader.head } } → left ≡ reader.held
       → asked_with reader.line t payload left ≡ asked reader
   nothing_handed_asked t payload left none empty is-t is-left = rw (is-t, is-left) (nothing_asked reader k is-k payload none empty)
 
@@ -250,6 +248,6 @@ module _ (reader : Reader) (r : Bool) (is : r ≡ busy reader) (free : r ≡ fal
   front_held = old_front reader r is free long held packed
 
   pub all_given : (bytes held' : List ℕ) (fed : Fed) → (length bytes ≡ 0 → ⊥)
-      → gave fed.used (opened reader.line held' fed.len fed.head) ≡ given_bytes (opened reader.line held reader.len Wait) bytes
-      → gave fed.used (opened reader.line held' fed.len fed.head) ≡ given_bytes reader bytes
+      → gave fed.used (opened reader.line held' fed.rest.len fed.rest.head) ≡ given_bytes (opened reader.line held reader.len Wait) bytes
+      → gave fed.used (opened reader.line held' fed.rest.len fed.rest.head) ≡ given_bytes reader bytes
   all_given = bytes_given reader r is free long held packed

@@ -5,10 +5,10 @@ use mathlib.Core.List.{List, [], ◌∷◌, ◌++◌}
 use Prim.Native.Nat.{ℕ, suc, ◌+◌, ◌-◌, ◌≤◌, ◌<◌}
 use native.Mathlib.Nat.{zero-add}
 use native.Mathlib.Omega.{arith}
-use native.Mathlib.Numerals.{add-one, one-add}
-use borrow.Author.Tests.{eqb-true, eq-eqb, ne_eqb, not-true}
+use native.Mathlib.Numerals.{one-add}
+use borrow.Author.Tests.{eqb-true, not-true}
 use lib.Dec.{eqb, ltb}
-use lib.ListN.{length, get_or, take, drop, length-drop, drop_of_length-le}
+use lib.ListN.{length, get_or, take, drop, length-drop}
 use lib.Seq.{drop-cons, drop-drop}
 use Rattle.wire.proofs.Parts.{part_whole}
 use Rattle.frame.specs.Frame.{header_bytes, longest_frame}
@@ -36,10 +36,19 @@ passed_byte line n held b none other front =
     let empty : held ≡ padded longest_frame [] = front ∙ ap (λ (k : ℕ). padded longest_frame (take k held)) none in
     rw (none, empty, settled_passed line b other, look_nothing (rules_for line))
 
+-- what is counted of bytes that begin with this one
+noise_step : (h1 x : ℕ) (xs : List ℕ) → noise_length h1 (x ∷ xs) ≡ cond (eqb x h1) 0 (suc (noise_length h1 xs))
+unfolding noise_length
+noise_step h1 x xs = go (eqb x h1) _
+  where
+    go : (b : Bool) (m : ℕ) → length (take (cond (not b) (1 + m) 0) (x ∷ xs)) ≡ cond b 0 (suc (length (take m xs)))
+    go true m = refl
+    go false m = rw (one-add m)
+
 pub noise_le : (h1 : ℕ) (xs : List ℕ) → noise_length h1 xs ≤ length xs
 unfolding noise_length
 noise_le h1 [] = omega arith
-noise_le h1 (x ∷ xs) = go (eqb x h1) (noise_le h1 xs)
+noise_le h1 (x ∷ xs) = rw (noise_step h1 x xs) (go (eqb x h1) (noise_le h1 xs))
   where
     go : (b : Bool) → noise_length h1 xs ≤ length xs → cond b 0 (suc (noise_length h1 xs)) ≤ suc (length xs)
     go true h = omega arith
@@ -49,7 +58,7 @@ noise_fold : (line : Line) (xs : List ℕ) → given_bytes (opened line (padded 
     ≡ plus (noise_length line.header.h1 xs) (given_bytes (opened line (padded longest_frame []) 0 Wait) (drop (noise_length line.header.h1 xs) xs))
 unfolding given_bytes noise_length
 noise_fold line [] = refl
-noise_fold line (x ∷ xs) = go (eqb x line.header.h1) refl (noise_fold line xs)
+noise_fold line (x ∷ xs) = rw (noise_step line.header.h1 x xs) (go (eqb x line.header.h1) refl (noise_fold line xs))
   where
     empty : Reader
     empty = opened line (padded longest_frame []) 0 Wait
@@ -81,7 +90,7 @@ module _ (h1 : ℕ) (bytes : List ℕ) (i n k : ℕ) (t : Bool) (goes : (ltb i (
       let more : i < length bytes = more_left i (length bytes) t goes in
       let other : eqb (get_or bytes i 0) h1 ≡ false =
       not-true (eqb (get_or bytes i 0) h1) (and_right (eqb n 0) (not (eqb (get_or bytes i 0) h1)) noise) in
-      rw (noise_is, drop-cons bytes i 0 more, other) (omega arith)
+      rw (noise_is, drop-cons bytes i 0 more, noise_step h1 (get_or bytes i 0) (drop (suc i) bytes), other) (omega arith)
 
   pub noise_less : length bytes - (i + k) < length bytes - i
   noise_less = omega (arith, some_noise, noise_inside)
@@ -104,17 +113,3 @@ module _ (line : Line) (bytes : List ℕ) (i n k : ℕ) (held : List ℕ) (head 
       ∙ ap (plus i) (any_head ∙ ap (λ (r : Reader). given_bytes r (drop i bytes)) same ∙ (rw (← noise_is line.header.h1 bytes i n k t goes noise is-k, drop-drop k i bytes) at fold))
       ∙ plus_plus i k (given_bytes (opened line (padded longest_frame []) 0 Wait) (drop (i + k) bytes))
       ∙ ap (λ (r : Reader). plus (i + k) (given_bytes r (drop (i + k) bytes))) (sym same)
-
--- the loop over them
-module _ (h1 k : ℕ) (bytes : List ℕ) (so_far : noise_length h1 bytes ≡ k + noise_length h1 (drop k bytes)) where
-  pub noise_more : k < length bytes → (get_or bytes k 0 ≡ h1 → ⊥) → noise_length h1 bytes ≡ k + 1 + noise_length h1 (drop (k + 1) bytes)
-  unfolding noise_length
-  noise_more inside other = so_far ∙ rw (add-one k, drop-cons bytes k 0 inside, ne_eqb (get_or bytes k 0) h1 other) (omega arith)
-
-  pub noise_stops : k < length bytes → get_or bytes k 0 ≡ h1 → k ≡ noise_length h1 bytes
-  unfolding noise_length
-  noise_stops inside same = sym (so_far ∙ rw (drop-cons bytes k 0 inside, eq-eqb (get_or bytes k 0) h1 same) (omega arith))
-
-  pub noise_ends : length bytes ≤ k → k ≡ noise_length h1 bytes
-  unfolding noise_length
-  noise_ends past = sym (so_far ∙ rw (drop_of_length-le bytes past) (omega arith))

@@ -6,7 +6,7 @@ use native.Mathlib.Nat.{sub-zero}
 use native.Mathlib.Omega.{arith}
 use lib.ListN.{length, take, drop, set, replicate, length-append, length-replicate}
 use native.Mathlib.Numerals.{add-one}
-use lib.Seq.{take_at, drop_at, set_split, drop-drop, take-length, take-nil}
+use lib.Seq.{take_at, drop_at, set_split, drop-drop, take-nil}
 use Rattle.line.specs.State.{padded}
 
 pub drop_take : (k n : ℕ) (l : List ℕ) → drop k (take n l) ≡ take (n - k) (drop k l)
@@ -58,10 +58,6 @@ copied_empty size xs out to empty is =
     let z : size - 0 - length xs ≡ size - length xs = omega arith in
     is ∙ rw (empty, drop_zeros (length xs) (size - 0), z)
 
--- bytes laid over the front of an empty array
-pub laid_empty : (size : ℕ) (xs out to : List ℕ) → out ≡ padded size [] → to ≡ take (length xs) xs ++ drop (length xs) out → to ≡ padded size xs
-laid_empty size xs out to empty is = copied_empty size xs out to empty (is ∙ rw (take-length xs))
-
 -- bytes laid behind those that an array holds
 pub laid_behind : (size n : ℕ) (xs ys : List ℕ) → length xs ≡ n
     → take n (padded size xs) ++ (ys ++ drop (length ys) (drop n (padded size xs))) ≡ padded size (xs ++ ys)
@@ -75,3 +71,8 @@ set_behind size n b xs is room =
     let inside : n < length (padded size xs) = omega (arith, length_padded size xs (omega arith)) in
     set_split (padded size xs) n b inside
     ∙ rw (add_one_drop size n xs) (laid_behind size n xs (b ∷ []) is)
+
+-- zeros hold nothing
+pub zeros_empty : (size : ℕ) (out : List ℕ) → out ≡ replicate size 0 → out ≡ padded size []
+unfolding padded
+zeros_empty size out is = is ∙ ap (λ (n : ℕ). replicate n 0) (sym (sub-zero size))

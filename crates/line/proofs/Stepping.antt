@@ -57,7 +57,7 @@ module _ (n b : ℕ) (held : List ℕ) (room : n < longest_frame) (long : length
     held_stepped = held_is ∙ ap (λ (xs : List ℕ). padded longest_frame (left_of line xs)) stored
 
     pub step_is : (need : ℕ) → need ≡ decided_at (header_bytes line.header) (take rest.len held')
-        → ◌≡◌ {A = Step} (record { len = rest.len; head = rest.head; need = need }) (step_of line (take n held ++ (b ∷ [])))
+        → ◌≡◌ {A = Step} (record { rest = rest; need = need }) (step_of line (take n held ++ (b ∷ [])))
     step_is need is-need =
         let front : take rest.len held' ≡ left_of line (take (n + 1) (set held n b)) =
         rw held_is (take_padded longest_frame rest.len (left_of line (take (n + 1) (set held n b))) rest_long) in

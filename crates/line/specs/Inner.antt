@@ -1,6 +1,6 @@
 -- No public promise cites this file: what private functions of the code are held against.
-use Rattle.std.specs.Prelude.{ℕ, suc, ◌+◌, ◌-◌, Bool, false, cond, ◌&&◌, List, [], ◌∷◌, eqb, ltb, length, get_or, take, drop}
-use Rattle.frame.specs.Frame.{header_bytes, content_of, most_payload}
+use Rattle.std.specs.Prelude.{ℕ, ◌+◌, ◌-◌, ◌≤◌, ◌≡◌, Bool, false, cond, not, ◌&&◌, ◌==◌, List, ltb, length, get_or, take, drop, take_while}
+use Rattle.frame.specs.Frame.{header_bytes, content_of, longest_frame, most_payload}
 use Rattle.reading.specs.Moves.{settled}
 use Rattle.place.specs.declared.Look.{Look}
 use Rattle.line.specs.declared.Line.{Line}
@@ -18,7 +18,11 @@ use Rattle.line.specs.Methods.{body_length, span, told}
 unfoldable pub decided_at : List ℕ → List ℕ → ℕ
 decided_at header xs = cond (ltb (length header) (length xs)) (length header + 1 + get_or xs (length header) 0) 0
 
--- `settle`
+-- `settle` and `feed`
+
+-- these many bytes stand at the front of an array as long as the longest frame, zeros behind them
+abbrev pub Held : ℕ → List ℕ → Type 0
+Held n held = (n ≤ longest_frame) × (length held ≡ longest_frame) × (held ≡ padded longest_frame (take n held))
 
 -- what is left of the bytes of an open stretch once all that is passed over has been
 abbrev pub left_of : Line → List ℕ → List ℕ
@@ -41,23 +45,18 @@ opened line held n head = record { line = line; held = held; len = n; closed = f
 -- how many are left, what stands at the first, and how many must be held before more is decided
 abbrev pub step_of : Line → List ℕ → Step
 step_of line xs =
-    record {
-      len = length (left_of line xs);
-      head = (settled_reader line false xs).head;
-      need = decided_at (header_bytes line.header) (left_of line xs);
-    }
+    record { rest = rest_of line xs; need = decided_at (header_bytes line.header) (left_of line xs) }
 
 -- how many bytes at the front are not the first header byte: with nothing held, each is passed over as it comes
 unfoldable pub noise_length : ℕ → List ℕ → ℕ
-noise_length h1 [] = 0
-noise_length h1 (x ∷ xs) = cond (eqb x h1) 0 (suc (noise_length h1 xs))
+noise_length h1 xs = length (take_while (λ x. not (x == h1)) xs)
 
 -- `ask`
 
 -- an answer with its two arrays
 abbrev pub asked_with : Line → Handover → List ℕ → List ℕ → Asked
 asked_with line t payload held =
-    record { report = t.report; payload = payload; reader = record { line = line; held = held; len = t.len; closed = t.closed; head = t.head } }
+    record { report = t.report; payload = payload; reader = record { line = line; held = held; len = t.rest.len; closed = t.closed; head = t.rest.head } }
 
 -- what an ask answers where the report at the front is handed over
 unfoldable pub answer_with_report : Reader → Asked

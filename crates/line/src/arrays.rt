@@ -1,32 +1,18 @@
-// The arrays that a reader is made of: bytes at the front, zeros behind them.
-ghost use Rattle.std.specs.Prelude.{◌≡◌, [], ◌-◌, ◌≤◌, length, take, drop};
+// Bytes laid at the front of an array of zeros.
+ghost use Rattle.std.specs.Prelude.{◌≡◌, ◌-◌, ◌≤◌, length, take, drop};
 ghost use Rattle.wire.specs.Room.{over};
-ghost use Rattle.frame.specs.Frame.{longest_frame, most_payload};
+ghost use Rattle.frame.specs.Frame.{longest_frame};
 ghost use Rattle.line.specs.State.{padded};
 
 use crate::Reader;
-use frame::{LONGEST_FRAME, MOST_PAYLOAD};
-
-// An array that holds nothing.
-pub fn no_bytes() -> [u8; LONGEST_FRAME]
-    ensures { result ≡ padded longest_frame [] }
-{
-    [0u8; LONGEST_FRAME]
-}
-
-// No data.
-pub fn no_payload() -> [u8; MOST_PAYLOAD]
-    ensures { result ≡ padded most_payload [] }
-{
-    [0u8; MOST_PAYLOAD]
-}
+use frame::LONGEST_FRAME;
 
 // These bytes at the front of a new array.
 pub(crate) fn packed(s: &[u8]) -> [u8; LONGEST_FRAME]
     requires { length s.now ≤ longest_frame }
     ensures { result ≡ padded longest_frame s.now }
 {
-    let mut out = no_bytes();
+    let mut out = wire::zeros();
     out[..s.len()].copy_from_slice(s);
     out
 }

@@ -6,7 +6,7 @@ ghost use Rattle.line.specs.Front.{report_said, front_said};
 ghost use Rattle.line.specs.Inner.{asked_with, answer_with_report};
 ghost use Rattle.line.specs.Methods.{body_length, span, told, asked};
 
-use crate::{Asked, Handover, Reader, Report, arrays, head, settle};
+use crate::{Asked, Handover, Reader, Report, Rest, arrays, head, settle};
 use frame::LONGEST_FRAME;
 use place::Look;
 
@@ -14,17 +14,18 @@ use place::Look;
 fn report_on(checking: bool, look: Look, body: &[u8]) -> Option<Report>
     ensures { result ≡ told checking look body.now }
 {
-    let command = wire::byte_at(body, 0);
-    let len = wire::above(body.len(), 1 + frame::check_length(checking));
     match look {
-        Look::Pass => None,
-        Look::Wait => None,
-        Look::Bad(c) => Some(Report::BadCheck(c)),
-        Look::Good(_) => Some(Report::Accepted { command, len }),
+        Look::Pass | Look::Wait => None,
+        Look::Bad(command) => Some(Report::BadCheck(command)),
+        Look::Good(_) => Some(Report::Accepted {
+            command: wire::byte_at(body, 0),
+            len: body.len().saturating_sub(1 + frame::check_length(checking)),
+        }),
     }
 }
 
-// Lays up to three bytes of data, as reads have them, one by one; `end` is how many of the L bytes are command and data.
+// Lays up to three bytes of data, as reads have them; `end` is how many of the L bytes are command and data. One by one, since `copy_from_slice` and a
+// chain both become a call of memcpy, for which short frames are slower (docs/PROVING.md, "Speed of the program").
 fn put_short(body: &[u8], end: usize, out: &mut [u8])
     requires { (end ≤ 4) × (end ≤ length body.now) × (out.old ≡ padded most_payload []) }
     ensures { out.new ≡ padded most_payload (take (end - 1) (drop 1 body.now)) }
@@ -48,11 +49,9 @@ fn put_payload(reader: Reader, out: &mut [u8])
     requires { out.old ≡ padded most_payload [] }
     ensures { out.new ≡ padded most_payload (drop 1 (content_of reader.line.checking (take (body_length reader.head) (drop (length (header_bytes reader.line.header) + 1) reader.held)))) }
 {
-    let line = reader.line;
-    let head = reader.head;
-    let from = line.header.length() + 1;
-    let l = head::body_length(head);
-    let end = wire::above(l, frame::check_length(line.checking));
+    let from = reader.line.header.length() + 1;
+    let l = head::body_length(reader.head);
+    let end = l.saturating_sub(frame::check_length(reader.line.checking));
     if end < 5 {
         let held = reader.held;
         put_short(&held[from..from + l], end, out);
@@ -64,15 +63,16 @@ fn put_payload(reader: Reader, out: &mut [u8])
 // Nothing is handed over, and all stays.
 fn hand_nothing(reader: Reader, left: &mut [u8]) -> Handover
     requires { left.old ≡ padded longest_frame [] }
-    ensures { (result ≡ record { report = None; len = reader.len; closed = reader.closed; head = reader.head }) × (left.new ≡ reader.held) }
+    ensures { (result ≡ record { report = None; closed = reader.closed; rest = record { len = reader.len; head = reader.head } }) × (left.new ≡ reader.held) }
 {
-    let head = reader.head;
     arrays::put_held(reader, 0, LONGEST_FRAME, left);
     Handover {
         report: None,
-        len: reader.len,
         closed: reader.closed,
-        head: head,
+        rest: Rest {
+            len: reader.len,
+            head: reader.head,
+        },
     }
 }
 
@@ -81,24 +81,19 @@ fn hand_report(reader: Reader, k: usize, payload: &mut [u8], left: &mut [u8]) ->
     requires { (k ≡ span (header_bytes reader.line.header) reader.head) × (k ≤ reader.len) × (reader.len ≤ longest_frame) × (payload.old ≡ padded most_payload []) × (left.old ≡ padded longest_frame []) }
     ensures { asked_with reader.line result payload.new left.new ≡ answer_with_report reader }
 {
-    let line = reader.line;
-    let head = reader.head;
     let held = reader.held;
-    let from = line.header.length() + 1;
+    let from = reader.line.header.length() + 1;
     let report = report_on(
-        line.checking,
-        head,
-        &held[from..from + head::body_length(head)],
+        reader.line.checking,
+        reader.head,
+        &held[from..from + head::body_length(reader.head)],
     );
     put_payload(reader, payload);
     let rest = settle::settle_left(reader, k, left);
-    let len = rest.len;
-    let look = rest.head;
     Handover {
-        report: report,
-        len: len,
-        closed: reader.closed & (0 < len),
-        head: look,
+        report,
+        closed: reader.closed & (0 < rest.len),
+        rest,
     }
 }
 
@@ -107,11 +102,8 @@ fn hand_over(reader: Reader, payload: &mut [u8], left: &mut [u8]) -> Handover
     requires { (payload.old ≡ padded most_payload []) × (left.old ≡ padded longest_frame []) }
     ensures { asked_with reader.line result payload.new left.new ≡ asked reader }
 {
-    let line = reader.line;
-    let head = reader.head;
-    let n = reader.len;
-    let k = head::span_of(line.header, head);
-    if (k == 0) | (n < k) | (LONGEST_FRAME < n) {
+    let k = head::span_of(reader.line.header, reader.head);
+    if (k == 0) | (reader.len < k) | (LONGEST_FRAME < reader.len) {
         return hand_nothing(reader, left);
     }
     hand_report(reader, k, payload, left)
@@ -123,21 +115,18 @@ impl Reader {
         ensures value { result ≡ asked self }
         ensures report_value { report_said result.report ≡ front_said self }
     {
-        let line = self.line;
-        let mut payload = arrays::no_payload();
-        let mut left = arrays::no_bytes();
+        let mut payload = wire::zeros();
+        let mut left = wire::zeros();
         let handed = hand_over(self, &mut payload, &mut left);
-        let report = handed.report;
-        let head = handed.head;
         Asked {
-            report: report,
-            payload: payload,
+            report: handed.report,
+            payload,
             reader: Reader {
-                line: line,
+                line: self.line,
                 held: left,
-                len: handed.len,
+                len: handed.rest.len,
                 closed: handed.closed,
-                head: head,
+                head: handed.rest.head,
             },
         }
     }

@@ -1,45 +1,34 @@
 // Giving many bytes at once, in place: byte by byte where something may be decided, in blocks where nothing is.
 ghost use Rattle.std.specs.Prelude.{◌≡◌, [], ◌∷◌, ◌++◌, ◌+◌, ◌≤◌, ◌<◌, length, take};
 ghost use Rattle.frame.specs.Frame.{longest_frame};
-ghost use Rattle.line.specs.Inner.{left_of, opened, step_of, noise_length};
+ghost use Rattle.line.specs.Inner.{Held, left_of, opened, step_of, noise_length};
 ghost use Rattle.line.specs.State.{padded};
 ghost use Rattle.place.specs.declared.Look.TheVariants.{Wait};
 ghost use Rattle.line.specs.Methods.{gave, given_bytes};
 
-use crate::{Fed, Line, Step, head, settle};
+use crate::{Fed, Line, Rest, Step, head, settle};
 use place::Look;
 
-// The smaller of two; not 0 unless one of them is.
-fn smaller(a: usize, b: usize) -> usize
-    requires { (0 < a) × (0 < b) }
-    ensures { (result ≤ a) × (result ≤ b) × (0 < result) }
-{
-    if a < b { a } else { b }
-}
-
-// Takes a byte behind the n that are held.
+// Takes a byte behind the n that are held. Array and count are lent apart, and `Held` says what holds of both: a struct of the two would take the array
+// in and hand it out again, a copy each time.
 fn take_byte(line: Line, held: &mut [u8], n: usize, b: u8) -> Step
-    requires { (n < longest_frame) × (length held.old ≡ longest_frame) × (held.old ≡ padded longest_frame (take n held.old)) }
-    ensures { (result ≡ step_of line (take n held.old ++ (b ∷ []))) × (held.new ≡ padded longest_frame (left_of line (take n held.old ++ (b ∷ [])))) × (result.len ≤ longest_frame) × (result.need ≤ longest_frame) }
+    requires { (n < longest_frame) × Held n held.old }
+    ensures { (result ≡ step_of line (take n held.old ++ (b ∷ []))) × (held.new ≡ padded longest_frame (left_of line (take n held.old ++ (b ∷ [])))) × (result.rest.len ≤ longest_frame) × (result.need ≤ longest_frame) }
 {
     held[n] = b;
     let rest = settle::settle_in(line, held, n + 1);
-    let len = rest.len;
-    let head = rest.head;
-    let need = head::whole_at(line.header, &held[..len]);
     Step {
-        len: len,
-        head: head,
-        need: need,
+        rest,
+        need: head::whole_at(line.header, &held[..rest.len]),
     }
 }
 
 // Takes a block of bytes that decides nothing behind the n that are held; answers how many.
 fn take_block(held: &mut [u8], n: usize, need: usize, bytes: &[u8]) -> usize
-    requires { (n + 1 < need) × (need ≤ longest_frame) × (0 < length bytes.now) × (length held.old ≡ longest_frame) × (held.old ≡ padded longest_frame (take n held.old)) }
+    requires { (n + 1 < need) × (need ≤ longest_frame) × (0 < length bytes.now) × Held n held.old }
     ensures { (0 < result) × (n + result < need) × (result ≤ length bytes.now) × (held.new ≡ padded longest_frame (take n held.old ++ take result bytes.now)) }
 {
-    let k = smaller(need - 1 - n, bytes.len());
+    let k = (need - 1 - n).min(bytes.len());
     // Below some 16 bytes a call that copies a block costs more than it saves.
     if k < 16 {
         held[n] = bytes[0];
@@ -50,27 +39,21 @@ fn take_block(held: &mut [u8], n: usize, need: usize, bytes: &[u8]) -> usize
 }
 
 // How many bytes at the front are not the first header byte.
+#[tactic(auto, unfolding(crate::specs::Inner::noise_length))]
 fn noise_length(h1: u8, bytes: &[u8]) -> usize
     ensures { result ≡ noise_length h1 bytes.now }
 {
-    let mut k = 0;
-    while k < bytes.len() {
-        if bytes[k] == h1 {
-            return k;
-        }
-        k += 1;
-    }
-    k
+    bytes.iter().take_while(|b| **b != h1).count()
 }
 
 // Gives bytes to a reader that takes them, in place: a byte that nothing waits for is skipped, a block that decides nothing is copied.
 pub(crate) fn feed(line: Line, held: &mut [u8], count: usize, bytes: &[u8]) -> Fed
-    requires { (count ≤ longest_frame) × (length held.old ≡ longest_frame) × (held.old ≡ padded longest_frame (take count held.old)) }
-    ensures { gave result.used (opened line held.new result.len result.head) ≡ given_bytes (opened line held.old count Wait) bytes.now }
+    requires { Held count held.old }
+    ensures { gave result.used (opened line held.new result.rest.len result.rest.head) ≡ given_bytes (opened line held.old count Wait) bytes.now }
 {
     let mut n = count;
     let mut head = Look::Wait;
-    // Below this length the bytes held decide nothing.
+    // Below this length the bytes held decide nothing. No `for` goes over the bytes: a turn takes one, a block, or all the noise in front.
     let mut need = 0;
     let mut i = 0;
     while (i < bytes.len()) & head::can_take(n, head) {
@@ -86,8 +69,8 @@ pub(crate) fn feed(line: Line, held: &mut [u8], count: usize, bytes: &[u8]) -> F
                 i += noise_length(line.header.h1, &bytes[i..]);
             } else {
                 let step = take_byte(line, held, n, b);
-                head = step.head;
-                n = step.len;
+                head = step.rest.head;
+                n = step.rest.len;
                 need = step.need;
                 i += 1;
             }
@@ -95,7 +78,6 @@ pub(crate) fn feed(line: Line, held: &mut [u8], count: usize, bytes: &[u8]) -> F
     }
     Fed {
         used: i,
-        len: n,
-        head: head,
+        rest: Rest { len: n, head },
     }
 }

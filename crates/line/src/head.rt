@@ -11,12 +11,7 @@ use place::Look;
 fn is_report(look: Look) -> bool
     ensures { result ≡ is_answer look }
 {
-    match look {
-        Look::Pass => false,
-        Look::Wait => false,
-        Look::Bad(_) => true,
-        Look::Good(_) => true,
-    }
+    matches!(look, Look::Bad(_) | Look::Good(_))
 }
 
 // Whether an input can be taken with n bytes held.
@@ -31,10 +26,8 @@ pub fn body_length(look: Look) -> usize
     ensures { (result ≡ body_length look) × (result ≤ 255) }
 {
     match look {
-        Look::Pass => 0,
-        Look::Wait => 0,
-        Look::Bad(_) => 0,
-        Look::Good(l) => l as usize,
+        Look::Pass | Look::Wait | Look::Bad(_) => 0,
+        Look::Good(l) => usize::from(l),
     }
 }
 
@@ -44,10 +37,9 @@ pub fn span_of(header: Header, look: Look) -> usize
 {
     let h = header.length();
     match look {
-        Look::Pass => 0,
-        Look::Wait => 0,
+        Look::Pass | Look::Wait => 0,
         Look::Bad(_) => 1,
-        Look::Good(l) => h + 1 + (l as usize),
+        Look::Good(l) => h + 1 + usize::from(l),
     }
 }
 
@@ -57,7 +49,7 @@ pub fn whole_at(header: Header, s: &[u8]) -> usize
 {
     let h = header.length();
     if h < s.len() {
-        h + 1 + (s[h] as usize)
+        h + 1 + usize::from(s[h])
     } else {
         0
     }

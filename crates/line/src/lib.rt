@@ -78,11 +78,10 @@ struct Rest {
     head: Look,
 }
 
-// The same, and how many bytes must be held before more is decided.
+// What is left, and how many bytes must be held before more is decided.
 #[derive(Clone, Copy)]
 struct Step {
-    len: usize,
-    head: Look,
+    rest: Rest,
     need: usize,
 }
 
@@ -90,15 +89,13 @@ struct Step {
 #[derive(Clone, Copy)]
 struct Handover {
     report: Option<Report>,
-    len: usize,
     closed: bool,
-    head: Look,
+    rest: Rest,
 }
 
-// How many bytes were taken, how many are held then, and what stands at the first of them.
+// How many bytes were taken, and what is left then.
 #[derive(Clone, Copy)]
 struct Fed {
     used: usize,
-    len: usize,
-    head: Look,
+    rest: Rest,
 }

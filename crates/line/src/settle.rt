@@ -1,7 +1,8 @@
-// Settling: going past all that is passed over, and bringing what is left to the front of an array.
+// Settling: going past all that is passed over, and bringing what is left to the front of an array. One function for each place where the bytes stand,
+// since each array is written once: in the array itself, in a slice whose reader is new, in a reader behind a report.
 ghost use Rattle.std.specs.Prelude.{◌≡◌, [], ◌-◌, ◌≤◌, length, take, drop};
 ghost use Rattle.frame.specs.Frame.{longest_frame};
-ghost use Rattle.line.specs.Inner.{left_of, rest_of, reader_with};
+ghost use Rattle.line.specs.Inner.{Held, left_of, rest_of, reader_with};
 ghost use Rattle.line.specs.State.{rules_for, padded, settled_reader};
 ghost use Rattle.place.specs.Looks.{stop_of};
 
@@ -10,20 +11,21 @@ use place::{Look, Stop};
 
 // Goes past all that is passed over of the n bytes held in an open stretch, and brings what is left to the front.
 pub(crate) fn settle_in(line: Line, held: &mut [u8], n: usize) -> Rest
-    requires { (n ≤ longest_frame) × (length held.old ≡ longest_frame) × (held.old ≡ padded longest_frame (take n held.old)) }
+    requires { Held n held.old }
     ensures { (result ≡ rest_of line (take n held.old)) × (held.new ≡ padded longest_frame (left_of line (take n held.old))) }
 {
     let stop = place::first_stop(line.header, line.checking, false, &held[..n]);
-    let at = stop.at;
-    let head = stop.look;
-    if at == 0 {
-        return Rest { len: n, head: head };
+    if stop.at == 0 {
+        return Rest {
+            len: n,
+            head: stop.look,
+        };
     }
-    let left = arrays::packed(&held[at..n]);
+    let left = arrays::packed(&held[stop.at..n]);
     held.copy_from_slice(&left);
     Rest {
-        len: n - at,
-        head: head,
+        len: n - stop.at,
+        head: stop.look,
     }
 }
 
@@ -33,16 +35,14 @@ pub(crate) fn settle(line: Line, closed: bool, s: &[u8]) -> Reader
     ensures { result ≡ settled_reader line closed s.now }
 {
     let stop = place::first_stop(line.header, line.checking, closed, s);
-    let at = stop.at;
-    let head = stop.look;
-    let left = arrays::packed(&s[at..]);
-    let len = s.len() - at;
+    let held = arrays::packed(&s[stop.at..]);
+    let len = s.len() - stop.at;
     Reader {
-        line: line,
-        held: left,
-        len: len,
+        line,
+        held,
+        len,
         closed: closed & (0 < len),
-        head: head,
+        head: stop.look,
     }
 }
 
@@ -62,20 +62,17 @@ pub(crate) fn settle_left(reader: Reader, k: usize, left: &mut [u8]) -> Rest
     requires { (k ≤ reader.len) × (reader.len ≤ longest_frame) × (left.old ≡ padded longest_frame []) }
     ensures { reader_with reader.line reader.closed result.len result.head left.new ≡ settled_reader reader.line reader.closed (take (reader.len - k) (drop k reader.held)) }
 {
-    let n = reader.len;
-    if k == n {
+    if k == reader.len {
         return Rest {
             len: 0,
             head: Look::Wait,
         };
     }
     let stop = stop_behind(reader, k);
-    let at = stop.at;
-    let head = stop.look;
-    let from = k + at;
-    arrays::put_held(reader, from, n, left);
+    let from = k + stop.at;
+    arrays::put_held(reader, from, reader.len, left);
     Rest {
-        len: n - from,
-        head: head,
+        len: reader.len - from,
+        head: stop.look,
     }
 }

@@ -1,8 +1,10 @@
 -- One answer fits each public function.
-use mathlib.Core.Path.{sym, ap, ◌∙◌}
+use mathlib.Core.Path.{◌≡◌, sym, ap, ◌∙◌}
 use mathlib.Core.List.{List, []}
 use Prim.Native.Nat.{ℕ}
 use Rattle.wire.specs.OneAnswer.{OneAnswer, OneAnswerLeft}
+use Rattle.watch.specs.declared.WatchList.{WatchList}
+use Rattle.watch.specs.Watched.{with_sent}
 use Rattle.panel.specs.Reporting.{Reporting}
 use Rattle.panel.specs.Contacts.{Contacting}
 use Rattle.panel.proofs.Panel.report.Reads as report
@@ -36,22 +38,40 @@ use Rattle.panel.proofs.Panel.lift.Kinds as lift_kinds
 use Rattle.panel.proofs.Panel.is_waiting.Reads as is_waiting
 use Rattle.panel.proofs.Panel.is_waiting.Kinds as is_waiting_kinds
 
--- the words, the curve area, the room and the values last sent are what asking changes
+-- pairs of equals
+pair : {A B : Type 0} (a a' : A) (b b' : B) → a ≡ a' → b ≡ b' → ◌≡◌ {A = A × B} (a, b) (a', b')
+pair a a' b b' p q = cc
+
+-- lists of which the same is left, but for values that are the same
+sent_alike : (list x y : WatchList) → x ≡ with_sent list x.values.now → y ≡ with_sent list y.values.now → x.values.now ≡ y.values.now → x ≡ y
+sent_alike list x y p q values = p ∙ ap (λ (v : List ℕ). with_sent list v) values ∙ sym q
+
+-- the words, the curve area, the room and the list with the values last sent are what asking changes
 pub report_determined :
-    OneAnswerLeft 6 report_kinds.ps report_kinds.r report.Post {B = List ℕ × (List ℕ × (List ℕ × List ℕ))}
-    (λ κs s. (s.1.0.now, (s.1.1.0.now, (s.1.1.1.0.now, s.1.1.1.1.1.1.0.now))))
-report_determined κs a x y s t p q = (
-  ap (λ (d : Reporting). d.reported) (p.0 ∙ sym q.0),
-  ap (λ (d : Reporting). (d.lent.words, (d.lent.curves, (d.lent.room, d.lent.watched.values)))) (p.0 ∙ sym q.0),
-)
+    OneAnswerLeft 6 report_kinds.ps report_kinds.r report.Post {B = List ℕ × (List ℕ × (List ℕ × WatchList))}
+    (λ κs s. (s.1.0.now, (s.1.1.0.now, (s.1.1.1.0.now, s.1.1.1.1.0.now))))
+report_determined κs a x y s t p q =
+    let both = p.0 ∙ sym q.0 in
+    (
+      ap (λ (d : Reporting). d.reported) both,
+      pair _ _ _ _ (ap (λ (d : Reporting). d.lent.words) both)
+      (pair _ _ _ _ (ap (λ (d : Reporting). d.lent.curves) both)
+      (pair _ _ _ _ (ap (λ (d : Reporting). d.lent.room) both)
+      (sent_alike a.1.1.1.1.0.now s.1.1.1.1.0.now t.1.1.1.1.0.now p.1.0 q.1.0 (ap (λ (d : Reporting). d.lent.watched.values) both)))),
+    )
 
 -- of a contact the curve area, which it is not lent, may be taken to be empty
 pub contact_determined :
-    OneAnswerLeft 6 contact_kinds.ps contact_kinds.r contact.Post {B = List ℕ × (List ℕ × List ℕ)}
-    (λ κs s. (s.1.1.0.now, (s.1.1.1.0.now, s.1.1.1.1.1.1.0.now)))
+    OneAnswerLeft 6 contact_kinds.ps contact_kinds.r contact.Post {B = List ℕ × (List ℕ × WatchList)}
+    (λ κs s. (s.1.1.0.now, (s.1.1.1.0.now, s.1.1.1.1.0.now)))
 contact_determined κs a x y s t p q =
     let both = p.0 [] ∙ sym (q.0 []) in
-    (ap (λ (d : Contacting). d.contacted) both, ap (λ (d : Contacting). (d.lent.words, (d.lent.room, d.lent.watched.values))) both)
+    (
+      ap (λ (d : Contacting). d.contacted) both,
+      pair _ _ _ _ (ap (λ (d : Contacting). d.lent.words) both)
+      (pair _ _ _ _ (ap (λ (d : Contacting). d.lent.room) both)
+      (sent_alike a.1.1.1.1.0.now s.1.1.1.1.0.now t.1.1.1.1.0.now p.1.0 q.1.0 (ap (λ (d : Contacting). d.lent.watched.values) both))),
+    )
 
 pub curve_count_determined : OneAnswer 0 curve_count_kinds.ps curve_count_kinds.r curve_count.Post
 curve_count_determined κs a x y s t p q = p ∙ sym q

@@ -1,4 +1,5 @@
 -- 01, "Proved examples": "f. Checking off, 5A A5 05 82 00 10 01 F4: word 0010 becomes 500."
+use Rattle.std.specs.Prelude.{Some}
 use mathlib.Core.Path.{◌≡◌, refl}
 use mathlib.Core.Bool.{true, false}
 use mathlib.Core.List.{List, [], ◌∷◌}
@@ -41,7 +42,7 @@ example_fed pages width height = (fed_bytes (new_panel (plain pages width height
 
 -- what handing over an 0x82 with this data stores
 stored_500 : (pages width height : ℕ) (lent : Lent) → 0x10 < length lent.words → (a : Asked) → take 4 a.payload ≡ example_data
-    → word_at_address (handing a (line.Accepted 0x82 4) (example_fed pages width height) lent).lent.words 0x10 ≡ 500
+    → word_at_address (handing a (Some (line.Accepted 0x82 4)) (example_fed pages width height) lent).lent.words 0x10 ≡ 500
 unfolding handing handing_over accepting fed_bytes new_panel
 stored_500 pages width height lent long a is =
     let setup = plain pages width height in
@@ -50,7 +51,7 @@ stored_500 pages width height lent long a is =
     rw is (example_f (fixed_for setup) panel.registers (with_room lent (drop answer.count answer.room)) long)
 
 module _ (pages width height : ℕ) where
-  frame_read : (asked (example_fed pages width height).reader).report ≡ line.Accepted 0x82 4
+  frame_read : (asked (example_fed pages width height).reader).report ≡ Some (line.Accepted 0x82 4)
   unfolding fed_bytes new_panel given_bytes given_byte asked padded header_bytes check_length least_length content_of right_check look behind after_header decided_by_check cut_short is_pass passes still_closed settled with_byte
   frame_read = refl
 
@@ -66,4 +67,4 @@ module _ (pages width height : ℕ) where
   example_f_of_the_panel lent whole area large list =
       let a = asked (example_fed pages width height).reader in
       rw (eq-eqb (length lent.words) word_count whole, eq-eqb (length lent.curves) curve_words area, le-leb least_room (length lent.room) large, list, frame_read)
-      (stored_500 pages width height lent (omega arith) (record { report = line.Accepted 0x82 4; payload = a.payload; reader = a.reader }) data_read)
+      (stored_500 pages width height lent (omega arith) (record { report = Some (line.Accepted 0x82 4); payload = a.payload; reader = a.reader }) data_read)

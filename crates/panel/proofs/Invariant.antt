@@ -1,4 +1,5 @@
 -- Every panel reached from a start by any calls is sound; what that says, sentence by sentence.
+use Rattle.std.specs.Prelude.{None, Ok, Err}
 use mathlib.Core.Path.{◌≡◌, refl, sym, ap, ◌∙◌}
 use mathlib.Core.Logic.{◌⊎◌, ◌≢◌, inl, inr}
 use mathlib.Core.Bool.{Bool, true, false, cond, not}
@@ -15,13 +16,12 @@ use Rattle.registers.specs.Table.{start_rows, with_rows, start_registers, regist
 use Rattle.registers.proofs.Runs.{started as start_sets}
 use Rattle.registers.specs.Touched.{page_of, is_down}
 use Rattle.touch.specs.declared.Setup.{Setup}
-use Rattle.touch.specs.declared.Verdict.{Verdict}
-use Rattle.touch.specs.declared.Verdict.TheVariants.{Good, NotRecords, Wrong}
+use Rattle.touch.specs.Judge.{Verdict}
+use Rattle.touch.specs.declared.TableError.TheVariants.{NotRecords, Wrong}
 use Rattle.touch.specs.Setup.{checking_of, acknowledging_of, good_setup}
 use Rattle.touch.specs.Judge.{judged}
-use Rattle.contact.specs.declared.Catch.TheVariants.{Free}
 use Rattle.panel.specs.declared.Panel.{Panel}
-use Rattle.panel.specs.declared.StartAnswer.TheVariants as start
+use Rattle.panel.specs.declared.StartError.TheVariants as start_error
 use Rattle.panel.specs.State.{panel_register}
 use Rattle.panel.specs.Start.{refuses, new_panel, start_judged, started}
 use Rattle.panel.specs.Sound.{line_of, Sound}
@@ -29,18 +29,18 @@ use Rattle.panel.specs.Reachable.{Reachable, by_start, by_byte, by_mark, by_seco
 use Rattle.panel.proofs.Soundness.{held_257, new_sound, byte_sound, mark_sound, second_sound, bytes_sound, report_sound, contact_sound, lift_sound}
 
 -- a start that is done had a good setup
-judged_started : (verdict : Verdict) (setup : Setup) → (start_judged verdict setup).answer ≡ start.Started → (start_judged verdict setup).panel ≡ new_panel setup
+judged_started : (verdict : Verdict) (setup : Setup) → (start_judged verdict setup).answer ≡ Ok tt → (start_judged verdict setup).panel ≡ new_panel setup
 unfolding start_judged
-judged_started Good setup is = refl
-judged_started NotRecords setup is = absurd (let z : ◌≡◌ {A = ℕ} 0 1 = cc in omega arith)
-judged_started (Wrong i) setup is = absurd (let z : ◌≡◌ {A = ℕ} 0 1 = cc in omega arith)
+judged_started (Ok tt) setup is = refl
+judged_started (Err NotRecords) setup is = absurd (let z : ◌≡◌ {A = ℕ} 0 1 = cc in omega arith)
+judged_started (Err (Wrong i)) setup is = absurd (let z : ◌≡◌ {A = ℕ} 0 1 = cc in omega arith)
 
-pub started_sound : (setup : Setup) (table : List ℕ) → (started setup table).answer ≡ start.Started → Sound (started setup table).panel
+pub started_sound : (setup : Setup) (table : List ℕ) → (started setup table).answer ≡ Ok tt → Sound (started setup table).panel
 unfolding started
 started_sound setup table is = go (good_setup setup) refl is
   where
-    go : (b : Bool) → good_setup setup ≡ b → (cond (not b) (refuses start.WrongSetup) (start_judged (judged setup table) setup)).answer ≡ start.Started
-        → Sound (cond (not b) (refuses start.WrongSetup) (start_judged (judged setup table) setup)).panel
+    go : (b : Bool) → good_setup setup ≡ b → (cond (not b) (refuses (Err start_error.WrongSetup)) (start_judged (judged setup table) setup)).answer ≡ Ok tt
+        → Sound (cond (not b) (refuses (Err start_error.WrongSetup)) (start_judged (judged setup table) setup)).panel
     go true good is = rw (judged_started (judged setup table) setup is) (new_sound setup good)
     go false good is = absurd (let z : ◌≡◌ {A = ℕ} 0 1 = cc in omega arith)
 
@@ -108,7 +108,7 @@ module _ (panel : Panel) (reachable : Reachable panel) where
   page_always_below = sound.pad.below
 
   -- a catch only while down
-  pub up_holds_no_catch : is_down panel.registers ≡ false → panel.catch ≡ Free
+  pub up_holds_no_catch : is_down panel.registers ≡ false → panel.catch ≡ None
   up_holds_no_catch = sound.pad.up_free
 
   -- "otherwise the bytes from the waiting place on are held": one byte less than the longest frame has

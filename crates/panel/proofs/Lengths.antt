@@ -1,4 +1,5 @@
 -- No call changes how many words are lent, how large the reply room is, or whether the watch list is refused.
+use Rattle.std.specs.Prelude.{None, Some}
 use mathlib.Core.Path.{◌≡◌, refl, sym, ap, ◌∙◌}
 use mathlib.Core.Bool.{Bool, true, false, cond, ◌&&◌}
 use mathlib.Core.List.{List, ◌++◌}
@@ -19,11 +20,9 @@ use Rattle.registers.specs.Touched.{is_down, page_of, with_status, with_place}
 use Rattle.words.specs.Words.{words_of, words_written}
 use Rattle.words.proofs.OneWord.{length_word_set}
 use Rattle.touch.specs.declared.Setup.{Setup}
-use Rattle.touch.specs.declared.Found.{Found}
-use Rattle.touch.specs.declared.Found.TheVariants as finds
+use Rattle.touch.specs.Table.{Found}
 use Rattle.touch.specs.Find.{found}
-use Rattle.contact.specs.declared.Catch.{Catch}
-use Rattle.contact.specs.declared.Catch.TheVariants.{Free, Caught}
+use Rattle.contact.specs.Contact.{Catch}
 use Rattle.contact.specs.declared.Pad.{Pad}
 use Rattle.contact.specs.Contact.{acting, pressed, dragging, held_down, touched}
 use Rattle.curves.specs.declared.Counts.{Counts}
@@ -35,7 +34,7 @@ use Rattle.watch.specs.Sending.{sending}
 use Rattle.watch.proofs.Judged.{judged_alike}
 use Rattle.watch.proofs.Noted.{length_noted}
 use Rattle.watch.proofs.Sent.{length_sending}
-use Rattle.commands.specs.declared.Outcome.{Outcome}
+use Rattle.commands.specs.Outcome.{Outcome}
 use Rattle.commands.specs.declared.Fixed.{Fixed}
 use Rattle.commands.specs.Lent.{Lent, with_room}
 use Rattle.commands.specs.Outcome.{is_done}
@@ -188,14 +187,14 @@ reported_list_judged panel lent =
 -- a contact stores in one word at most
 dragged_long : (setup : Setup) (catch : Catch) (words : List ℕ) (x y : ℕ) → length (dragging setup catch words x y) ≡ length words
 unfolding dragging
-dragged_long setup Free words x y = refl
-dragged_long setup (Caught r) words x y = length_word_set words r.word _
+dragged_long setup None words x y = refl
+dragged_long setup (Some r) words x y = length_word_set words r.word _
 
 acted_long : (setup : Setup) (f : Found) (registers : Registers) (catch : Catch) (words : List ℕ) (x y : ℕ)
     → length (acting setup f registers catch words x y).words ≡ length words
 unfolding acting
-acted_long setup finds.Nothing registers catch words x y = refl
-acted_long setup (finds.At i r) registers catch words x y = length_word_set words r.word _
+acted_long setup None registers catch words x y = refl
+acted_long setup (Some (i, r)) registers catch words x y = length_word_set words r.word _
 
 touched_long : (setup : Setup) (pad : Pad) (table words : List ℕ) (x y : ℕ) → length (touched setup pad table words x y).words ≡ length words
 unfolding touched held_down pressed

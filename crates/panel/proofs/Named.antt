@@ -1,4 +1,5 @@
 -- Demand 2: "No word or register changes but those the command or touch rule names."
+use Rattle.std.specs.Prelude.{Some}
 use mathlib.Core.Path.{◌≡◌, refl}
 use mathlib.Core.Logic.{◌⊎◌, ◌≢◌, inl, inr, ⊎_elim}
 use mathlib.Core.Bool.{true}
@@ -23,12 +24,12 @@ use Rattle.panel.proofs.Ways.{contact_ways, lift_ways, second_ways, report_ways}
 
 -- the frame that is handed over names the word
 pub data ReportNamesWord (panel : Panel) (words : List ℕ) (k : ℕ) : Type 0 where
-  accepted : (command count : ℕ) → (asked panel.reader).report ≡ line.Accepted command count
+  accepted : (command count : ℕ) → (asked panel.reader).report ≡ Some (line.Accepted command count)
       → Command.NamesWord command (take count (asked panel.reader).payload) (length words) k → ReportNamesWord panel words k
 
 -- the frame that is handed over names the register
 pub data ReportNamesRegister (panel : Panel) (address : ℕ) : Type 0 where
-  accepted : (command count : ℕ) → (asked panel.reader).report ≡ line.Accepted command count
+  accepted : (command count : ℕ) → (asked panel.reader).report ≡ Some (line.Accepted command count)
       → Command.NamesRegister command (take count (asked panel.reader).payload) panel.setup.pages address → ReportNamesRegister panel address
 
 module _ (panel : Panel) (lent : Lent) where

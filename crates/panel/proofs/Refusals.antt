@@ -1,5 +1,6 @@
 -- Demand 1: "A refused command is still handed over and acknowledged as printed; beyond that a refusal leaves the panel, the variable words and the
 -- reply room as they stood."
+use Rattle.std.specs.Prelude.{None, Some, Ok, Err}
 use mathlib.Core.Path.{◌≡◌, refl, ap}
 use mathlib.Core.Bool.{Bool, true, false, cond, not}
 use mathlib.Core.List.{List, [], ◌∷◌}
@@ -7,7 +8,7 @@ use Prim.Native.Nat.{ℕ, ◌<◌}
 use native.Mathlib.Omega.{arith}
 use lib.ListN.{length, take, drop, take-append-drop}
 use Rattle.line.specs.declared.Reader.{Reader}
-use Rattle.line.specs.declared.Answer.TheVariants as line_answer
+use Rattle.line.specs.declared.Waiting.TheVariants as line_answer
 use Rattle.line.specs.declared.Report.TheVariants as line
 use Rattle.line.specs.declared.Asked.{Asked}
 use Rattle.line.specs.Methods.{gives, busy, given_byte, given_mark, given_bytes, asked}
@@ -16,14 +17,14 @@ use Rattle.commands.specs.Outcome.{number_of_outcome, outcome}
 use Rattle.commands.proofs.Performance.{performs_outcome}
 use Rattle.commands.proofs.Refusals.{number_refuses, number_at_most_7, refusal_changes_nothing}
 use Rattle.touch.specs.declared.Setup.{Setup}
-use Rattle.touch.specs.declared.Verdict.{Verdict}
-use Rattle.touch.specs.declared.Verdict.TheVariants.{Good, NotRecords, Wrong}
+use Rattle.touch.specs.Judge.{Verdict}
+use Rattle.touch.specs.declared.TableError.TheVariants.{NotRecords, Wrong}
 use Rattle.touch.specs.Setup.{good_setup}
 use Rattle.touch.specs.Judge.{judged}
 use Rattle.registers.specs.Clocked.{second_passed}
 use Rattle.panel.specs.declared.Panel.{Panel}
 use Rattle.panel.specs.declared.Fed.{Fed}
-use Rattle.panel.specs.declared.StartAnswer.TheVariants as start
+use Rattle.panel.specs.declared.StartError.TheVariants as start_error
 use Rattle.panel.specs.declared.Handed.TheVariants as handed
 use Rattle.panel.specs.State.{fixed_for, with_reader, with_registers}
 use Rattle.panel.specs.Numbers.{start_number, report_number, contact_number, lift_number}
@@ -36,30 +37,30 @@ use Rattle.panel.proofs.Ways.{contact_ways, lift_ways, report_ways}
 -- "A refused start gives no panel."
 judged_refused : (verdict : Verdict) (setup : Setup) → 0 < start_number (start_judged verdict setup).answer → (start_judged verdict setup).panel ≡ no_panel
 unfolding start_judged start_number
-judged_refused Good setup above = absurd (omega arith)
-judged_refused NotRecords setup above = refl
-judged_refused (Wrong i) setup above = refl
+judged_refused (Ok tt) setup above = absurd (omega arith)
+judged_refused (Err NotRecords) setup above = refl
+judged_refused (Err (Wrong i)) setup above = refl
 
 pub refused_start_gives_none : (setup : Setup) (table : List ℕ) → 0 < start_number (started setup table).answer → (started setup table).panel ≡ no_panel
 unfolding started
 refused_start_gives_none setup table = go (good_setup setup)
   where
-    go : (b : Bool) → 0 < start_number (cond (not b) (refuses start.WrongSetup) (start_judged (judged setup table) setup)).answer
-        → (cond (not b) (refuses start.WrongSetup) (start_judged (judged setup table) setup)).panel ≡ no_panel
+    go : (b : Bool) → 0 < start_number (cond (not b) (refuses (Err start_error.WrongSetup)) (start_judged (judged setup table) setup)).answer
+        → (cond (not b) (refuses (Err start_error.WrongSetup)) (start_judged (judged setup table) setup)).panel ≡ no_panel
     go true above = judged_refused (judged setup table) setup above
     go false above = refl
 
 -- "1: an input comes while a report waits": the panel stands as it stood
 module _ (panel : Panel) (waits : busy panel.reader ≡ true) where
-  pub refused_byte_changes_nothing : (b : ℕ) → fed_byte panel b ≡ record { answer = line_answer.Waits; panel = panel }
+  pub refused_byte_changes_nothing : (b : ℕ) → fed_byte panel b ≡ record { answer = Err line_answer.ReportWaits; panel = panel }
   unfolding fed_byte given_byte
   refused_byte_changes_nothing b = rw waits
 
-  pub refused_mark_changes_nothing : fed_mark panel ≡ record { answer = line_answer.Waits; panel = panel }
+  pub refused_mark_changes_nothing : fed_mark panel ≡ record { answer = Err line_answer.ReportWaits; panel = panel }
   unfolding fed_mark given_mark
   refused_mark_changes_nothing = rw waits
 
-  pub refused_second_changes_nothing : fed_second panel ≡ record { answer = line_answer.Waits; panel = panel }
+  pub refused_second_changes_nothing : fed_second panel ≡ record { answer = Err line_answer.ReportWaits; panel = panel }
   unfolding fed_second
   refused_second_changes_nothing = rw waits
 
@@ -69,24 +70,24 @@ module _ (panel : Panel) (waits : busy panel.reader ≡ true) where
   refused_bytes_change_nothing (b ∷ bytes) = rw waits
 
 -- an input that is answered 1 came while a report waited
-answered_waits : (w : Bool) (r s : Reader) → (cond w (gives line_answer.Waits r) (gives line_answer.Done s)).answer ≡ line_answer.Waits → w ≡ true
+answered_waits : (w : Bool) (r s : Reader) → (cond w (gives (Err line_answer.ReportWaits) r) (gives (Ok tt) s)).answer ≡ Err line_answer.ReportWaits → w ≡ true
 answered_waits true r s is = refl
 answered_waits false r s is = cc
 
-pub byte_refused_waits : (panel : Panel) (b : ℕ) → (fed_byte panel b).answer ≡ line_answer.Waits → busy panel.reader ≡ true
+pub byte_refused_waits : (panel : Panel) (b : ℕ) → (fed_byte panel b).answer ≡ Err line_answer.ReportWaits → busy panel.reader ≡ true
 unfolding fed_byte given_byte
 byte_refused_waits panel b is = answered_waits (busy panel.reader) panel.reader _ is
 
-pub mark_refused_waits : (panel : Panel) → (fed_mark panel).answer ≡ line_answer.Waits → busy panel.reader ≡ true
+pub mark_refused_waits : (panel : Panel) → (fed_mark panel).answer ≡ Err line_answer.ReportWaits → busy panel.reader ≡ true
 unfolding fed_mark given_mark
 mark_refused_waits panel is = answered_waits (busy panel.reader) panel.reader _ is
 
-pub second_refused_waits : (panel : Panel) → (fed_second panel).answer ≡ line_answer.Waits → busy panel.reader ≡ true
+pub second_refused_waits : (panel : Panel) → (fed_second panel).answer ≡ Err line_answer.ReportWaits → busy panel.reader ≡ true
 unfolding fed_second
 second_refused_waits panel is = go (busy panel.reader) is
   where
-    go : (w : Bool) → (cond {A = Fed} w (record { answer = line_answer.Waits; panel = panel })
-        (record { answer = line_answer.Done; panel = with_registers panel (second_passed panel.registers) })).answer ≡ line_answer.Waits → w ≡ true
+    go : (w : Bool) → (cond {A = Fed} w (record { answer = Err line_answer.ReportWaits; panel = panel })
+        (record { answer = Ok tt; panel = with_registers panel (second_passed panel.registers) })).answer ≡ Err line_answer.ReportWaits → w ≡ true
     go true is = refl
     go false is = cc
 
@@ -118,11 +119,11 @@ pub record OnlyHanded (panel : Panel) (lent : Lent) (command : ℕ) (after : Rep
 
 module _ (panel : Panel) (lent : Lent) where
   handing_refused : (a : Asked) (command count : ℕ)
-      → 0 < report_number (handing a (line.Accepted command count) panel lent).reported.handed
-      → handing a (line.Accepted command count) panel lent
+      → 0 < report_number (handing a (Some (line.Accepted command count)) panel lent).reported.handed
+      → handing a (Some (line.Accepted command count)) panel lent
       ≡ reports (record {
-        handed = handed.Accepted command count (outcome (fixed_for panel.setup) (length lent.words) command (take count a.payload))
-            (acknowledged panel.setup command true lent.room).count 0;
+        handed = Ok (Some (handed.Accepted command count (outcome (fixed_for panel.setup) (length lent.words) command (take count a.payload))
+            (acknowledged panel.setup command true lent.room).count 0));
         payload = a.payload;
         panel = with_reader panel a.reader;
       }) (with_room lent (acknowledged panel.setup command true lent.room).room)
@@ -143,18 +144,18 @@ module _ (panel : Panel) (lent : Lent) where
 -- an ask with a number above 0: 14 or 16, with the panel and all that is lent as they stood, or a refused command, handed over and acknowledged
 pub data RefusedReport (panel : Panel) (lent : Lent) (after : Reporting) : Type 0 where
   not_lent : after.reported.panel ≡ panel → after.lent ≡ lent → RefusedReport panel lent after
-  handed_over : (command count : ℕ) → (asked panel.reader).report ≡ line.Accepted command count → OnlyHanded panel lent command after
+  handed_over : (command count : ℕ) → (asked panel.reader).report ≡ Some (line.Accepted command count) → OnlyHanded panel lent command after
       → RefusedReport panel lent after
 
 only_handed_lem : (panel : Panel) (lent : Lent) (command count : ℕ)
-    → 0 < report_number (handing (asked panel.reader) (line.Accepted command count) panel lent).reported.handed
-    → OnlyHanded panel lent command (handing (asked panel.reader) (line.Accepted command count) panel lent)
+    → 0 < report_number (handing (asked panel.reader) (Some (line.Accepted command count)) panel lent).reported.handed
+    → OnlyHanded panel lent command (handing (asked panel.reader) (Some (line.Accepted command count)) panel lent)
 only_handed_lem panel lent command count above =
     let is = handing_refused panel lent (asked panel.reader) command count above in
     record { panel_read = ap (λ (r : Reporting). r.reported.panel) is; only_acknowledged = ap (λ (r : Reporting). r.lent) is }
 
 bad_number : (panel : Panel) (lent : Lent) (command : ℕ)
-    → 0 < report_number (handing (asked panel.reader) (line.BadCheck command) panel lent).reported.handed → ⊥
+    → 0 < report_number (handing (asked panel.reader) (Some (line.BadCheck command)) panel lent).reported.handed → ⊥
 unfolding handing handing_over report_number
 bad_number panel lent command above = omega arith
 
@@ -165,8 +166,8 @@ refused_report_only_handed panel lent =
     (λ command is above. bad_has_none command above)
     (λ good command count is above. handed_over command count is (only_handed_lem panel lent command count above))
   where
-    bad_has_none : (command : ℕ) → 0 < report_number (handing (asked panel.reader) (line.BadCheck command) panel lent).reported.handed
-        → RefusedReport panel lent (handing (asked panel.reader) (line.BadCheck command) panel lent)
+    bad_has_none : (command : ℕ) → 0 < report_number (handing (asked panel.reader) (Some (line.BadCheck command)) panel lent).reported.handed
+        → RefusedReport panel lent (handing (asked panel.reader) (Some (line.BadCheck command)) panel lent)
     bad_has_none command above = absurd (bad_number panel lent command above)
 
 -- what stands as it stood
@@ -174,7 +175,7 @@ abbrev pub AsItStood : Panel → Lent → Reporting → Type 0
 AsItStood panel lent after = (after.reported.panel ≡ panel) × (after.lent ≡ lent)
 
 -- "'Nothing' changes nothing, the reply room included."
-pub nothing_changes_nothing : (panel : Panel) (lent : Lent) → (asked panel.reader).report ≡ line.Nothing
+pub nothing_changes_nothing : (panel : Panel) (lent : Lent) → (asked panel.reader).report ≡ None
     → AsItStood panel lent (reporting panel lent)
 nothing_changes_nothing panel lent none =
     report_ways panel lent (λ r. AsItStood panel lent r) (λ h payload. (refl, refl))

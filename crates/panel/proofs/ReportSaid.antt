@@ -1,4 +1,5 @@
 -- What asking for a report is answered says what 01's list gives: 14, then "nothing" or a bad check, then 2 to 7 beside an accepted frame.
+use Rattle.std.specs.Prelude.{None, Some, Ok}
 use mathlib.Core.Path.{◌≡◌, refl, ap, ◌∙◌}
 use mathlib.Core.Bool.{Bool, true, false, cond}
 use mathlib.Core.List.{List, [], ◌∷◌}
@@ -53,7 +54,7 @@ module _ (panel : Panel) (lent : Lent) (whole : length lent.words ≡ word_count
 
   -- an accepted frame: what is said of its command stands behind its own values
   accepted_said : (command count : ℕ) (payload content : List ℕ) → take count payload ≡ content
-      → handed_said (handing_over setup panel.registers (line.Accepted command count) payload lent).over.handed
+      → handed_said (Ok (handing_over setup panel.registers (Some (line.Accepted command count)) payload lent).over.handed)
       ≡ beside (command ∷ count ∷ answer_length setup ∷ []) (perform_said (fixed_for setup) word_count (length lent.room - answer_length setup) command content)
   unfolding handing_over accepting handed_said report_number performed_said
   accepted_said command count payload content is =
@@ -66,7 +67,7 @@ module _ (panel : Panel) (lent : Lent) (whole : length lent.words ≡ word_count
       ∙ rw (whole, left, counted, is)
 
   -- what waits: nothing, a bad check or an accepted frame
-  waiting_said : handed_said (handing_over setup panel.registers (asked panel.reader).report (asked panel.reader).payload lent).over.handed
+  waiting_said : handed_said (Ok (handing_over setup panel.registers (asked panel.reader).report (asked panel.reader).payload lent).over.handed)
       ≡ cond (hands_nothing panel.reader) (says 0 [])
       (cond (is_bad panel.reader.head) (says 0 (bad_command panel.reader.head ∷ answer_length setup ∷ [])) (frame_said panel lent))
   unfolding handing_over handed_said report_number frame_said
@@ -79,9 +80,9 @@ module _ (panel : Panel) (lent : Lent) (whole : length lent.words ≡ word_count
       payload = (asked panel.reader).payload
 
       go : (none : Bool) → hands_nothing panel.reader ≡ none → (bad : Bool)
-          → handed_said (handing_over setup panel.registers
-          (cond none line.Nothing (cond bad (line.BadCheck (bad_command panel.reader.head)) (line.Accepted (front_command panel.reader) (length content)))) payload lent
-          ).over.handed
+          → handed_said (Ok (handing_over setup panel.registers
+          (cond none None (cond bad (Some (line.BadCheck (bad_command panel.reader.head))) (Some (line.Accepted (front_command panel.reader) (length content))))) payload lent
+          ).over.handed)
           ≡ cond none (says 0 []) (cond bad (says 0 (bad_command panel.reader.head ∷ answer_length setup ∷ [])) (frame_said panel lent))
       go true is bad = refl
       go false is true =

@@ -1,13 +1,15 @@
 -- Laws of asking for a report: one for each way it answers.
+use Rattle.std.specs.Prelude.{Option, None, Some, Result, Ok, Err}
+use Rattle.line.specs.declared.Report.{Report}
 use mathlib.Core.Path.{◌≡◌, refl, sym, ap, ◌∙◌}
-use mathlib.Core.Bool.{Bool, true, false, cond, ◌&&◌}
+use mathlib.Core.Bool.{Bool, true, false, cond, not, ◌&&◌}
 use mathlib.Core.List.{List, [], ◌++◌, append-nil}
 use Prim.Native.Nat.{ℕ, ◌-◌, ◌≤◌, ◌<◌, min}
 use native.Mathlib.Nat.{min-le_right, min-eq_left, min-eq_right, le_of_lt}
 use native.Mathlib.Omega.{arith}
 use borrow.Author.Tests.{leb-true, leb-false}
 use lib.Dec.{eqb, leb}
-use lib.ListN.{length, take, drop}
+use lib.ListN.{length, take, drop, replicate}
 use lib.Seq.{take_all}
 use Rattle.wire.specs.Room.{over, Laid, lays, laid}
 use Rattle.wire.proofs.Parts.{part_whole, part_end, front_length}
@@ -16,7 +18,6 @@ use Rattle.frame.specs.Frame.{header_bytes, most_payload}
 use Rattle.line.specs.State.{padded}
 use Rattle.frame.specs.Acknowledgement.{acknowledgement}
 use Rattle.frame.specs.Writer.{least_room, acknowledgement_laid}
-use Rattle.line.specs.declared.Report.{Report}
 use Rattle.line.specs.declared.Report.TheVariants as line
 use Rattle.line.specs.declared.Asked.{Asked}
 use Rattle.line.specs.Methods.{asked}
@@ -34,10 +35,13 @@ use Rattle.commands.specs.Effect.{registers_left, counts_left}
 use Rattle.commands.specs.Perform.{Performance, performs, performance}
 use Rattle.touch.specs.declared.Setup.{Setup}
 use Rattle.touch.specs.Setup.{checking_of, acknowledging_of}
-use Rattle.contact.specs.declared.Catch.{Catch}
+use Rattle.contact.specs.Contact.{Catch}
 use Rattle.panel.specs.declared.Panel.{Panel}
-use Rattle.panel.specs.declared.Handed.{Handed}
+use Rattle.panel.specs.Answers.{AskAnswer}
 use Rattle.panel.specs.declared.Handed.TheVariants as handed
+use Rattle.panel.specs.declared.LentError.{LentError}
+use Rattle.panel.specs.declared.LentError.TheVariants as lent_error
+use Rattle.panel.specs.Inner.{ask_judged}
 use Rattle.panel.specs.declared.Effected.{Effected}
 use Rattle.panel.specs.declared.HandedOver.{HandedOver}
 use Rattle.panel.specs.declared.Reported.{Reported}
@@ -134,27 +138,28 @@ taken_same count n payload is long = go (leb count most_payload) refl
         take_all n payload (omega arith) ∙ sym (take_all count payload (omega arith))
 
 -- a report that is handed over
-module _ (setup : Setup) (registers : Registers) (report : Report) (payload words room : List ℕ) where
-  pub over_nothing : (o : HandedOver) → report ≡ line.Nothing → o ≡ only_handed handed.Nothing → (rest : Lent)
+module _ (setup : Setup) (registers : Registers) (report : Option Report) (payload words room : List ℕ) where
+  pub over_nothing : (o : HandedOver) → report ≡ None → o ≡ only_handed None → (rest : Lent)
       → overs o (with_words_room rest words room) ≡ handing_over setup registers report payload (with_words_room rest words room)
   unfolding handing_over
   over_nothing o is is-o rest = rw (is, is-o)
 
-  pub over_bad : (command count : ℕ) (left : List ℕ) (o : HandedOver) → report ≡ line.BadCheck command → lays count left ≡ acknowledged setup command false room
-      → o ≡ only_handed (handed.BadCheck command count) → (rest : Lent)
+  pub over_bad : (told : Report) (command count : ℕ) (left : List ℕ) (o : HandedOver) → report ≡ Some told → told ≡ line.BadCheck command → lays count left ≡ acknowledged setup command false room
+      → o ≡ only_handed (Some (handed.BadCheck command count)) → (rest : Lent)
       → overs o (with_words_room rest words left) ≡ handing_over setup registers report payload (with_words_room rest words room)
   unfolding handing_over
-  over_bad command count left o is e is-o rest =
-      rw (is, is-o) (ap (λ (l : Laid). overs (only_handed (handed.BadCheck command l.count)) (with_words_room rest words l.room)) e)
+  over_bad told command count left o is bad e is-o rest =
+      rw (is, bad, is-o) (ap (λ (l : Laid). overs (only_handed (Some (handed.BadCheck command l.count))) (with_words_room rest words l.room)) e)
 
-  pub over_accepted : (command len n : ℕ) (e : Effected) (words' left : List ℕ) (o : HandedOver) → report ≡ line.Accepted command len → n ≡ min len most_payload
+  pub over_accepted : (told : Report) (command len n : ℕ) (e : Effected) (words' left : List ℕ) (o : HandedOver) → report ≡ Some told
+      → told ≡ line.Accepted command len → n ≡ min len most_payload
       → length payload ≡ most_payload
       → ((rest : Lent) → effects e (with_words_room rest words' left) ≡ accepting setup registers command (take n payload) (with_words_room rest words room))
       → o ≡ accepted_over command len e → (rest : Lent)
       → overs o (with_words_room rest words' left) ≡ handing_over setup registers report payload (with_words_room rest words room)
   unfolding handing_over
-  over_accepted command len n e words' left o is is-n long done is-o rest =
-      rw (is, is-o)
+  over_accepted told command len n e words' left o is accepted is-n long done is-o rest =
+      rw (is, accepted, is-o)
       (ap (λ (d : Effects). overs (accepted_over command len d.effected) d.lent)
       (done rest ∙ ap (λ (content : List ℕ). accepting setup registers command content (with_words_room rest words room)) (taken_same len n payload is-n long)))
 
@@ -172,9 +177,9 @@ module _ (writes adds : Bool) (counts : Counts) (content area : List ℕ) where
   drawn_nothing is off = rw (is, off)
 
 -- the data of a report, out of its array
-pub content_is : (report : Report) (payload : List ℕ) (len n : ℕ) → len ≡ length_of report → n ≡ min len most_payload → length payload ≡ most_payload
+pub content_is : (report : Option Report) (payload : List ℕ) (n : ℕ) → n ≡ min (length_of report) most_payload → length payload ≡ most_payload
     → take n payload ≡ take (length_of report) payload
-content_is report payload len n is-len is-n long = taken_same len n payload is-n long ∙ ap (λ (k : ℕ). take k payload) is-len
+content_is report payload n is-n long = taken_same (length_of report) n payload is-n long
 
 -- the registers behind a report
 module _ (registers : Registers) (writes : Bool) (content : List ℕ) (after : Registers) where
@@ -185,8 +190,9 @@ module _ (registers : Registers) (writes : Bool) (content : List ℕ) (after : R
   behind_unwritten is is-after = rw (is, is-after)
 
 -- what is lent is not what it must be
-pub refused_is : (given : Handed) (panel : Panel) (payload : List ℕ) → payload ≡ padded most_payload []
+pub refused_is : (given : AskAnswer) (panel : Panel) (payload : List ℕ) → payload ≡ replicate most_payload 0
     → ◌≡◌ {A = Reported} (record { handed = given; payload = payload; panel = panel }) (refused given panel)
+unfolding padded
 refused_is given panel payload empty = rw empty
 
 -- the panel behind a report
@@ -196,7 +202,7 @@ left_behind panel a curves watched done =
     let drawn = drawing done.over.writes done.over.adds panel.counts content curves in
     reports
     (record {
-      handed = done.over.handed;
+      handed = Ok done.over.handed;
       payload = a.payload;
       panel = record {
         setup = panel.setup;
@@ -213,22 +219,34 @@ module _ (panel : Panel) (words curves room : List ℕ) (watched : Watched) (l :
   abbrev lent : Lent
   lent = lending words curves room watched
 
-  pub reported_14 : (r : Reported) → l ≡ false → r ≡ refused handed.NotLent panel → reports r lent ≡ reporting panel lent
-  unfolding reporting
-  reported_14 r is is-r = rw (is-r, sym is-l ∙ is)
+  module _ (wrong : Bool) (is_wrong : wrong ≡ wrong_list watched) (first : Result Unit LentError) (is-first : first ≡ ask_judged l wrong) where
+    -- whatever would come in place of a refusal
+    chosen : (a b : Bool) (why : LentError) (other : Reporting) → ask_judged a b ≡ Err why
+        → reports (refused (Err why) panel) lent ≡ cond (a && not b) other (reports (refused (cond a (Err lent_error.WrongList) (Err lent_error.NotLent)) panel) lent)
+    unfolding ask_judged
+    chosen false b why other is = cc
+    chosen true true why other is = cc
+    chosen true false why other is = cc
 
-  module _ (is : l ≡ true) (wrong : Bool) (is_wrong : wrong ≡ wrong_list watched) where
-    pub reported_16 : (r : Reported) → wrong ≡ true → r ≡ refused handed.WrongList panel → reports r lent ≡ reporting panel lent
+    pub reported_refused : (why : LentError) (r : Reported) → first ≡ Err why → r ≡ refused (Err why) panel → reports r lent ≡ reporting panel lent
     unfolding reporting
-    reported_16 r wrongly is-r = rw (is-r, sym is-l ∙ is, sym is_wrong ∙ wrongly)
+    reported_refused why r is is-r = rw (is-r, ← is-l, ← is_wrong) (chosen l wrong why _ (sym is-first ∙ is))
 
-    module _ (good : wrong ≡ false) (a : Asked) (is-a : a ≡ asked panel.reader) (o : HandedOver) (words' left : List ℕ)
+    -- what is not refused is well lent
+    passes : (a b : Bool) → ((why : LentError) → ask_judged a b ≡ Err why → ⊥) → (a ≡ true) × (b ≡ false)
+    unfolding ask_judged
+    passes false b none = absurd (none lent_error.NotLent refl)
+    passes true true none = absurd (none lent_error.WrongList refl)
+    passes true false none = (refl, refl)
+
+    module _ (goes : (why : LentError) → first ≡ Err why → ⊥) (a : Asked) (is-a : a ≡ asked panel.reader) (o : HandedOver) (words' left : List ℕ)
         (is-o : overs o (with_words_room lent words' left) ≡ handing_over panel.setup panel.registers a.report a.payload lent)
         (catch : Catch) (is-catch : catch ≡ catch_after o.drops panel.catch) where
       behind : left_behind panel a curves watched (overs o (with_words_room lent words' left)) ≡ reporting panel lent
       unfolding reporting handing
       behind =
-          rw (sym is-l ∙ is, sym is_wrong ∙ good)
+          let good = passes l wrong (λ why is. goes why (is-first ∙ is)) in
+          rw (sym is-l ∙ good.0, sym is_wrong ∙ good.1)
           (ap (left_behind panel a curves watched) is-o ∙ ap (λ (x : Asked). handing x x.report panel lent) is-a)
 
       -- n is how much of the array is handed on as the data
@@ -238,7 +256,7 @@ module _ (panel : Panel) (words curves room : List ℕ) (watched : Watched) (l :
           → watched' ≡ noting o.notes (take n a.payload) words' watched
           → reports
           (record {
-            handed = o.handed;
+            handed = Ok o.handed;
             payload = a.payload;
             panel = record { setup = panel.setup; registers = after; catch = catch; counts = counts; reader = a.reader };
           }) (lending words' area left watched') ≡ reporting panel lent
@@ -253,7 +271,7 @@ module _ (panel : Panel) (words curves room : List ℕ) (watched : Watched) (l :
           (ap (λ (d : Drawn).
           reports
           (record {
-            handed = o.handed;
+            handed = Ok o.handed;
             payload = a.payload;
             panel = record {
               setup = panel.setup;

@@ -1,11 +1,12 @@
 -- What a start, an input, a contact and a lift are answered says what 01's lists give.
+use Rattle.std.specs.Prelude.{None, Some, Ok, Err}
 use mathlib.Core.Path.{◌≡◌, refl, ap, ◌∙◌}
 use mathlib.Core.Bool.{Bool, true, false, cond, not}
 use mathlib.Core.List.{List, []}
 use Prim.Native.Nat.{ℕ}
 use lib.ListN.{length}
 use Rattle.wire.specs.Numbers.{Said, says, first_said}
-use Rattle.line.specs.declared.Answer.TheVariants as input
+use Rattle.line.specs.declared.Waiting.TheVariants as input
 use Rattle.line.specs.Methods.{busy, number_of_answer, answer_said, input_listed, input_said, given_byte, given_mark}
 use Rattle.line.proofs.Said.{byte_said, mark_said}
 use Rattle.registers.specs.Touched.{is_down, is_touch_off}
@@ -13,20 +14,19 @@ use Rattle.registers.specs.Clocked.{second_passed}
 use Rattle.watch.specs.Judge.{wrong_list}
 use Rattle.commands.specs.Lent.{Lent, with_words}
 use Rattle.touch.specs.declared.Setup.{Setup}
-use Rattle.touch.specs.declared.Found.{Found}
-use Rattle.touch.specs.declared.Found.TheVariants.{Nothing, At}
-use Rattle.touch.specs.declared.Verdict.TheVariants.{NotRecords}
+use Rattle.touch.specs.Table.{Found}
+use Rattle.touch.specs.declared.TableError.TheVariants.{NotRecords}
 use Rattle.touch.specs.Setup.{good_setup, setup_listed}
 use Rattle.touch.specs.Table.{first_of, records_of}
 use Rattle.touch.specs.Judge.{wrong, named_wrong, not_records, judged, is_found, number_found, table_listed}
 use Rattle.panel.specs.declared.Panel.{Panel}
 use Rattle.panel.specs.declared.Start.{Start}
-use Rattle.panel.specs.declared.StartAnswer.TheVariants as start
+use Rattle.panel.specs.declared.StartError.TheVariants as start_error
 use Rattle.panel.specs.declared.Fed.{Fed}
 use Rattle.panel.specs.declared.Contacted.{Contacted}
-use Rattle.panel.specs.declared.ContactAnswer.TheVariants as contact
+use Rattle.panel.specs.declared.ContactError.TheVariants as contact_error
 use Rattle.panel.specs.declared.Lifted.{Lifted}
-use Rattle.panel.specs.declared.LiftAnswer.TheVariants as lift
+use Rattle.panel.specs.declared.LiftError.TheVariants as lift_error
 use Rattle.panel.specs.Numbers.{start_number, start_said, contact_number, contact_said, lift_number, lift_said}
 use Rattle.panel.specs.Start.{refuses, start_judged, started}
 use Rattle.panel.specs.Inputs.{fed_byte, fed_mark, fed_second}
@@ -42,12 +42,12 @@ unfolding started start_judged judged start_said start_number start_listed setup
 start_as_listed setup table = go (not (good_setup setup)) (not_records table) (first_of (wrong setup) 0 (records_of table))
   where
     go : (a b : Bool) (f : Found)
-        → start_said (cond a (refuses start.WrongSetup) (start_judged (cond b NotRecords (named_wrong f)) setup)).answer
+        → start_said (cond a (refuses (Err start_error.WrongSetup)) (start_judged (cond b (Err NotRecords) (named_wrong f)) setup)).answer
         ≡ cond a (says 11 []) (cond b (says 12 []) (cond (is_found f) (says 13 (number_found f)) (says 0 [])))
     go true b f = refl
     go false true f = refl
-    go false false Nothing = refl
-    go false false (At i r) = refl
+    go false false None = refl
+    go false false (Some (i, r)) = refl
 
 pub start_said_lem : (setup : Setup) (table : List ℕ) (r : Start) → r ≡ started setup table
     → (r ≡ started setup table) × (start_said r.answer ≡ said_by (start_listed setup table))
@@ -63,8 +63,8 @@ second_as_listed : (panel : Panel) → answer_said (fed_second panel).answer ≡
 unfolding fed_second answer_said input_listed number_of_answer first_said
 second_as_listed panel = go (busy panel.reader)
   where
-    go : (b : Bool) → answer_said (cond {A = Fed} b (record { answer = input.Waits; panel = panel })
-        (record { answer = input.Done; panel = with_registers panel (second_passed panel.registers) })).answer
+    go : (b : Bool) → answer_said (cond {A = Fed} b (record { answer = Err input.ReportWaits; panel = panel })
+        (record { answer = Ok tt; panel = with_registers panel (second_passed panel.registers) })).answer
         ≡ cond b (says 1 []) (says 0 [])
     go true = refl
     go false = refl
@@ -93,7 +93,7 @@ module _ (panel : Panel) (c : Contact) (lent : Lent) where
       touch = touched panel.setup (pad_of panel) c.table lent.words c.x c.y
 
       go : (a b : Bool)
-          → said (told panel.setup (cond a (silent contact.TouchOff panel lent) (cond b (silent contact.OffScreen panel lent) (silent contact.Done (with_pad panel touch.pad) (with_words lent touch.words)))))
+          → said (told panel.setup (cond a (silent (Err contact_error.TouchOff) panel lent) (cond b (silent (Err contact_error.OffScreen) panel lent) (silent (Ok tt) (with_pad panel touch.pad) (with_words lent touch.words)))))
           ≡ cond a (says 9 []) (cond b (says 8 []) (contact_said_done panel c lent))
       go true b = refl
       go false true = refl
@@ -106,15 +106,15 @@ module _ (panel : Panel) (c : Contact) (lent : Lent) where
       (first_of (wrong panel.setup) 0 (records_of c.table))
     where
       go : (a w b d : Bool) (f : Found)
-          → said (cond a (silent contact.NotLent panel lent) (cond w (silent contact.WrongList panel lent) (cond b (silent contact.Waits panel lent)
-          (told panel.setup (contact_judged (cond d NotRecords (named_wrong f)) panel c lent)))))
+          → said (cond a (silent (Err contact_error.NotLent) panel lent) (cond w (silent (Err contact_error.WrongList) panel lent) (cond b (silent (Err contact_error.Waits) panel lent)
+          (told panel.setup (contact_judged (cond d (Err NotRecords) (named_wrong f)) panel c lent)))))
           ≡ cond a (says 14 []) (cond w (says 16 []) (cond b (says 1 []) (cond d (says 12 []) (cond (is_found f) (says 13 (number_found f)) rest))))
       go true w b d f = refl
       go false true b d f = refl
       go false false true d f = refl
       go false false false true f = refl
-      go false false false false Nothing = on_said
-      go false false false false (At i r) = refl
+      go false false false false None = on_said
+      go false false false false (Some (i, r)) = refl
 
 pub contact_said_lem : (panel : Panel) (c : Contact) (given left : (curves : List ℕ) → Lent) (r : Contacted)
     → ((curves : List ℕ) → contacts r (left curves) ≡ contacting panel c (given curves))
@@ -129,7 +129,7 @@ unfolding lifting lift_said lift_number lift_listed first_said
 lift_as_listed panel = go (busy panel.reader) (not (is_down panel.registers))
   where
     go : (a b : Bool)
-        → lift_said (cond a (lifts lift.Waits panel) (cond b (lifts lift.IsUp panel) (lifts lift.Done (with_pad panel (lifted (pad_of panel)))))).answer
+        → lift_said (cond a (lifts (Err lift_error.Waits) panel) (cond b (lifts (Err lift_error.IsUp) panel) (lifts (Ok tt) (with_pad panel (lifted (pad_of panel)))))).answer
         ≡ cond a (says 1 []) (cond b (says 10 []) (says 0 []))
     go true b = refl
     go false true = refl

@@ -1,4 +1,5 @@
 -- A new panel is sound, and every call keeps a panel sound.
+use Rattle.std.specs.Prelude.{None, Some, Ok, Err}
 use mathlib.Core.Path.{◌≡◌, refl, sym, ap, ◌∙◌}
 use mathlib.Core.Logic.{◌⊎◌, ◌≢◌, inl, inr}
 use mathlib.Core.Bool.{Bool, true, false, cond, ◌&&◌}
@@ -12,7 +13,7 @@ use Rattle.wire.specs.Bytes.{Bytes}
 use Rattle.wire.specs.ByteOrder.{byte_at}
 use Rattle.line.specs.declared.Line.{Line}
 use Rattle.line.specs.declared.Reader.{Reader}
-use Rattle.line.specs.declared.Answer.TheVariants as line_answer
+use Rattle.line.specs.declared.Waiting.TheVariants as line_answer
 use Rattle.line.specs.declared.Asked.{Asked}
 use Rattle.line.specs.State.{rules_for, reader_of}
 use Rattle.line.specs.Methods.{gives, busy, gave, plus, given_byte, given_mark, given_bytes, asked}
@@ -47,8 +48,7 @@ use Rattle.touch.specs.Record.{slides}
 use Rattle.touch.specs.Judge.{good_record}
 use Rattle.touch.specs.Setup.{flag_values, checking_of, acknowledging_of, good_setup}
 use Rattle.touch.proofs.GoodFields.{left, right}
-use Rattle.contact.specs.declared.Catch.{Catch}
-use Rattle.contact.specs.declared.Catch.TheVariants.{Free, Caught}
+use Rattle.contact.specs.Contact.{Catch}
 use Rattle.contact.specs.Contact.{pad_with, touched, lifted}
 use Rattle.contact.specs.Sound as Pad
 use Rattle.contact.proofs.Named.{other_register_stays, lift_only_status}
@@ -99,8 +99,8 @@ module _ (line : Line) (reader : Reader) (reads : Reads line reader) where
   reads_mark : Reads line (given_mark reader).reader
   reads_mark = rw (reads.is, mark_carried line reads.kept reads.reached) (go (waiting (rules_for line) reads.kept))
     where
-      go : (b : Bool) → Reads line (cond b (gives line_answer.Waits (reader_of line reads.kept))
-          (gives line_answer.Done (reader_of line (with_mark (rules_for line) reads.kept)))).reader
+      go : (b : Bool) → Reads line (cond b (gives (Err line_answer.ReportWaits) (reader_of line reads.kept))
+          (gives (Ok tt) (reader_of line (with_mark (rules_for line) reads.kept)))).reader
       go true = record { kept = reads.kept; reached = reads.reached; is = refl }
       go false = record { kept = with_mark (rules_for line) reads.kept; reached = reached_mark line reads.kept reads.reached; is = refl }
 
@@ -108,8 +108,8 @@ module _ (line : Line) (reader : Reader) (reads : Reads line reader) where
   reads_byte b byte = rw (reads.is, byte_carried line reads.kept b reads.reached) (go (waiting (rules_for line) reads.kept) refl)
     where
       go : (w : Bool) → waiting (rules_for line) reads.kept ≡ w
-          → Reads line (cond w (gives line_answer.Waits (reader_of line reads.kept))
-          (gives line_answer.Done (reader_of line (with_byte (rules_for line) reads.kept b)))).reader
+          → Reads line (cond w (gives (Err line_answer.ReportWaits) (reader_of line reads.kept))
+          (gives (Ok tt) (reader_of line (with_byte (rules_for line) reads.kept b)))).reader
       go true is = record { kept = reads.kept; reached = reads.reached; is = refl }
       go false is = record { kept = with_byte (rules_for line) reads.kept b; reached = reached_byte line reads.kept b reads.reached is byte; is = refl }
 
@@ -296,11 +296,11 @@ pad_after setup before after catch drops sound allowed =
       caught_good = good drops;
     }
   where
-    free : (b : Bool) → catch ≡ Free → catch_after b catch ≡ Free
+    free : (b : Bool) → catch ≡ None → catch_after b catch ≡ None
     free true is = refl
     free false is = is
 
-    good : (b : Bool) → (r : Record) → catch_after b catch ≡ Caught r → (good_record setup r ≡ true) × (slides r ≡ true)
+    good : (b : Bool) → (r : Record) → catch_after b catch ≡ Some r → (good_record setup r ≡ true) × (slides r ≡ true)
     good true r is = absurd (let z : ◌≡◌ {A = ℕ} 0 1 = cc in omega arith)
     good false r is = sound.caught_good r is
 

@@ -1,10 +1,10 @@
 -- The panels that are reached from a start by any calls: any bytes, marks, seconds and asks with whatever is lent, any contacts with any table, any lifts.
+use Rattle.std.specs.Prelude.{Ok}
 use Rattle.std.specs.Prelude.{◌≡◌, List, ℕ, ◌<◌}
 use Rattle.wire.specs.Bytes.{Bytes}
 use Rattle.touch.specs.declared.Setup.{Setup}
 use Rattle.commands.specs.Lent.{Lent}
 use Rattle.panel.specs.declared.Panel.{Panel}
-use Rattle.panel.specs.declared.StartAnswer.TheVariants as start
 use Rattle.panel.specs.Start.{started}
 use Rattle.panel.specs.Inputs.{fed_byte, fed_mark, fed_second, fed_bytes}
 use Rattle.panel.specs.Reporting.{reporting}
@@ -12,7 +12,7 @@ use Rattle.panel.specs.Contacts.{Contact, contacting, lifting}
 
 -- demand 1, "sequence of line bytes, quiet marks, contacts, lifts, tables or lent buffers": the panels that such a one leads to from a start
 pub data Reachable : Panel → Type 0 where
-  by_start : (setup : Setup) (table : List ℕ) → (started setup table).answer ≡ start.Started → Reachable (started setup table).panel
+  by_start : (setup : Setup) (table : List ℕ) → (started setup table).answer ≡ Ok tt → Reachable (started setup table).panel
   by_byte : (panel : Panel) (b : ℕ) → b < 256 → Reachable panel → Reachable (fed_byte panel b).panel
   by_mark : (panel : Panel) → Reachable panel → Reachable (fed_mark panel).panel
   -- 02, §6: "A new input, one second"

@@ -1,11 +1,12 @@
 -- 01: "asking for a report 14, then 2 to 7 in turn". "An accepted frame takes effect when its report is handed over."
+use Rattle.std.specs.Prelude.{Option, None, Some, Ok, Err}
+use Rattle.line.specs.declared.Report.{Report}
 use Rattle.std.specs.Prelude.{ℕ, Bool, true, false, cond, not, ◌&&◌, List, [], ◌++◌, eqb, leb, length, take, drop}
 use Rattle.wire.specs.Addresses.{word_count}
 use Rattle.wire.specs.ByteOrder.{word_at}
 use Rattle.wire.specs.Room.{Laid, lays}
 use Rattle.frame.specs.Frame.{most_payload}
 use Rattle.frame.specs.Writer.{least_room, acknowledgement_laid}
-use Rattle.line.specs.declared.Report.{Report}
 use Rattle.line.specs.declared.Report.TheVariants as line
 use Rattle.line.specs.declared.Asked.{Asked}
 use Rattle.line.specs.State.{padded}
@@ -22,11 +23,12 @@ use Rattle.commands.specs.Lent.{Lent, lending, with_room}
 use Rattle.commands.specs.Effect.{registers_left, counts_left}
 use Rattle.commands.specs.Perform.{performance}
 use Rattle.touch.specs.declared.Setup.{Setup}
-use Rattle.contact.specs.declared.Catch.{Catch}
-use Rattle.contact.specs.declared.Catch.TheVariants.{Free}
+use Rattle.contact.specs.Contact.{Catch}
 use Rattle.panel.specs.declared.Panel.{Panel}
+use Rattle.panel.specs.Answers.{AskAnswer}
 use Rattle.panel.specs.declared.Handed.{Handed}
 use Rattle.panel.specs.declared.Handed.TheVariants as handed
+use Rattle.panel.specs.declared.LentError.TheVariants as lent_error
 use Rattle.panel.specs.declared.Effected.{Effected}
 use Rattle.panel.specs.declared.HandedOver.{HandedOver}
 use Rattle.panel.specs.declared.Reported.{Reported}
@@ -77,14 +79,14 @@ abbrev pub overs : HandedOver → Lent → HandingOver
 overs over lent = record { over = over; lent = lent }
 
 -- a report that is handed over and asks nothing of the panel
-abbrev pub only_handed : Handed → HandedOver
+abbrev pub only_handed : Option Handed → HandedOver
 only_handed handed = record { handed = handed; writes = false; drops = false; adds = false; notes = false }
 
 -- "Numbers 2 to 7 are answers beside a frame's report, which counts as handed over": the report of an accepted frame, with what it asks of the panel
 abbrev pub accepted_over : (command count : ℕ) → Effected → HandedOver
 accepted_over command count e =
     record {
-      handed = handed.Accepted command count e.performed.outcome e.acknowledged e.performed.replied;
+      handed = Some (handed.Accepted command count e.performed.outcome e.acknowledged e.performed.replied);
       writes = e.performed.writes;
       drops = e.performed.drops;
       adds = e.performed.adds;
@@ -92,24 +94,24 @@ accepted_over command count e =
     }
 
 -- "'Nothing' changes nothing, the reply room included."; "each bad check by the same with 0x00"; "An accepted frame takes effect when its report is handed over."
-unfoldable pub handing_over : Setup → Registers → Report → (payload : List ℕ) → Lent → HandingOver
-handing_over setup registers line.Nothing payload lent = overs (only_handed handed.Nothing) lent
-handing_over setup registers (line.BadCheck command) payload lent =
+unfoldable pub handing_over : Setup → Registers → Option Report → (payload : List ℕ) → Lent → HandingOver
+handing_over setup registers None payload lent = overs (only_handed None) lent
+handing_over setup registers (Some (line.BadCheck command)) payload lent =
     let answer = acknowledged setup command false lent.room in
-    overs (only_handed (handed.BadCheck command answer.count)) (with_room lent answer.room)
-handing_over setup registers (line.Accepted command count) payload lent =
+    overs (only_handed (Some (handed.BadCheck command answer.count))) (with_room lent answer.room)
+handing_over setup registers (Some (line.Accepted command count)) payload lent =
     let done = accepting setup registers command (take count payload) lent in
     overs (accepted_over command count done.effected) done.lent
 
 -- how much data an accepted frame has
-abbrev pub length_of : Report → ℕ
-length_of line.Nothing = 0
-length_of (line.BadCheck command) = 0
-length_of (line.Accepted command count) = count
+abbrev pub length_of : Option Report → ℕ
+length_of None = 0
+length_of (Some (line.BadCheck command)) = 0
+length_of (Some (line.Accepted command count)) = count
 
 -- "Every page write by a command .. drops the catch."
 abbrev pub catch_after : Bool → Catch → Catch
-catch_after drops catch = cond drops Free catch
+catch_after drops catch = cond drops None catch
 
 -- what a report does to the curves. 02, §2: the numbers of "command 0x84" are added to their channels; "Register EB .. clears"; nothing else changes them
 abbrev pub drawing : (writes adds : Bool) → Counts → (content area : List ℕ) → Drawn
@@ -131,14 +133,14 @@ abbrev pub reports : Reported → Lent → Reporting
 reports reported lent = record { reported = reported; lent = lent }
 
 -- "An accepted frame takes effect when its report is handed over.": the panel behind a report, its reader gone on
-unfoldable pub handing : Asked → Report → Panel → Lent → Reporting
+unfoldable pub handing : Asked → Option Report → Panel → Lent → Reporting
 handing a report panel lent =
     let done = handing_over panel.setup panel.registers report a.payload lent in
     let content = take (length_of report) a.payload in
     let drawn = drawing done.over.writes done.over.adds panel.counts content lent.curves in
     reports
     (record {
-      handed = done.over.handed;
+      handed = Ok done.over.handed;
       payload = a.payload;
       panel = record {
         setup = panel.setup;
@@ -151,11 +153,11 @@ handing a report panel lent =
     (lending done.lent.words drawn.area done.lent.room (noting done.over.notes content done.lent.words lent.watched))
 
 -- of the two, "16, .., right after 14 at contacts and reports": 14 is given first
-abbrev pub refusal : Lent → Handed
-refusal lent = cond (enough_lent lent) handed.WrongList handed.NotLent
+abbrev pub refusal : Lent → AskAnswer
+refusal lent = cond (enough_lent lent) (Err lent_error.WrongList) (Err lent_error.NotLent)
 
 -- "With 14 the report still waits."; 02, §4, with 16: "the report still waiting"
-abbrev pub refused : Handed → Panel → Reported
+abbrev pub refused : AskAnswer → Panel → Reported
 refused given panel = record { handed = given; payload = padded most_payload []; panel = panel }
 
 -- "asking for a report 14, then 2 to 7 in turn", with 16 "right after 14"

@@ -1,5 +1,7 @@
 -- 02, §4: "After a contact that answers 0, the first entry in use whose word differs from its value last sent gets one unasked 0x83 reply of count 1 in the
 -- reply room, and the value is noted."
+use Rattle.std.specs.Prelude.{Option, None, Some}
+use Rattle.words.specs.declared.WordAddress.{WordAddress}
 use Rattle.std.specs.Prelude.{ℕ, List, [], ◌∷◌, ◌++◌, length}
 use Rattle.wire.specs.ByteOrder.{high_first}
 use Rattle.wire.specs.Room.{over}
@@ -7,17 +9,15 @@ use Rattle.frame.specs.Frame.{frame_of}
 use Rattle.words.specs.Words.{word_at_address}
 use Rattle.touch.specs.declared.Setup.{Setup}
 use Rattle.touch.specs.Setup.{checking_of}
-use Rattle.watch.specs.declared.Due.{Due}
-use Rattle.watch.specs.declared.Due.TheVariants.{Nothing, Word}
 use Rattle.watch.specs.Watched.{with_values}
 use Rattle.watch.specs.Sending.{sending}
 use Rattle.commands.specs.Lent.{Lent, with_room, with_watched}
 use Rattle.panel.specs.State.{header_of}
 
 -- "one unasked 0x83 reply of count 1": "Reply 0x83, address, count, words.", with this address and the word that stands there; where nothing is due, no bytes
-unfoldable pub unasked : Setup → (words : List ℕ) → Due → List ℕ
-unasked setup words Nothing = []
-unasked setup words (Word address) =
+unfoldable pub unasked : Setup → (words : List ℕ) → Option WordAddress → List ℕ
+unasked setup words None = []
+unasked setup words (Some address) =
     frame_of (checking_of setup) (header_of setup) 0x83 (high_first address.0 ++ (1 ∷ high_first (word_at_address words address.0)))
 
 -- how many bytes are written, and what is lent as that leaves it

@@ -5,21 +5,22 @@ ghost use Rattle.frame.specs.Frame.{most_payload};
 ghost use Rattle.line.specs.State.{padded};
 ghost use Rattle.registers.specs.Table.{holding};
 ghost use Rattle.curves.specs.Area.{draws};
-ghost use Rattle.watch.specs.Watched.{watching};
+ghost use Rattle.watch.specs.Watched.{list_of, with_sent};
 ghost use Rattle.commands.specs.Lent.{Lent, lending, with_words_room};
 ghost use Rattle.commands.specs.Effect.{counts_left};
 ghost use Rattle.panel.specs.Listed.{ask_said};
 ghost use Rattle.panel.specs.Numbers.{handed_said};
 ghost use Rattle.panel.specs.State.{fixed_for};
+ghost use Rattle.panel.specs.Inner.{ask_judged};
 ghost use Rattle.panel.specs.Reporting.{enough, acknowledged, effects, accepting, length_of, catch_after, only_handed, accepted_over, overs, handing_over, drawing, refused, reports, reporting};
 
-use crate::{Effected, Handed, HandedOver, Panel, Reported, starting, watching};
+use crate::{Effected, Handed, HandedOver, LentError, Panel, Reported, starting, watching};
 use commands::Fixed;
-use contact::Catch;
 use curves::{CURVE_WORDS, Counts};
 use frame::{LEAST_ROOM, MOST_PAYLOAD};
 use line::Report;
-use touch::Setup;
+use touch::{Record, Setup};
+use watch::WatchList;
 use wire::WORD_COUNT;
 
 impl Panel {
@@ -29,47 +30,34 @@ impl Panel {
         words: &mut [u16],
         curves: &mut [u16],
         room: &mut [u8],
-        addresses: &[u16],
-        uses: &[u8],
-        values: &mut [u16],
+        list: &mut WatchList<'_, '_>,
     ) -> Reported
-        ensures values_after { reports result (lending words.new curves.new room.new (watching addresses.now uses.now values.new)) ≡ reporting self (lending words.old curves.old room.old (watching addresses.now uses.now values.old)) }
-        ensures handed_value { handed_said result.handed ≡ ask_said self (lending words.old curves.old room.old (watching addresses.now uses.now values.old)) }
+        ensures values_after { reports result (lending words.new curves.new room.new (list_of list.new)) ≡ reporting self (lending words.old curves.old room.old (list_of list.old)) }
+        ensures list_after { list.new ≡ with_sent list.old list.new.values.now }
+        ensures handed_value { handed_said result.handed ≡ ask_said self (lending words.old curves.old room.old (list_of list.old)) }
     {
-        if !is_lent(words.len(), curves.len(), room.len()) {
-            return refuse(Handed::NotLent, self);
+        let enough = is_lent(words.len(), curves.len(), room.len());
+        if let Err(why) = judge(enough, list.is_wrong()) {
+            return refuse(why, self);
         }
-        if watch::is_wrong(addresses, uses, values) {
-            return refuse(Handed::WrongList, self);
-        }
-        let reader = self.reader;
-        let a = reader.ask();
-        let report = a.report;
-        let payload = a.payload;
-        let setup = self.setup;
+        let asked = self.reader.ask();
         // a local of their own: to lend a part of self copies all of self
         let mut registers = self.registers;
-        let next = a.reader;
-        let done = hand_over(setup, &registers.bytes, report, &payload, words, room);
-        let handed = done.handed;
-        let before = self.catch;
-        let catch = catch_after(done.drops, before);
-        let n = within(length_of(report));
-        let content = &payload[..n];
-        let old = self.counts;
-        let counts = draw(done.writes, done.adds, old, content, curves);
-        watching::note(done.notes, content, words, addresses, uses, values);
+        let done = hand_over(self.setup, &registers.bytes, asked.report, &asked.payload, words, room);
+        let content = &asked.payload[..content_length(asked.report)];
+        let counts = draw(done.writes, done.adds, self.counts, content, curves);
+        watching::note(done.notes, content, words, list);
         if done.writes {
             registers = commands::registers_left(registers, content);
         }
         Reported {
-            handed: handed,
-            payload: payload,
+            handed: Ok(done.handed),
+            payload: asked.payload,
             panel: Panel {
-                registers: registers,
-                catch: catch,
-                counts: counts,
-                reader: next,
+                registers,
+                catch: catch_after(done.drops, self.catch),
+                counts,
+                reader: asked.reader,
                 ..self
             },
         }
@@ -83,20 +71,28 @@ fn is_lent(words: usize, curves: usize, room: usize) -> bool
     (words == WORD_COUNT) & (curves == CURVE_WORDS) & (LEAST_ROOM <= room)
 }
 
-fn no_payload() -> [u8; MOST_PAYLOAD]
-    ensures { result ≡ padded most_payload [] }
+// Why no report is handed over: 14, then 16.
+#[tactic(auto, unfolding(crate::specs::Inner::ask_judged))]
+fn judge(lent: bool, wrong: bool) -> Result<(), LentError>
+    ensures { result ≡ ask_judged lent wrong }
 {
-    [0u8; MOST_PAYLOAD]
+    if !lent {
+        return Err(LentError::NotLent);
+    }
+    if wrong {
+        return Err(LentError::WrongList);
+    }
+    Ok(())
 }
 
 // What is lent is not what it must be: the report still waits.
-fn refuse(handed: Handed, panel: Panel) -> Reported
-    ensures { result ≡ refused handed panel }
+fn refuse(why: LentError, panel: Panel) -> Reported
+    ensures { result ≡ refused (Err why) panel }
 {
     Reported {
-        handed: handed,
-        payload: no_payload(),
-        panel: panel,
+        handed: Err(why),
+        payload: wire::zeros(),
+        panel,
     }
 }
 
@@ -134,7 +130,7 @@ fn accept(
     ensures { (rest : Lent) → effects result (with_words_room rest words.new room.new) ≡ accepting setup (holding registers.now) command content.now (with_words_room rest words.old room.old) }
 {
     let k = acknowledge(setup, command, true, room);
-    let done = commands::perform(
+    let performed = commands::perform(
         fixed_for(setup),
         registers,
         command,
@@ -143,45 +139,33 @@ fn accept(
         &mut room[k..],
     );
     Effected {
-        performed: done,
+        performed,
         acknowledged: k,
     }
 }
 
-// At most the whole of the data.
-fn within(count: usize) -> usize
-    ensures { result ≡ min count most_payload }
-{
-    if count < MOST_PAYLOAD {
-        count
-    } else {
-        MOST_PAYLOAD
-    }
-}
-
-fn catch_after(drops: bool, catch: Catch) -> Catch
+fn catch_after(drops: bool, catch: Option<Record>) -> Option<Record>
     ensures { result ≡ catch_after drops catch }
 {
-    if drops { Catch::Free } else { catch }
+    if drops { None } else { catch }
 }
 
-// How much data an accepted frame has.
-fn length_of(report: Report) -> usize
-    ensures { result ≡ length_of report }
+// How much data an accepted frame has, at most the whole of it.
+fn content_length(report: Option<Report>) -> usize
+    ensures { result ≡ min (length_of report) most_payload }
 {
     match report {
-        Report::Nothing => 0,
-        Report::BadCheck(_) => 0,
-        Report::Accepted { command: _, len } => len,
+        Some(Report::Accepted { len, .. }) => len.min(MOST_PAYLOAD),
+        _ => 0,
     }
 }
 
 // Nothing is to be written into the registers.
-fn only(handed: Handed) -> HandedOver
+fn only(handed: Option<Handed>) -> HandedOver
     ensures { result ≡ only_handed handed }
 {
     HandedOver {
-        handed: handed,
+        handed,
         writes: false,
         drops: false,
         adds: false,
@@ -190,23 +174,22 @@ fn only(handed: Handed) -> HandedOver
 }
 
 // An accepted frame with what it has done.
-fn accepted(command: u8, len: usize, e: Effected) -> HandedOver
-    ensures { result ≡ accepted_over command len e }
+fn accepted(command: u8, count: usize, done: Effected) -> HandedOver
+    ensures { result ≡ accepted_over command count done }
 {
-    let p = e.performed;
-    let o = p.outcome;
+    let performed = done.performed;
     HandedOver {
-        handed: Handed::Accepted {
-            command: command,
-            count: len,
-            outcome: o,
-            acknowledged: e.acknowledged,
-            replied: p.replied,
-        },
-        writes: p.writes,
-        drops: p.drops,
-        adds: p.adds,
-        notes: p.notes,
+        handed: Some(Handed::Accepted {
+            command,
+            count,
+            outcome: performed.outcome,
+            acknowledged: done.acknowledged,
+            replied: performed.replied,
+        }),
+        writes: performed.writes,
+        drops: performed.drops,
+        adds: performed.adds,
+        notes: performed.notes,
     }
 }
 
@@ -235,7 +218,7 @@ fn draw(writes: bool, adds: bool, counts: Counts, content: &[u8], area: &mut [u1
 fn hand_over(
     setup: Setup,
     registers: &[u8],
-    report: Report,
+    report: Option<Report>,
     payload: &[u8],
     words: &mut [u16],
     room: &mut [u8],
@@ -243,16 +226,17 @@ fn hand_over(
     requires { length payload.now ≡ most_payload }
     ensures { (rest : Lent) → overs result (with_words_room rest words.new room.new) ≡ handing_over setup (holding registers.now) report payload.now (with_words_room rest words.old room.old) }
 {
+    let Some(report) = report else {
+        return only(None);
+    };
     match report {
-        Report::Nothing => only(Handed::Nothing),
         Report::BadCheck(command) => {
-            let k = acknowledge(setup, command, false, room);
-            only(Handed::BadCheck(command, k))
+            let acknowledged = acknowledge(setup, command, false, room);
+            only(Some(Handed::BadCheck(command, acknowledged)))
         }
         Report::Accepted { command, len } => {
-            let n = within(len);
-            let e = accept(setup, registers, command, &payload[..n], words, room);
-            accepted(command, len, e)
+            let content = &payload[..len.min(MOST_PAYLOAD)];
+            accepted(command, len, accept(setup, registers, command, content, words, room))
         }
     }
 }

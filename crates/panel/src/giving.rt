@@ -1,28 +1,31 @@
 // Line bytes, quiet marks and seconds: the panel takes them, or refuses them while a report waits.
 ghost use Rattle.std.specs.Prelude.{◌≡◌};
 ghost use Rattle.line.specs.Methods.{busy, answer_said, input_said};
-ghost use Rattle.panel.specs.Inputs.{fed_byte, fed_mark, fed_second, fed_bytes};
+ghost use Rattle.panel.specs.Inputs.{fed_by, fed_byte, fed_mark, fed_second, fed_bytes};
 
 use crate::{Fed, FedBytes, Panel};
-use line::Answer;
+use line::{Given, Waiting};
 
 impl Panel {
+    // The reader took an input or refused it; nothing else of the panel changes.
+    fn fed_by(self, given: Given) -> Fed
+        ensures { result ≡ fed_by self given }
+    {
+        Fed {
+            answer: given.answer,
+            panel: Panel {
+                reader: given.reader,
+                ..self
+            },
+        }
+    }
+
     // Gives a line byte.
     pub fn give_byte(self, b: u8) -> Fed
         ensures value { result ≡ fed_byte self b }
         ensures answer_value { answer_said result.answer ≡ input_said self.reader }
     {
-        let reader = self.reader;
-        let given = reader.give_byte(b);
-        let answer = given.answer;
-        let next = given.reader;
-        Fed {
-            answer: answer,
-            panel: Panel {
-                reader: next,
-                ..self
-            },
-        }
+        self.fed_by(self.reader.give_byte(b))
     }
 
     // Gives a quiet mark.
@@ -30,17 +33,7 @@ impl Panel {
         ensures value { result ≡ fed_mark self }
         ensures answer_value { answer_said result.answer ≡ input_said self.reader }
     {
-        let reader = self.reader;
-        let given = reader.give_mark();
-        let answer = given.answer;
-        let next = given.reader;
-        Fed {
-            answer: answer,
-            panel: Panel {
-                reader: next,
-                ..self
-            },
-        }
+        self.fed_by(self.reader.give_mark())
     }
 
     // Gives a second: the clock advances. It is no mark, and what is half read stays.
@@ -48,19 +41,16 @@ impl Panel {
         ensures value { result ≡ fed_second self }
         ensures answer_value { answer_said result.answer ≡ input_said self.reader }
     {
-        let reader = self.reader;
-        if reader.is_waiting() {
+        if self.is_waiting() {
             return Fed {
-                answer: Answer::Waits,
+                answer: Err(Waiting::ReportWaits),
                 panel: self,
             };
         }
-        let registers = self.registers;
-        let next = registers.second_passed();
         Fed {
-            answer: Answer::Done,
+            answer: Ok(()),
             panel: Panel {
-                registers: next,
+                registers: self.registers.second_passed(),
                 ..self
             },
         }
@@ -70,13 +60,11 @@ impl Panel {
     pub fn give_bytes(self, bytes: &[u8]) -> FedBytes
         ensures { result ≡ fed_bytes self bytes.now }
     {
-        let reader = self.reader;
-        let given = reader.give_bytes(bytes);
-        let next = given.reader;
+        let given = self.reader.give_bytes(bytes);
         FedBytes {
             used: given.used,
             panel: Panel {
-                reader: next,
+                reader: given.reader,
                 ..self
             },
         }
@@ -86,7 +74,6 @@ impl Panel {
     pub fn is_waiting(self) -> bool
         ensures { result ≡ busy self.reader }
     {
-        let reader = self.reader;
-        reader.is_waiting()
+        self.reader.is_waiting()
     }
 }

@@ -1,13 +1,12 @@
 // The panel of 01: start, byte, mark, second, report, contact, lift. A panel is a value: a method takes it and hands back the next one.
 #![tactic(auto)]
 
-use commands::{Outcome, Performed};
-use contact::Catch;
+use commands::{Performed, Refusal};
 use curves::Counts;
 use frame::MOST_PAYLOAD;
-use line::{Answer, Reader};
+use line::{Reader, Waiting};
 use registers::Registers;
-use touch::Setup;
+use touch::{Record, Setup};
 
 mod asking; // asking for a report
 mod giving; // line bytes, quiet marks and seconds
@@ -20,14 +19,15 @@ mod watching; // the watched words
 pub struct Panel {
     setup: Setup,
     registers: Registers,
-    catch: Catch,
+    // The slider that is being dragged, as a copy of its record.
+    catch: Option<Record>,
     counts: Counts,
     reader: Reader,
 }
 
-#[derive(Clone, Copy)]
-pub enum StartAnswer {
-    Started,
+// Why a start is refused.
+#[derive(Clone, Copy, Debug, PartialEq, Eq)]
+pub enum StartError {
     WrongSetup,
     NotRecords,
     // The number of the first wrong record, from 0.
@@ -37,13 +37,13 @@ pub enum StartAnswer {
 // Where the start is refused there is no panel: what stands beside the answer takes nothing and hands nothing over.
 #[derive(Clone, Copy)]
 pub struct Start {
-    pub answer: StartAnswer,
+    pub answer: Result<(), StartError>,
     pub panel: Panel,
 }
 
 #[derive(Clone, Copy)]
 pub struct Fed {
-    pub answer: Answer,
+    pub answer: Result<(), Waiting>,
     pub panel: Panel,
 }
 
@@ -54,21 +54,25 @@ pub struct FedBytes {
     pub panel: Panel,
 }
 
-// What asking for a report hands over.
-#[derive(Clone, Copy)]
-pub enum Handed {
-    // Words, curve area or room are not what they must be; the report still waits.
+// Why no report is handed over: it still waits.
+#[derive(Clone, Copy, Debug, PartialEq, Eq)]
+pub enum LentError {
+    // Words, curve area or room are not what they must be.
     NotLent,
-    // The watch list is wrong; the report still waits.
+    // The watch list is wrong.
     WrongList,
-    Nothing,
+}
+
+// A report as it is handed over.
+#[derive(Clone, Copy, Debug, PartialEq, Eq)]
+pub enum Handed {
     // The command, and how long an acknowledgement was written.
     BadCheck(u8, usize),
     Accepted {
         command: u8,
         // How much data there is.
         count: usize,
-        outcome: Outcome,
+        outcome: Result<(), Refusal>,
         // How long an acknowledgement and how long a reply were written.
         acknowledged: usize,
         replied: usize,
@@ -78,14 +82,14 @@ pub enum Handed {
 // The data of an accepted frame stands beside the report, zeros behind it.
 #[derive(Clone, Copy)]
 pub struct Reported {
-    pub handed: Handed,
+    pub handed: Result<Option<Handed>, LentError>,
     pub payload: [u8; MOST_PAYLOAD],
     pub panel: Panel,
 }
 
-#[derive(Clone, Copy)]
-pub enum ContactAnswer {
-    Done,
+// Why a contact is refused.
+#[derive(Clone, Copy, Debug, PartialEq, Eq)]
+pub enum ContactError {
     NotLent,
     // The watch list is wrong.
     WrongList,
@@ -99,22 +103,22 @@ pub enum ContactAnswer {
 
 #[derive(Clone, Copy)]
 pub struct Contacted {
-    pub answer: ContactAnswer,
+    pub answer: Result<(), ContactError>,
     // How long an unasked reply was written.
     pub written: usize,
     pub panel: Panel,
 }
 
-#[derive(Clone, Copy)]
-pub enum LiftAnswer {
-    Done,
+// Why a lift is refused.
+#[derive(Clone, Copy, Debug, PartialEq, Eq)]
+pub enum LiftError {
     Waits,
     IsUp,
 }
 
 #[derive(Clone, Copy)]
 pub struct Lifted {
-    pub answer: LiftAnswer,
+    pub answer: Result<(), LiftError>,
     pub panel: Panel,
 }
 
@@ -129,7 +133,7 @@ struct Effected {
 // added to the curves; whether its words are to be noted in the watch list.
 #[derive(Clone, Copy)]
 struct HandedOver {
-    handed: Handed,
+    handed: Option<Handed>,
     writes: bool,
     drops: bool,
     adds: bool,

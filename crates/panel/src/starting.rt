@@ -3,14 +3,24 @@ ghost use Rattle.std.specs.Prelude.{◌≡◌};
 ghost use Rattle.panel.specs.State.{header_for};
 ghost use Rattle.panel.specs.Numbers.{start_said};
 ghost use Rattle.panel.specs.Listed.{start_listed, said_by};
-ghost use Rattle.panel.specs.Start.{new_panel, no_panel, started};
+ghost use Rattle.panel.specs.Start.{new_panel, no_panel, started, start_error_of};
 
-use crate::{Panel, Start, StartAnswer};
-use contact::Catch;
+use crate::{Panel, Start, StartError};
 use frame::Header;
 use line::Reader;
 use registers::Registers;
-use touch::{Setup, Verdict};
+use touch::{Setup, TableError};
+
+impl From<TableError> for StartError {
+    ghost from_gives = { λ why error. error ≡ start_error_of why };
+
+    fn from(why: TableError) -> StartError {
+        match why {
+            TableError::NotRecords => StartError::NotRecords,
+            TableError::Wrong(i) => StartError::WrongRecord(i),
+        }
+    }
+}
 
 pub fn header_for(setup: Setup) -> Header
     ensures { result ≡ header_for setup }
@@ -25,19 +35,17 @@ fn new_panel(setup: Setup) -> Panel
     ensures { result ≡ new_panel setup }
 {
     let checking = touch::checking(setup);
-    let registers = Registers::start(setup.h1, setup.h2, checking, touch::acknowledging(setup));
-    let counts = curves::none();
-    let reader = Reader::new(header_for(setup), checking);
     Panel {
-        setup: setup,
-        registers: registers,
-        catch: Catch::Free,
-        counts: counts,
-        reader: reader,
+        setup,
+        registers: Registers::start(setup.h1, setup.h2, checking, touch::acknowledging(setup)),
+        catch: None,
+        counts: curves::none(),
+        reader: Reader::new(header_for(setup), checking),
     }
 }
 
-// What stands in the panel's place where the start is refused.
+// What stands in the panel's place where the start is refused: demands' `refused_start_is_inert` says that it takes nothing, so `Start` has it beside the
+// answer and is no Result of a panel.
 fn no_panel() -> Panel
     ensures { result ≡ no_panel }
 {
@@ -49,11 +57,21 @@ fn no_panel() -> Panel
         width: 0,
         height: 0,
     });
-    let reader = Reader::none();
     Panel {
-        reader: reader,
+        reader: Reader::none(),
         ..panel
     }
+}
+
+// Why a start is refused: 11, then 12 and 13.
+fn judge(setup: Setup, table: &[u8]) -> Result<(), StartError>
+    ensures { result ≡ (started setup table.now).answer }
+{
+    if !touch::good_setup(setup) {
+        return Err(StartError::WrongSetup);
+    }
+    touch::judge(setup, table)?;
+    Ok(())
 }
 
 impl Panel {
@@ -62,27 +80,11 @@ impl Panel {
         ensures value { result ≡ started setup table.now }
         ensures answer_value { start_said result.answer ≡ said_by (start_listed setup table.now) }
     {
-        if touch::good_setup(setup) {
-            let verdict = touch::judge(setup, table);
-            match verdict {
-                Verdict::Good => Start {
-                    answer: StartAnswer::Started,
-                    panel: new_panel(setup),
-                },
-                Verdict::NotRecords => Start {
-                    answer: StartAnswer::NotRecords,
-                    panel: no_panel(),
-                },
-                Verdict::Wrong(i) => Start {
-                    answer: StartAnswer::WrongRecord(i),
-                    panel: no_panel(),
-                },
-            }
-        } else {
-            Start {
-                answer: StartAnswer::WrongSetup,
-                panel: no_panel(),
-            }
-        }
+        let answer = judge(setup, table);
+        let panel = match answer {
+            Ok(()) => new_panel(setup),
+            Err(_) => no_panel(),
+        };
+        Start { answer, panel }
     }
 }

@@ -1,19 +1,31 @@
 // Contact and lift. The touch itself is lent words and nothing else: what is said of it holds whatever else the caller has.
-ghost use Rattle.std.specs.Prelude.{◌≡◌, not, List, ℕ};
-ghost use Rattle.watch.specs.Watched.{watching};
+ghost use Rattle.std.specs.Prelude.{◌≡◌, List, ℕ};
+ghost use Rattle.watch.specs.Watched.{list_of, with_sent};
 ghost use Rattle.commands.specs.Lent.{Lent, lending, with_words};
 ghost use Rattle.touch.specs.Judge.{judged};
-ghost use Rattle.panel.specs.State.{with_pad};
+ghost use Rattle.panel.specs.State.{pad_of, with_pad};
 ghost use Rattle.panel.specs.Numbers.{contact_said, lift_said};
 ghost use Rattle.panel.specs.Listed.{contact_answered, lift_listed, said_by};
 ghost use Rattle.panel.specs.Inner.{before_table};
-ghost use Rattle.panel.specs.Contacts.{contact_at, contacts, only_answers, contact_on, contact_judged, is_touch, touch_not_lent, contacting, lifting};
+ghost use Rattle.panel.specs.Contacts.{contact_at, contacts, contact_error_of, only_answers, contact_on, contact_judged, touch_not_lent, contacting, lifting};
 
-use crate::{ContactAnswer, Contacted, LiftAnswer, Lifted, Panel, watching};
+use crate::{ContactError, Contacted, LiftError, Lifted, Panel, watching};
 use contact::Pad;
 use frame::LEAST_ROOM;
-use touch::Verdict;
+use touch::{Point, TableError};
+use watch::WatchList;
 use wire::WORD_COUNT;
+
+impl From<TableError> for ContactError {
+    ghost from_gives = { λ why error. error ≡ contact_error_of why };
+
+    fn from(why: TableError) -> ContactError {
+        match why {
+            TableError::NotRecords => ContactError::NotRecords,
+            TableError::Wrong(i) => ContactError::WrongRecord(i),
+        }
+    }
+}
 
 impl Panel {
     // A contact at a point, under the table that is lent; where it is done, the first watched word that is due is sent unasked.
@@ -22,34 +34,24 @@ impl Panel {
         table: &[u8],
         words: &mut [u16],
         room: &mut [u8],
-        addresses: &[u16],
-        uses: &[u8],
-        values: &mut [u16],
-        x: u16,
-        y: u16,
+        list: &mut WatchList<'_, '_>,
+        point: Point,
     ) -> Contacted
-        ensures values_after { (curves : List ℕ) → contacts result (lending words.new curves room.new (watching addresses.now uses.now values.new)) ≡ contacting self (contact_at table.now x y) (lending words.old curves room.old (watching addresses.now uses.now values.old)) }
-        ensures answer_value { (curves : List ℕ) → contact_said result.answer result.written ≡ contact_answered self (contact_at table.now x y) (lending words.old curves room.old (watching addresses.now uses.now values.old)) }
+        ensures values_after { (curves : List ℕ) → contacts result (lending words.new curves room.new (list_of list.new)) ≡ contacting self (contact_at table.now point.x point.y) (lending words.old curves room.old (list_of list.old)) }
+        ensures list_after { list.new ≡ with_sent list.old list.new.values.now }
+        ensures answer_value { (curves : List ℕ) → contact_said result.answer result.written ≡ contact_answered self (contact_at table.now point.x point.y) (lending words.old curves room.old (list_of list.old)) }
     {
         let short = is_not_lent(words.len(), room.len());
-        let wrong = watch::is_wrong(addresses, uses, values);
-        let reader = self.reader;
-        let first = first_refusal(short, wrong, reader.is_waiting());
-        if is_refused(first) {
-            return answer(first, self);
+        if let Err(why) = judge(short, list.is_wrong(), self.is_waiting()) {
+            return refuse(why, self);
         }
-        let setup = self.setup;
-        let done = judged_contact(self, table, words, x, y);
-        let given = done.answer;
-        if is_refused(given) {
+        let done = self.touch_judged(table, words, point);
+        if done.answer.is_err() {
             return done;
         }
-        let written = watching::tell(setup, words, room, addresses, uses, values);
-        let next = done.panel;
         Contacted {
-            answer: given,
-            written: written,
-            panel: next,
+            written: watching::tell(self.setup, words, room, list),
+            ..done
         }
     }
 
@@ -57,29 +59,71 @@ impl Panel {
         ensures value { result ≡ lifting self }
         ensures answer_value { lift_said result.answer ≡ said_by (lift_listed self) }
     {
-        let reader = self.reader;
-        if reader.is_waiting() {
+        if self.is_waiting() {
             return Lifted {
-                answer: LiftAnswer::Waits,
+                answer: Err(LiftError::Waits),
                 panel: self,
             };
         }
-        let registers = self.registers;
-        if registers.is_down() {
-            let catch = self.catch;
-            let pad = contact::lift_up(Pad {
-                registers: registers,
-                catch: catch,
-            });
-            Lifted {
-                answer: LiftAnswer::Done,
-                panel: with_pad(self, pad),
-            }
-        } else {
-            Lifted {
-                answer: LiftAnswer::IsUp,
+        if !self.registers.is_down() {
+            return Lifted {
+                answer: Err(LiftError::IsUp),
                 panel: self,
-            }
+            };
+        }
+        Lifted {
+            answer: Ok(()),
+            panel: self.with_pad(contact::lift_up(self.pad())),
+        }
+    }
+
+    // What a touch reads and sets.
+    fn pad(self) -> Pad
+        ensures { result ≡ pad_of self }
+    {
+        Pad {
+            registers: self.registers,
+            catch: self.catch,
+        }
+    }
+
+    fn with_pad(self, pad: Pad) -> Panel
+        ensures { result ≡ with_pad self pad }
+    {
+        Panel {
+            registers: pad.registers,
+            catch: pad.catch,
+            ..self
+        }
+    }
+
+    // A contact under a table that is judged first.
+    fn touch_judged(self, table: &[u8], words: &mut [u16], point: Point) -> Contacted
+        ensures { (rest : Lent) → contacts result (with_words rest words.new) ≡ contact_judged (judged self.setup table.now) self (contact_at table.now point.x point.y) (with_words rest words.old) }
+    {
+        match touch::judge(self.setup, table) {
+            Ok(()) => self.touch_under(table, words, point),
+            Err(why) => refuse(ContactError::from(why), self),
+        }
+    }
+
+    // A contact under a good table.
+    fn touch_under(self, table: &[u8], words: &mut [u16], point: Point) -> Contacted
+        ensures { (rest : Lent) → contacts result (with_words rest words.new) ≡ contact_on self (contact_at table.now point.x point.y) (with_words rest words.old) }
+    {
+        if self.registers.is_touch_off() {
+            return refuse(ContactError::TouchOff, self);
+        }
+        let setup = self.setup;
+        let on_screen = (point.x < setup.width) & (point.y < setup.height);
+        if !on_screen {
+            return refuse(ContactError::OffScreen, self);
+        }
+        let pad = contact::touch_down(setup, self.pad(), table, words, point);
+        Contacted {
+            answer: Ok(()),
+            written: 0,
+            panel: self.with_pad(pad),
         }
     }
 }
@@ -91,101 +135,30 @@ fn is_not_lent(words: usize, room: usize) -> bool
     (words != WORD_COUNT) | (room < LEAST_ROOM)
 }
 
-// What a contact is refused with before its table is looked at; where it is not, it stays to be done.
-fn first_refusal(short: bool, wrong: bool, waits: bool) -> ContactAnswer
+// What a contact is refused with before its table is looked at.
+#[tactic(auto, unfolding(crate::specs::Inner::before_table))]
+fn judge(short: bool, wrong: bool, waits: bool) -> Result<(), ContactError>
     ensures { result ≡ before_table short wrong waits }
 {
     if short {
-        return ContactAnswer::NotLent;
+        return Err(ContactError::NotLent);
     }
     if wrong {
-        return ContactAnswer::WrongList;
+        return Err(ContactError::WrongList);
     }
     if waits {
-        return ContactAnswer::Waits;
+        return Err(ContactError::Waits);
     }
-    ContactAnswer::Done
+    Ok(())
 }
 
-fn is_refused(a: ContactAnswer) -> bool
-    ensures { result ≡ not (is_touch a) }
-{
-    match a {
-        ContactAnswer::Done => false,
-        ContactAnswer::NotLent => true,
-        ContactAnswer::WrongList => true,
-        ContactAnswer::Waits => true,
-        ContactAnswer::NotRecords => true,
-        ContactAnswer::WrongRecord(_) => true,
-        ContactAnswer::TouchOff => true,
-        ContactAnswer::OffScreen => true,
-    }
-}
-
-// An answer beside which nothing is written into the room.
-fn answer(given: ContactAnswer, panel: Panel) -> Contacted
-    ensures { result ≡ only_answers given panel }
+// A refusal, beside which nothing is written into the room.
+fn refuse(why: ContactError, panel: Panel) -> Contacted
+    ensures { result ≡ only_answers (Err why) panel }
 {
     Contacted {
-        answer: given,
+        answer: Err(why),
         written: 0,
-        panel: panel,
-    }
-}
-
-fn with_pad(panel: Panel, pad: Pad) -> Panel
-    ensures { result ≡ with_pad panel pad }
-{
-    let registers = pad.registers;
-    let catch = pad.catch;
-    Panel {
-        registers: registers,
-        catch: catch,
-        ..panel
-    }
-}
-
-// A contact under a table that is judged first.
-fn judged_contact(panel: Panel, table: &[u8], words: &mut [u16], x: u16, y: u16) -> Contacted
-    ensures { (rest : Lent) → contacts result (with_words rest words.new) ≡ contact_judged (judged panel.setup table.now) panel (contact_at table.now x y) (with_words rest words.old) }
-{
-    let setup = panel.setup;
-    let verdict = touch::judge(setup, table);
-    match verdict {
-        Verdict::Good => good_contact(panel, table, words, x, y),
-        Verdict::NotRecords => answer(ContactAnswer::NotRecords, panel),
-        Verdict::Wrong(i) => answer(ContactAnswer::WrongRecord(i), panel),
-    }
-}
-
-// A contact under a good table.
-fn good_contact(panel: Panel, table: &[u8], words: &mut [u16], x: u16, y: u16) -> Contacted
-    ensures { (rest : Lent) → contacts result (with_words rest words.new) ≡ contact_on panel (contact_at table.now x y) (with_words rest words.old) }
-{
-    let registers = panel.registers;
-    if registers.is_touch_off() {
-        return answer(ContactAnswer::TouchOff, panel);
-    }
-    let setup = panel.setup;
-    if (x < setup.width) & (y < setup.height) {
-        let catch = panel.catch;
-        let pad = contact::touch_down(
-            setup,
-            Pad {
-                registers: registers,
-                catch: catch,
-            },
-            table,
-            words,
-            x,
-            y,
-        );
-        Contacted {
-            answer: ContactAnswer::Done,
-            written: 0,
-            panel: with_pad(panel, pad),
-        }
-    } else {
-        answer(ContactAnswer::OffScreen, panel)
+        panel,
     }
 }

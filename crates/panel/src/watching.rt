@@ -4,7 +4,7 @@ ghost use Rattle.wire.specs.ByteOrder.{high_first};
 ghost use Rattle.wire.specs.Room.{lays};
 ghost use Rattle.frame.specs.Writer.{least_room, frame_laid};
 ghost use Rattle.touch.specs.Setup.{checking_of};
-ghost use Rattle.watch.specs.Watched.{watching};
+ghost use Rattle.watch.specs.Watched.{list_of, with_sent};
 ghost use Rattle.commands.specs.Lent.{lending};
 ghost use Rattle.panel.specs.State.{header_of};
 ghost use Rattle.panel.specs.Reporting.{noting};
@@ -12,24 +12,17 @@ ghost use Rattle.panel.specs.Watching.{tells, telling};
 
 use crate::starting;
 use touch::Setup;
-use watch::Due;
+use watch::WatchList;
 use words::WordAddress;
 
 // Notes the words of a write that is done, which stand in the words already.
-pub(crate) fn note(
-    notes: bool,
-    content: &[u8],
-    words: &[u16],
-    addresses: &[u16],
-    uses: &[u8],
-    values: &mut [u16],
-)
-    ensures { watching addresses.now uses.now values.new ≡ noting notes content.now words.now (watching addresses.now uses.now values.old) }
+pub(crate) fn note(notes: bool, content: &[u8], words: &[u16], list: &mut WatchList<'_, '_>)
+    ensures noted { list_of list.new ≡ noting notes content.now words.now (list_of list.old) }
+    ensures list_after { list.new ≡ with_sent list.old list.new.values.now }
 {
     if notes {
         let first = WordAddress(wire::word_at(content, 0));
-        let n = wire::above(content.len(), 2) / 2;
-        watch::note(words, addresses, uses, values, first, n);
+        list.note(words, first, content.len().saturating_sub(2) / 2);
     }
 }
 
@@ -54,16 +47,14 @@ pub(crate) fn tell(
     setup: Setup,
     words: &[u16],
     room: &mut [u8],
-    addresses: &[u16],
-    uses: &[u8],
-    values: &mut [u16],
+    list: &mut WatchList<'_, '_>,
 ) -> usize
     requires { least_room ≤ length room.old }
-    ensures { (curves : List ℕ) → tells result (lending words.now curves room.new (watching addresses.now uses.now values.new)) ≡ telling setup (lending words.now curves room.old (watching addresses.now uses.now values.old)) }
+    ensures told { (curves : List ℕ) → tells result (lending words.now curves room.new (list_of list.new)) ≡ telling setup (lending words.now curves room.old (list_of list.old)) }
+    ensures list_after { list.new ≡ with_sent list.old list.new.values.now }
 {
-    let due = watch::send(words, addresses, uses, values);
-    match due {
-        Due::Nothing => 0,
-        Due::Word(address) => put_reply(setup, address, words::at(words, address), room),
+    match list.send(words) {
+        None => 0,
+        Some(address) => put_reply(setup, address, words::at(words, address), room),
     }
 }

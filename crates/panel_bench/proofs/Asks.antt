@@ -1,4 +1,5 @@
 -- Laws of asking for reports: what is lent wrong stays as it is; otherwise each report leaves fewer bytes, so asking more often changes nothing.
+use Rattle.std.specs.Prelude.{Err}
 use Rattle.std.proofs.Common.{◌≡◌, ℕ, zero, suc, ◌-◌, ◌<◌, ◌≤◌, Bool, true, false, cond, not, ◌&&◌, List, [], ◌∷◌, length, sym, refl, ap, ◌∙◌, arith}
 use borrow.Author.Tests.{not-true}
 use Rattle.frame.specs.Frame.{longest_frame}
@@ -14,7 +15,7 @@ use Rattle.watch.specs.Judge.{wrong_list}
 use Rattle.watch.proofs.Judged.{none_watched_good}
 use Rattle.commands.specs.Lent.{Lent, lending}
 use Rattle.panel.specs.declared.Panel.{Panel}
-use Rattle.panel.specs.declared.Handed.TheVariants as handed
+use Rattle.panel.specs.declared.LentError.TheVariants as lent_error
 use Rattle.panel.specs.declared.Reported.{Reported}
 use Rattle.panel.specs.Start.{started}
 use Rattle.panel.specs.Inputs.{fed_byte}
@@ -28,7 +29,7 @@ use Rattle.panel_bench.specs.Stream.{weight_of, Running, runs, asked_for, asked_
 -- ---- What is lent wrong: nothing is handed over, and all stays
 
 -- a refusal, with 14 or with 16, adds nothing
-refused_weighs : (b : Bool) → weight_of (cond b handed.WrongList handed.NotLent) ≡ 0
+refused_weighs : (b : Bool) → weight_of (cond b (Err lent_error.WrongList) (Err lent_error.NotLent)) ≡ 0
 unfolding weight_of
 refused_weighs true = refl
 refused_weighs false = refl

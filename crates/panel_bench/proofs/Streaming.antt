@@ -1,4 +1,5 @@
 -- Laws of a stream: bytes that are given and reports that are handed over lead nearer to its end.
+use Rattle.std.specs.Prelude.{Ok}
 use Rattle.std.proofs.Common.{◌≡◌, ℕ, suc, ◌+◌, ◌-◌, ◌*◌, ◌^◌, ◌<◌, ◌≤◌, min, Bool, true, false, List, [], ◌∷◌, ◌++◌, length, take, drop, sym, refl, ap, ◌∙◌, subst, arith, length-drop, take-append-drop, drop_of_length-le, take_all, length-take}
 use Rattle.std.proofs.lemmas.Bool.Decides.{nat_tests}
 use Rattle.std.specs.Bool.{◌==◌}
@@ -22,7 +23,6 @@ use Rattle.panel.specs.declared.Panel.{Panel}
 use Rattle.panel.specs.declared.FedBytes.{FedBytes}
 use Rattle.panel.specs.declared.Reported.{Reported}
 use Rattle.panel.specs.declared.Start.{Start}
-use Rattle.panel.specs.declared.StartAnswer.TheVariants.{Started}
 use Rattle.panel.specs.Start.{new_panel, started, start_judged}
 use Rattle.panel.specs.Inputs.{fed_byte, fed_bytes}
 use Rattle.panel.specs.Reporting.{enough, Reporting, reports, reporting}
@@ -78,7 +78,7 @@ pub record Flowing (whole : Streamed) (panel : Panel) (lent : Lent) (sum : ℕ) 
 abbrev pub turns_left : List ℕ → Panel → ℕ
 turns_left rest panel = length rest * (longest_frame + 1) + panel.reader.len
 
-begins : started bench_setup [] ≡ record { answer = Started; panel = new_panel bench_setup }
+begins : started bench_setup [] ≡ record { answer = Ok tt; panel = new_panel bench_setup }
 unfolding started start_judged judged records_from first_of new_panel
 begins = refl
 

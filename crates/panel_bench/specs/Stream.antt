@@ -1,12 +1,14 @@
 -- What bench/panel does: a panel is given bytes one after the other, every report is asked for as soon as it waits, and what is handed over is added up.
+use Rattle.std.specs.Prelude.{None, Some, Ok, Err}
 use Rattle.std.specs.Prelude.{ℕ, zero, suc, ◌+◌, ◌%◌, ◌^◌, cond, List, [], ◌∷◌}
 use Rattle.frame.specs.Frame.{longest_frame}
 use Rattle.line.specs.Methods.{busy}
 use Rattle.touch.specs.declared.Setup.{Setup}
 use Rattle.commands.specs.Lent.{Lent}
 use Rattle.panel.specs.declared.Panel.{Panel}
-use Rattle.panel.specs.declared.Handed.{Handed}
+use Rattle.panel.specs.Answers.{AskAnswer}
 use Rattle.panel.specs.declared.Handed.TheVariants as handed
+use Rattle.panel.specs.declared.LentError.TheVariants as lent_error
 use Rattle.panel.specs.Start.{started}
 use Rattle.panel.specs.Inputs.{fed_byte}
 use Rattle.panel.specs.Reporting.{reporting}
@@ -16,12 +18,12 @@ abbrev pub wrapped : ℕ → ℕ
 wrapped n = n % 2 ^ 64
 
 -- what is handed over adds its command, and of an accepted frame how much data there is and how long a reply was written
-unfoldable pub weight_of : Handed → ℕ
-weight_of handed.NotLent = 0
-weight_of handed.WrongList = 0
-weight_of handed.Nothing = 0
-weight_of (handed.BadCheck command acknowledged) = command
-weight_of (handed.Accepted command count outcome acknowledged replied) = command + (count + replied)
+unfoldable pub weight_of : AskAnswer → ℕ
+weight_of (Err lent_error.NotLent) = 0
+weight_of (Err lent_error.WrongList) = 0
+weight_of (Ok None) = 0
+weight_of (Ok (Some (handed.BadCheck command acknowledged))) = command
+weight_of (Ok (Some (handed.Accepted command count outcome acknowledged replied))) = command + (count + replied)
 
 -- the panel, what is lent to it, and the sum so far
 pub record Running : Type 0 where

@@ -12,7 +12,7 @@ ghost use Rattle.panel_bench.specs.Inner.{Ready, flow};
 
 use curves::CURVE_WORDS;
 use frame::LEAST_ROOM;
-use panel::{Handed, Panel, Reported};
+use panel::{Handed, LentError, Panel, Reported};
 use touch::Setup;
 use wire::WORD_COUNT;
 
@@ -21,20 +21,18 @@ const PIECE: usize = 4096;
 
 // What one report adds to the sum.
 #[tactic(auto, unfolding(crate::specs::Stream::weight_of))]
-fn weight(handed: Handed) -> u64
+fn weight(handed: Result<Option<Handed>, LentError>) -> u64
     ensures { result ≡ wrapped (weight_of handed) }
 {
     match handed {
-        Handed::NotLent => 0,
-        Handed::WrongList => 0,
-        Handed::Nothing => 0,
-        Handed::BadCheck(command, _) => u64::from(command),
-        Handed::Accepted {
+        Err(_) | Ok(None) => 0,
+        Ok(Some(Handed::BadCheck(command, _))) => u64::from(command),
+        Ok(Some(Handed::Accepted {
             command,
             count,
             replied,
             ..
-        } => u64::from(command).wrapping_add((count as u64).wrapping_add(replied as u64)),
+        })) => u64::from(command).wrapping_add((count as u64).wrapping_add(replied as u64)),
     }
 }
 

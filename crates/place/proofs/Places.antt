@@ -2,15 +2,19 @@
 use mathlib.Core.Path.{◌≡◌, refl, sym, ap, ◌∙◌}
 use mathlib.Core.Bool.{Bool, true, false, ◌&&◌}
 use mathlib.Core.List.{List, [], ◌∷◌}
-use Prim.Native.Nat.{ℕ, ◌+◌, ◌-◌, ◌/◌, ◌%◌, ◌≤◌, ◌<◌}
+use Prim.Native.Nat.{ℕ, ◌+◌, ◌-◌, ◌*◌, ◌/◌, ◌%◌, ◌≤◌, ◌<◌}
+use native.Mathlib.Nat.{add-zero}
 use native.Mathlib.Omega.{arith}
 use borrow.Author.Rules.{rules}
 use borrow.Author.Tests.{lt-ltb, le-ltb, eq-eqb, ne_eqb}
 use lib.Dec.{eqb}
 use lib.ListN.{length, get_or, take, drop}
-use lib.Seq.{length-take-le}
+use lib.Seq.{get_or-drop}
+use Rattle.std.proofs.lemmas.Bool.Decides.{nat_tests}
+use Rattle.wire.specs.Bytes.{Bytes}
+use Rattle.wire.proofs.Over.{right_false}
 use Rattle.wire.proofs.Parts.{part_whole}
-use Rattle.check_value.specs.CheckValue.{check_value}
+use Rattle.check_value.specs.CheckValue.{check_value, check_from}
 use Rattle.frame.specs.Frame.{header_bytes, check_length, least_length, right_check}
 use Rattle.frame.specs.declared.Header.{Header}
 use Rattle.reading.specs.Place.{cut_short, decided_by_check, after_header, behind, look}
@@ -26,16 +30,26 @@ pub cut_open : (closed : Bool) → closed ≡ false → Wait ≡ shown (cut_shor
 unfolding cut_short
 cut_open closed is = rw is
 
--- the check bytes
-pub front_length : (n : ℕ) (body : List ℕ) → n ≡ length body - 2 → n ≡ length (take n body)
-front_length n body is = sym (length-take-le n body (omega arith))
+-- the check bytes, read as one number
+as_one : (low high value : ℕ) → low < 256 → eqb (low + high * 256) value ≡ (eqb low (value % 256) && eqb high (value / 256))
+as_one low high value small = grind (arith, nat_tests)
 
-pub check_compared : (checking : Bool) (n value low high lowest highest : ℕ) (body : List ℕ) → checking ≡ true → n ≡ length body - 2
-    → value ≡ check_value (take n body) → low ≡ get_or body n 0 → high ≡ get_or body (n + 1) 0 → lowest ≡ value % 256 → highest ≡ value / 256
-    → (eqb low lowest && eqb high highest) ≡ right_check checking body
+pub check_compared : (checking : Bool) (value read : ℕ) (body content sent : List ℕ) → checking ≡ true → Bytes body
+    → content ≡ take (length body - 2) body → sent ≡ drop (length body - 2) body → value ≡ check_value content
+    → read ≡ get_or sent 0 0 + get_or sent 1 0 * 256 → eqb read value ≡ right_check checking body
 unfolding right_check
-check_compared checking n value low high lowest highest body on is-n is-value is-low is-high is-lowest is-highest =
-    rw (on, is-low, is-high, is-lowest, is-highest, is-value, is-n)
+check_compared checking value read body content sent on are is-content is-sent is-value is-read =
+    let n = length body - 2 in
+    let first : get_or sent 0 0 ≡ get_or body n 0 = rw (is-sent, get_or-drop n body 0 0, add-zero n) in
+    let second : get_or sent 1 0 ≡ get_or body (n + 1) 0 = rw (is-sent, get_or-drop n body 1 0) in
+    rw (on, is-read, first, second, is-value, is-content) (as_one (get_or body n 0) (get_or body (n + 1) 0) (check_value (take n body)) (are n))
+
+-- no check bytes at all, and no more than one, are wrong ones
+pub check_cut : (checking : Bool) (body : List ℕ) → checking ≡ true → length body < 2 → false ≡ right_check checking body
+unfolding right_check check_value check_from
+check_cut checking [] on short = rw on
+check_cut checking (x ∷ []) on short = rw on (sym (right_false (eqb x 255) false refl))
+check_cut checking (x ∷ y ∷ body) on short = absurd (omega arith)
 
 pub check_off : (checking : Bool) (body : List ℕ) → checking ≡ false → true ≡ right_check checking body
 unfolding right_check
@@ -53,18 +67,18 @@ module _ (checking : Bool) (l : ℕ) (body : List ℕ) (right : Bool) (is_right 
 
 -- behind the header
 module _ (checking closed : Bool) where
-  pub behind_empty : (s : List ℕ) (r : Look) → length s ≡ 0 → r ≡ shown (cut_short closed) → r ≡ shown (after_header checking closed s)
+  pub behind_empty : (s : List ℕ) (r : Look) → length s < 1 → r ≡ shown (cut_short closed) → r ≡ shown (after_header checking closed s)
   unfolding after_header
   behind_empty [] r none is = is
   behind_empty (x ∷ s) r none is = absurd (omega arith)
 
-  module _ (s : List ℕ) (l n c : ℕ) (some : length s ≡ 0 → ⊥) (is-l : l ≡ get_or s 0 0) (is-n : n ≡ l) (is_c : c ≡ check_length checking) where
+  module _ (s : List ℕ) (l n c : ℕ) (some : 1 ≤ length s) (is-l : l ≡ get_or s 0 0) (is-n : n ≡ l) (is_c : c ≡ check_length checking) where
     pub length_low : n < 1 + c → Pass ≡ shown (after_header checking closed s)
     unfolding after_header least_length
     length_low low = go s some is-l
       where
-        go : (s : List ℕ) → (length s ≡ 0 → ⊥) → l ≡ get_or s 0 0 → Pass ≡ shown (after_header checking closed s)
-        go [] some is = absurd (some refl)
+        go : (s : List ℕ) → 1 ≤ length s → l ≡ get_or s 0 0 → Pass ≡ shown (after_header checking closed s)
+        go [] some is = absurd (omega arith)
         go (x ∷ xs) some is =
             let small : x < 1 + check_length checking = omega arith in
             rw (lt-ltb x (1 + check_length checking) small)
@@ -73,63 +87,63 @@ module _ (checking closed : Bool) where
     unfolding after_header least_length
     frame_cut r least cut is = go s some is-l cut
       where
-        go : (s : List ℕ) → (length s ≡ 0 → ⊥) → l ≡ get_or s 0 0 → length s - 1 < n → r ≡ shown (after_header checking closed s)
-        go [] some is-l cut = absurd (some refl)
+        go : (s : List ℕ) → 1 ≤ length s → l ≡ get_or s 0 0 → length s - 1 < n → r ≡ shown (after_header checking closed s)
+        go [] some is-l cut = absurd (omega arith)
         go (x ∷ xs) some is-l cut =
             let enough : 1 + check_length checking ≤ x = omega arith in
             let short : length xs < x = omega arith in
             rw (le-ltb x (1 + check_length checking) enough, lt-ltb (length xs) x short) is
 
-    pub frame_whole : (r : Look) → 1 + c ≤ n → n ≤ length s - 1 → r ≡ shown (decided_by_check checking (take (1 + n - 1) (drop 1 s)))
+    pub frame_whole : (r : Look) → 1 + c ≤ n → n ≤ length s - 1 → r ≡ shown (decided_by_check checking (take n (take (length s - 1) (drop 1 s))))
         → r ≡ shown (after_header checking closed s)
     unfolding after_header least_length
     frame_whole r least whole is = go s some is-l whole is
       where
-        go : (s : List ℕ) → (length s ≡ 0 → ⊥) → l ≡ get_or s 0 0 → n ≤ length s - 1 → r ≡ shown (decided_by_check checking (take (1 + n - 1) (drop 1 s)))
+        go : (s : List ℕ) → 1 ≤ length s → l ≡ get_or s 0 0 → n ≤ length s - 1 → r ≡ shown (decided_by_check checking (take n (take (length s - 1) (drop 1 s))))
             → r ≡ shown (after_header checking closed s)
-        go [] some is-l whole is = absurd (some refl)
+        go [] some is-l whole is = absurd (omega arith)
         go (x ∷ xs) some is-l whole is =
             let enough : 1 + check_length checking ≤ x = omega arith in
             let long : x ≤ length xs = omega arith in
-            let same : 1 + n - 1 ≡ x = omega arith in
-            rw (le-ltb x (1 + check_length checking) enough, le-ltb (length xs) x long) (is ∙ ap (λ (k : ℕ). shown (decided_by_check checking (take k xs))) same)
+            let part : take n (take (length (x ∷ xs) - 1) (drop 1 (x ∷ xs))) ≡ take x xs = rw (part_whole (x ∷ xs) 1, is-n, sym is-l) refl in
+            rw (le-ltb x (1 + check_length checking) enough, le-ltb (length xs) x long) (is ∙ ap (λ (body : List ℕ). shown (decided_by_check checking body)) part)
 
 -- at a header byte
 module _ (checking closed : Bool) (h : ℕ) (header : List ℕ) where
-  pub header_cut : (s : List ℕ) (r : Look) → length s ≡ 0 → r ≡ shown (cut_short closed) → r ≡ shown (behind checking closed (h ∷ header) s)
+  pub header_cut : (s : List ℕ) (r : Look) → length s < 1 → r ≡ shown (cut_short closed) → r ≡ shown (behind checking closed (h ∷ header) s)
   unfolding behind
   header_cut [] r none is = is
   header_cut (x ∷ s) r none is = absurd (omega arith)
 
-  pub header_same : (s : List ℕ) (r : Look) → (length s ≡ 0 → ⊥) → get_or s 0 0 ≡ h
+  pub header_same : (s : List ℕ) (r : Look) → 1 ≤ length s → get_or s 0 0 ≡ h
       → r ≡ shown (behind checking closed header (take (length s - 1) (drop 1 s))) → r ≡ shown (behind checking closed (h ∷ header) s)
   unfolding behind
-  header_same [] r some same is = absurd (some refl)
+  header_same [] r some same is = absurd (omega arith)
   header_same (x ∷ xs) r some same is =
       rw (eq-eqb x h same) (is ∙ ap (λ (l : List ℕ). shown (behind checking closed header l)) (part_whole (x ∷ xs) 1))
 
-  pub header_other : (s : List ℕ) → (length s ≡ 0 → ⊥) → (get_or s 0 0 ≡ h → ⊥) → Pass ≡ shown (behind checking closed (h ∷ header) s)
+  pub header_other : (s : List ℕ) → 1 ≤ length s → (get_or s 0 0 ≡ h → ⊥) → Pass ≡ shown (behind checking closed (h ∷ header) s)
   unfolding behind
-  header_other [] some other = absurd (some refl)
+  header_other [] some other = absurd (omega arith)
   header_other (x ∷ xs) some other = rw (ne_eqb x h other)
 
-pub last_same : (checking closed : Bool) (h : ℕ) (s : List ℕ) (r : Look) → (length s ≡ 0 → ⊥) → get_or s 0 0 ≡ h
+pub last_same : (checking closed : Bool) (h : ℕ) (s : List ℕ) (r : Look) → 1 ≤ length s → get_or s 0 0 ≡ h
     → r ≡ shown (after_header checking closed (take (length s - 1) (drop 1 s))) → r ≡ shown (behind checking closed (h ∷ []) s)
 unfolding behind
 last_same checking closed h s r some same is = header_same checking closed h [] s r some same is
 
 -- at the first header byte
 module _ (header : Header) (checking closed : Bool) (s : List ℕ) where
-  pub look_cut : (r : Look) → length s ≡ 0 → r ≡ shown (cut_short closed) → r ≡ shown (look (rules_of header checking) closed s)
+  pub look_cut : (r : Look) → length s < 1 → r ≡ shown (cut_short closed) → r ≡ shown (look (rules_of header checking) closed s)
   unfolding look header_bytes
   look_cut r none is = header_cut checking closed header.h1 (header.h2 ∷ []) s r none is
 
-  pub look_same : (r : Look) → (length s ≡ 0 → ⊥) → get_or s 0 0 ≡ header.h1
+  pub look_same : (r : Look) → 1 ≤ length s → get_or s 0 0 ≡ header.h1
       → r ≡ shown (behind checking closed (header.h2 ∷ []) (take (length s - 1) (drop 1 s))) → r ≡ shown (look (rules_of header checking) closed s)
   unfolding look header_bytes
   look_same r some same is = header_same checking closed header.h1 (header.h2 ∷ []) s r some same is
 
-  pub look_other : (length s ≡ 0 → ⊥) → (get_or s 0 0 ≡ header.h1 → ⊥) → Pass ≡ shown (look (rules_of header checking) closed s)
+  pub look_other : 1 ≤ length s → (get_or s 0 0 ≡ header.h1 → ⊥) → Pass ≡ shown (look (rules_of header checking) closed s)
   unfolding look header_bytes
   look_other some other = header_other checking closed header.h1 (header.h2 ∷ []) s some other
 
@@ -137,8 +151,7 @@ pub ruleset places = (
   rules,
   cut_closed,
   cut_open,
-  front_length,
-  check_compared,
+  check_cut,
   check_off,
   check_good,
   check_bad,

@@ -6,13 +6,12 @@ ghost use Rattle.std.specs.Prelude.{◌≡◌, ◌∷◌, [], ◌-◌, length};
 ghost use Rattle.frame.specs.Frame.{header_bytes, right_check};
 ghost use Rattle.reading.specs.Place.{cut_short, decided_by_check, after_header, behind, look};
 ghost use Rattle.place.specs.Bullets.{look_said, place_said, stop_said, stop_listed};
-ghost use Rattle.place.specs.Inner.{passes_over};
 ghost use Rattle.place.specs.Looks.{rules_of, shown, stop_of};
 
 use frame::Header;
 
 // What stands at a place.
-#[derive(Clone, Copy)]
+#[derive(Clone, Copy, Debug, PartialEq, Eq)]
 pub enum Look {
     // No frame begins here: go on at the next place.
     Pass,
@@ -25,7 +24,7 @@ pub enum Look {
 }
 
 // Where going on stops, and what stands there.
-#[derive(Clone, Copy)]
+#[derive(Clone, Copy, Debug, PartialEq, Eq)]
 pub struct Stop {
     pub at: usize,
     pub look: Look,
@@ -42,14 +41,12 @@ fn cut_short(closed: bool) -> Look
 fn right_check(checking: bool, body: &[u8]) -> bool
     ensures { result ≡ right_check checking body.now }
 {
-    if checking {
-        let n = wire::above(body.len(), 2);
-        let value = check_value::check_value(&body[..n]);
-        let low = wire::byte_at(body, n);
-        let high = wire::byte_at(body, n + 1);
-        (low == wire::low_byte(value)) & (high == wire::high_byte(value))
-    } else {
-        true
+    if !checking {
+        return true;
+    }
+    match body.split_last_chunk() {
+        Some((content, sent)) => u16::from_le_bytes(*sent) == check_value::check_value(content),
+        None => false,
     }
 }
 
@@ -69,31 +66,27 @@ fn by_check(checking: bool, l: u8, body: &[u8]) -> Look
 fn after_header(checking: bool, closed: bool, s: &[u8]) -> Look
     ensures { result ≡ shown (after_header checking closed s.now) }
 {
-    if s.len() == 0 {
+    let [l, behind @ ..] = s else {
         return cut_short(closed);
-    }
-    let l = s[0];
-    let n = wire::count(l);
+    };
+    let n = usize::from(*l);
     if n < 1 + frame::check_length(checking) {
         return Look::Pass;
     }
-    if s.len() - 1 < n {
+    if behind.len() < n {
         return cut_short(closed);
     }
-    by_check(checking, l, &s[1..1 + n])
+    by_check(checking, *l, &behind[..n])
 }
 
 // What the bytes behind the first header byte make of the place.
 fn after_first(h2: u8, checking: bool, closed: bool, s: &[u8]) -> Look
     ensures { result ≡ shown (behind checking closed (h2 ∷ []) s.now) }
 {
-    if s.len() == 0 {
-        return cut_short(closed);
-    }
-    if s[0] == h2 {
-        after_header(checking, closed, &s[1..])
-    } else {
-        Look::Pass
+    match s {
+        [] => cut_short(closed),
+        [first, behind @ ..] if *first == h2 => after_header(checking, closed, behind),
+        _ => Look::Pass,
     }
 }
 
@@ -102,25 +95,12 @@ pub fn look_at(header: Header, checking: bool, closed: bool, s: &[u8]) -> Look
     ensures value { result ≡ shown (look (rules_of header checking) closed s.now) }
     ensures result_value { look_said (header_bytes header) result ≡ place_said (rules_of header checking) closed s.now }
 {
-    if s.len() == 0 {
-        return cut_short(closed);
-    }
-    if s[0] == header.h1 {
-        after_first(header.h2, checking, closed, &s[1..])
-    } else {
-        Look::Pass
-    }
-}
-
-// Whether going on passes over such a place.
-fn is_pass(look: Look) -> bool
-    ensures { result ≡ passes_over look }
-{
-    match look {
-        Look::Pass => true,
-        Look::Wait => false,
-        Look::Bad(_) => false,
-        Look::Good(_) => false,
+    match s {
+        [] => cut_short(closed),
+        [first, behind @ ..] if *first == header.h1 => {
+            after_first(header.h2, checking, closed, behind)
+        }
+        _ => Look::Pass,
     }
 }
 
@@ -129,17 +109,14 @@ pub fn first_stop(header: Header, checking: bool, closed: bool, s: &[u8]) -> Sto
     ensures value { result ≡ stop_of (rules_of header checking) closed s.now }
     ensures result_value { stop_said (header_bytes header) result ≡ stop_listed (rules_of header checking) closed s.now }
 {
-    let mut at = 0;
-    while at < s.len() {
-        let look = look_at(header, checking, closed, &s[at..]);
-        if is_pass(look) {
-            at += 1;
-        } else {
-            return Stop { at: at, look: look };
+    for at in 0..s.len() {
+        match look_at(header, checking, closed, &s[at..]) {
+            Look::Pass => {}
+            look => return Stop { at, look },
         }
     }
     Stop {
-        at: at,
+        at: s.len(),
         look: Look::Wait,
     }
 }

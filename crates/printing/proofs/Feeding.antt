@@ -1,4 +1,5 @@
 -- The library called on an input, piece by piece, writes what the trace program prints for it; and every caller comes to the end.
+use Rattle.std.specs.Prelude.{Ok}
 use mathlib.Core.Path.{◌≡◌, refl, sym, ap, ◌∙◌}
 use mathlib.Core.Logic.{◌⊎◌, inl, inr}
 use mathlib.Core.Bool.{Bool, true, false, ◌&&◌, ◌||◌}
@@ -16,7 +17,6 @@ use Rattle.wire.proofs.Over.{take_over}
 use Rattle.reading.proofs.ByteLists.{bytes_nil, bytes_cons, bytes_append, bytes_drop}
 use Rattle.wire.proofs.Truths.{never, or_left, or_right}
 use Rattle.telling.specs.Told.{least_text}
-use Rattle.trace.specs.declared.Answer.TheVariants.{Done}
 use Rattle.items.specs.Stages.{is_started}
 use Rattle.items.specs.Records.{table_bytes}
 use Rattle.trace.specs.State.{Held, new_trace, waits, lent_to, is_lent}
@@ -37,11 +37,11 @@ pub record CallOnward (held : Held) (chunk rest : List ℕ) (s : Stepping) : Typ
   pub nearer : (waits held.trace ≡ true) ⊎ (0 < length chunk)
       → length (drop s.stepped.used chunk) * calls_each + kept_by (held_after s) < length chunk * calls_each + kept_by held
 
-pub call_onward : (held : Held) (chunk rest room : List ℕ) → HeldSound held → Bytes chunk → (step_called held chunk room).stepped.answer ≡ Done
+pub call_onward : (held : Held) (chunk rest room : List ℕ) → HeldSound held → Bytes chunk → (step_called held chunk room).stepped.answer ≡ Ok tt
     → CallOnward held chunk rest (step_called held chunk room)
 unfolding stepping
 call_onward held chunk rest room sound are =
-    by_test (λ (s : Stepping). s.stepped.answer ≡ Done → CallOnward held chunk rest s) (is_lent held room) _ _
+    by_test (λ (s : Stepping). s.stepped.answer ≡ Ok tt → CallOnward held chunk rest s) (is_lent held room) _ _
     (λ lent done.
     let s = step held chunk in
     let on = step_onward held chunk rest sound are in
@@ -53,12 +53,12 @@ call_onward held chunk rest room sound are =
     })
     (λ refused done. never (cc))
 
-end_call : (held : Held) (room : List ℕ) → (end_called held room).ended.answer ≡ Done
+end_call : (held : Held) (room : List ℕ) → (end_called held room).ended.answer ≡ Ok tt
     → take (end_called held room).ended.count (end_called held room).room ≡ end_text held.trace held.table
 unfolding ending
 end_call held room =
     let text = end_text held.trace held.table in
-    by_test (λ (e : Ending). e.ended.answer ≡ Done → take e.ended.count e.room ≡ text)
+    by_test (λ (e : Ending). e.ended.answer ≡ Ok tt → take e.ended.count e.room ≡ text)
     (leb table_bytes (length held.table) && leb least_text (length room)) _ _
     (λ lent done. take_over text room (length text) refl) (λ refused done. never (cc))
 
@@ -93,12 +93,12 @@ new_keeps_none = refl
 
 -- ---- Every caller comes to the end
 
-pub call_done : (held : Held) (chunk room : List ℕ) → HeldSound held → least_text ≤ length room → (step_called held chunk room).stepped.answer ≡ Done
+pub call_done : (held : Held) (chunk room : List ℕ) → HeldSound held → least_text ≤ length room → (step_called held chunk room).stepped.answer ≡ Ok tt
 unfolding stepping lent_to
 call_done held chunk room sound lent =
     rw (le-leb table_bytes (length held.table) sound.table, eq-eqb (length held.memory.words) word_count sound.memory.words, eq-eqb (length held.memory.curves) curve_words sound.memory.curves, le-leb least_text (length room) lent)
 
-end_done : (held : Held) (room : List ℕ) → HeldSound held → least_text ≤ length room → (end_called held room).ended.answer ≡ Done
+end_done : (held : Held) (room : List ℕ) → HeldSound held → least_text ≤ length room → (end_called held room).ended.answer ≡ Ok tt
 unfolding ending
 end_done held room sound lent = rw (le-leb table_bytes (length held.table) sound.table, le-leb least_text (length room) lent)
 

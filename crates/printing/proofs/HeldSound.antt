@@ -1,4 +1,5 @@
 -- What every trace keeps that is reached from a new one, with what is lent to it: every byte, report and run of line bytes keeps it.
+use Rattle.std.specs.Prelude.{Ok, Err}
 use mathlib.Core.Path.{◌≡◌, refl, sym, ap, ◌∙◌}
 use mathlib.Core.Bool.{Bool, true, false, not, ◌&&◌}
 use mathlib.Core.List.{List, [], ◌∷◌}
@@ -17,8 +18,8 @@ use Rattle.wire.proofs.Truths.{never, and_left}
 use Rattle.touch.specs.Table.{record_bytes}
 use Rattle.panel.specs.declared.Panel.{Panel}
 use Rattle.panel.specs.declared.Start.{Start}
-use Rattle.panel.specs.declared.StartAnswer.{StartAnswer}
-use Rattle.panel.specs.declared.StartAnswer.TheVariants as start
+use Rattle.panel.specs.Answers.{StartAnswer}
+use Rattle.panel.specs.declared.StartError.TheVariants as start_error
 use Rattle.panel.specs.Inputs.{fed_bytes}
 use Rattle.panel.specs.Sound.{Sound}
 use Rattle.panel.proofs.Soundness.{byte_sound, mark_sound, second_sound, bytes_sound, report_sound, contact_sound, lift_sound}
@@ -115,11 +116,11 @@ asked_sound panel memory sound whole =
     }
 
 -- a panel that a start gave is sound
-begun_sound : (trace : Trace) (part : List ℕ) → (is_started trace.stage ≡ true → Sound trace.panel) → (started_by trace part).answer ≡ start.Started
+begun_sound : (trace : Trace) (part : List ℕ) → (is_started trace.stage ≡ true → Sound trace.panel) → (started_by trace part).answer ≡ Ok tt
     → Sound (started_by trace part).panel
 unfolding started_by
 begun_sound trace part sound =
-    by_test (λ (s : Start). s.answer ≡ start.Started → Sound s.panel) (is_started trace.stage) _ _ (λ is answer. sound is)
+    by_test (λ (s : Start). s.answer ≡ Ok tt → Sound s.panel) (is_started trace.stage) _ _ (λ is answer. sound is)
     (λ not_yet answer. started_sound trace.setup part answer)
 
 -- ---- The trace with one thing changed
@@ -149,14 +150,14 @@ module _ (held : Held) (item : ItemSound held.trace) (lent : table_bytes ≤ len
         }
 
     module _ (sound : is_started held.trace.stage ≡ true → Sound held.trace.panel) where
-      answered_sound : (answer : StartAnswer) (panel : Panel) (gathered : List ℕ) → Bytes gathered → (answer ≡ start.Started → Sound panel)
+      answered_sound : (answer : StartAnswer) (panel : Panel) (gathered : List ℕ) → Bytes gathered → (answer ≡ Ok tt → Sound panel)
           → HeldSound (event_answered answer panel held gathered).held
       unfolding event_answered
-      answered_sound start.Started panel gathered are begun =
+      answered_sound (Ok tt) panel gathered are begun =
           told_sound (event panel (met_table held) held.memory gathered) (event_sound panel (met_table held) held.memory gathered (begun refl) whole are)
-      answered_sound start.WrongSetup panel gathered are begun = stopped_sound
-      answered_sound start.NotRecords panel gathered are begun = stopped_sound
-      answered_sound (start.WrongRecord i) panel gathered are begun = stopped_sound
+      answered_sound (Err start_error.WrongSetup) panel gathered are begun = stopped_sound
+      answered_sound (Err start_error.NotRecords) panel gathered are begun = stopped_sound
+      answered_sound (Err (start_error.WrongRecord i)) panel gathered are begun = stopped_sound
 
       event_done_sound : (gathered : List ℕ) → Bytes gathered → HeldSound (event_done held gathered).held
       unfolding event_done

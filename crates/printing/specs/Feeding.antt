@@ -1,8 +1,8 @@
 -- The library called on an input: steps on any front part of what is left, with any room, and the end once nothing is left and no report waits, or no more after an X.
+use Rattle.std.specs.Prelude.{Ok}
 use Rattle.std.specs.Prelude.{ℕ, zero, suc, ◌+◌, ◌≤◌, ◌≡◌, true, false, cond, ◌||◌, List, [], ◌++◌, leb, length, take, drop}
 use Rattle.frame.specs.Frame.{longest_frame}
 use Rattle.telling.specs.Told.{least_text}
-use Rattle.trace.specs.declared.Answer.TheVariants.{Done}
 use Rattle.items.specs.Stages.{is_over}
 use Rattle.trace.specs.State.{Held, holds, waits}
 use Rattle.trace.specs.Steps.{Stepping, stepping}
@@ -22,10 +22,10 @@ end_called held room = ending held.trace held.table room
 
 -- from what is held and the input that is left, the calls that are done write this text over the fronts of their rooms
 pub data Fed : Held → List ℕ → List ℕ → Type 0 where
-  by_step : (held : Held) (chunk rest room text : List ℕ) → (step_called held chunk room).stepped.answer ≡ Done
+  by_step : (held : Held) (chunk rest room text : List ℕ) → (step_called held chunk room).stepped.answer ≡ Ok tt
       → Fed (held_after (step_called held chunk room)) (drop (step_called held chunk room).stepped.used chunk ++ rest) text
       → Fed held (chunk ++ rest) (take (step_called held chunk room).stepped.count (step_called held chunk room).room ++ text)
-  by_end : (held : Held) (room : List ℕ) → waits held.trace ≡ false → (end_called held room).ended.answer ≡ Done
+  by_end : (held : Held) (room : List ℕ) → waits held.trace ≡ false → (end_called held room).ended.answer ≡ Ok tt
       → Fed held [] (take (end_called held room).ended.count (end_called held room).room)
   -- "and the program stops": what is left need not be read
   by_stop : (held : Held) (left : List ℕ) → is_over held.trace.stage ≡ true → Fed held left []

@@ -11,7 +11,6 @@ use lib.Seq.{take-append_seam, get_or-append_seam, length-take-le}
 use Rattle.wire.specs.Bytes.{Bytes}
 use Rattle.frame.specs.Frame.{least_length, right_check, GoodFrame}
 use Rattle.reading.specs.Place.{Rules, pass, bad, accepted, cut_short, decided_by_check, after_header, behind, look}
-use Rattle.reading.proofs.Stable.{never}
 
 check_right : (checking : Bool) (body : List ℕ) → right_check checking body ≡ true → decided_by_check checking body ≡ accepted body
 unfolding decided_by_check
@@ -48,8 +47,8 @@ pub record Begun (checking : Bool) (header xs body : List ℕ) : Type 0 where
 
 cut_short_accepts_none : {A : Type 0} (closed : Bool) (body : List ℕ) → cut_short closed ≡ accepted body → A
 unfolding cut_short
-cut_short_accepts_none false body is = never cc
-cut_short_accepts_none true body is = never cc
+cut_short_accepts_none false body is = cc
+cut_short_accepts_none true body is = cc
 
 check_accepted : (checking : Bool) (body body' : List ℕ) → decided_by_check checking body ≡ accepted body' → (right_check checking body ≡ true) × (body ≡ body')
 unfolding decided_by_check
@@ -57,7 +56,7 @@ check_accepted checking body body' is = go (right_check checking body) refl is
   where
     go : (b : Bool) → right_check checking body ≡ b → cond b (accepted body) (bad body) ≡ accepted body' → (right_check checking body ≡ true) × (body ≡ body')
     go true right is = (right, cc)
-    go false right is = never cc
+    go false right is = cc
 
 after_header_accepted : (checking closed : Bool) (xs body : List ℕ) → after_header checking closed xs ≡ accepted body → Begun checking [] xs body
 unfolding after_header
@@ -66,7 +65,7 @@ after_header_accepted checking closed (l ∷ xs) body is = go (ltb l (least_leng
   where
     go : (a b : Bool) → ltb l (least_length checking) ≡ a → ltb (length xs) l ≡ b
         → cond a pass (cond b (cut_short closed) (decided_by_check checking (take l xs))) ≡ accepted body → Begun checking [] (l ∷ xs) body
-    go true b at_least whole is = never cc
+    go true b at_least whole is = cc
     go false true at_least whole is = cut_short_accepts_none closed body is
     go false false at_least whole is =
         let right = check_accepted checking (take l xs) body is in
@@ -94,7 +93,7 @@ behind_accepted checking closed (h ∷ header) (x ∷ xs) body is = go (eqb x h)
         let first : x ≡ h = eqb-true x h same in
         let parts : xs ≡ header ++ (length body ∷ (body ++ begun.rest)) = begun.parts in
         record { rest = begun.rest; parts = cc; least = begun.least; right = begun.right }
-    go false same rest is = never cc
+    go false same rest is = cc
 
 pub accepted_begun : (rules : Rules) (closed : Bool) (xs body : List ℕ) → look rules closed xs ≡ accepted body
     → Begun rules.checking rules.header xs body

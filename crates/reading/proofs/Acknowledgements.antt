@@ -11,7 +11,6 @@ use Rattle.frame.specs.Frame.{check_length, least_length, GoodFrame}
 use Rattle.frame.specs.Acknowledgement.{acknowledgement_length, verdict, acknowledgement}
 use Rattle.reading.specs.Place.{Rules, pass, after_header, behind, look, report_of, gone_by, is_wait}
 use Rattle.reading.specs.Stretch.{read_from}
-use Rattle.reading.proofs.Stable.{never}
 use Rattle.reading.proofs.Accepting.{good_accepted}
 use Rattle.reading.proofs.Course.{GoesOn, place_goes_on}
 use Rattle.reading.proofs.ReadBack.{rules_of}
@@ -47,7 +46,7 @@ module _ (header : List ℕ) (command : ℕ) (accepted : Bool) where
   acknowledgement_begins_none more frame rest is good =
       let seen : pass ≡ _ =
       sym (acknowledgement_passed true more) ∙ ap (look (rules_of header true) true) is ∙ good_accepted (rules_of header true) true frame rest good in
-      never cc
+      cc
 
   -- and it is none itself
   pub acknowledgement_no_good_frame : GoodFrame true header answer → ⊥

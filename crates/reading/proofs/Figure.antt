@@ -13,7 +13,6 @@ use Rattle.reading.specs.Place.{Rules, cut_short, decided_by_check, after_header
 use Rattle.reading.specs.Stretch.{reports}
 use Rattle.reading.specs.Demand3.{Good, GoodFrames, none, next, joined, Cut, one_less_than_longest, accepted_of, report_of_frame, checked}
 use Rattle.reading.specs.Figure.{AcceptsOnce, FallsShort}
-use Rattle.reading.proofs.Stable.{never}
 use Rattle.reading.proofs.ByteLists.{all_bytes, tested_bytes}
 use Rattle.reading.proofs.Course.{reports_stays}
 use Rattle.reading.proofs.Damage.{is_accepted, none_accepted, tested_begins_none, open_accepts}
@@ -75,7 +74,7 @@ short_is_false rules figure damage frames tail short less below accepts =
   where
     some_mapped : (fs : List (List ℕ)) → 0 < length fs → map (report_of_frame rules) fs ≡ [] → ⊥
     some_mapped [] some is = omega arith
-    some_mapped (f ∷ fs) some is = never cc
+    some_mapped (f ∷ fs) some is = cc
 
 -- 257 is enough, for any two header bytes
 pub figure_enough : (h1 h2 : ℕ) → AcceptsOnce (checked h1 h2) 257

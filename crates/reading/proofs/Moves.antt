@@ -10,7 +10,7 @@ use Rattle.reading.specs.Stretch.{reports}
 use Rattle.reading.specs.Line.{Input, byte, mark, line_from}
 use Rattle.reading.specs.Moves.{Kept, settled, is_report, waiting, with_byte, with_mark, handed, after_report}
 use Rattle.reading.specs.Run.{with_input, closing, read_on, open_from, held_on}
-use Rattle.reading.proofs.Stable.{never, true_is_not_false}
+use Rattle.reading.proofs.Stable.{true_is_not_false}
 use Rattle.reading.proofs.Course.{GoesOn, place_goes_on}
 use Rattle.reading.proofs.Lines.{line_goes_on, held_goes_on}
 use Rattle.reading.proofs.Settling.{Settled, quiet_nil, settled_settled, settled_reads, settled_holds, settled_shorter}
@@ -40,7 +40,7 @@ report_decided wait is = true_is_not_false (sym is)
 report_decided (bad body) is = refl
 report_decided (accepted body) is = refl
 
-no_report : (rules : Rules) (seen : Seen) → is_report seen ≡ false → report_of rules seen ≡ []
+pub no_report : (rules : Rules) (seen : Seen) → is_report seen ≡ false → report_of rules seen ≡ []
 unfolding is_report report_of
 no_report rules pass is = refl
 no_report rules wait is = refl
@@ -51,8 +51,8 @@ no_report_only : (rules : Rules) (seen : Seen) → report_of rules seen ≡ [] �
 unfolding is_report report_of
 no_report_only rules pass none = refl
 no_report_only rules wait none = refl
-no_report_only rules (bad body) none = never cc
-no_report_only rules (accepted body) none = never cc
+no_report_only rules (bad body) none = cc
+no_report_only rules (accepted body) none = cc
 
 -- an input that is taken
 pub input_settled : (rules : Rules) (kept : Kept) (input : Input) → Settled rules (with_input rules kept input)
@@ -77,7 +77,7 @@ input_onward rules kept mark is_open =
 
 nil_left : (these later : List Report) → these ++ later ≡ [] → these ≡ []
 nil_left [] later none = refl
-nil_left (report ∷ these) later none = never cc
+nil_left (report ∷ these) later none = cc
 
 pub some_kept : (rules : Rules) (closed : Bool) (xs : List ℕ) → is_report (look rules closed xs) ≡ true → 0 < length xs
 some_kept rules closed [] waits = true_is_not_false (sym waits ∙ unfold waiting in quiet_nil rules closed)

@@ -10,13 +10,11 @@ use lib.ListN.{length, take, length-append}
 use lib.Seq.{take-append-le}
 use Rattle.frame.specs.Frame.{least_length}
 use Rattle.reading.specs.Place.{Rules, pass, wait, cut_short, decided_by_check, after_header, behind, look, is_wait}
+pub use Rattle.wire.proofs.Truths.{never}
 
 -- what a false equation of two answers proves
-pub never : {A : Type 0} → ◌≡◌ {A = ℕ} 0 1 → A
-never z = absurd (omega arith)
-
 pub true_is_not_false : {A : Type 0} → true ≡ false → A
-true_is_not_false e = never cc
+true_is_not_false e = cc
 
 after_header_stable : (checking closed : Bool) (xs ys : List ℕ) → is_wait (after_header checking false xs) ≡ false
     → after_header checking closed (xs ++ ys) ≡ after_header checking false xs

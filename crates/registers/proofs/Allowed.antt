@@ -4,8 +4,11 @@ use mathlib.Core.Bool.{Bool, true, false, ◌&&◌, ◌||◌, not}
 use mathlib.Core.List.{List}
 use Prim.Native.Nat.{ℕ, zero, suc, ◌+◌, ◌-◌, ◌≤◌, ◌<◌}
 use native.Mathlib.Omega.{arith}
-use borrow.Author.Tests.{leb-false, le-leb, eqb-true, eqb-false, not-false}
-use lib.Dec.{eqb, leb, ltb}
+use borrow.Author.Tests.{leb-false, le-leb}
+use Rattle.std.proofs.lemmas.Bool.Decides.{nat_tests}
+use mathlib.Core.Logic.{⊎_elim}
+use native.Mathlib.Nat.{eq-or-lt_of_le}
+use lib.Dec.{leb, ltb}
 use lib.ListN.{length, get_or}
 use Rattle.wire.specs.ByteOrder.{word}
 use Rattle.wire.proofs.Truths.{never, and_left, and_right, or_left, or_right}
@@ -25,24 +28,16 @@ neither a b is = (or_left a b is, or_right a b is)
 -- a run that is not refused with 5 is writable
 pub run_is_writable : (address n : ℕ) → unwritable_run address n ≡ false → all_writable address n ≡ true
 unfolding unwritable_run
-run_is_writable address n may =
-    not-false (all_writable address n)
-    (neither (not (all_writable address n)) (half_page address n) (neither (not (all_writable address n) || half_page address n) (part_of_clock address n) may).0).0
+run_is_writable address n may = grind (arith, nat_tests)
 
 -- every register of the run is writable
 all_writable_lem : (address n : ℕ) → all_writable address n ≡ true → (register : ℕ) → address ≤ register → register < address + n → writable register ≡ true
 unfolding all_writable
 all_writable_lem address zero all register from below = absurd (omega arith)
 all_writable_lem address (suc n) all register from below =
-    go (eqb address register) refl (and_left (writable address) (all_writable (suc address) n) all)
-    (all_writable_lem (suc address) n (and_right (writable address) (all_writable (suc address) n) all) register)
-  where
-    go : (b : Bool) → eqb address register ≡ b → writable address ≡ true → (suc address ≤ register → register < suc address + n → writable register ≡ true)
-        → writable register ≡ true
-    go true t here there = ap writable (sym (eqb-true address register t)) ∙ here
-    go false t here there =
-        let other : address ≡ register → ⊥ = eqb-false address register t in
-        there (omega arith) (omega arith)
+    ⊎_elim (λ here. rw (← here) (and_left (writable address) (all_writable (suc address) n) all))
+    (λ there. all_writable_lem (suc address) n (and_right (writable address) (all_writable (suc address) n) all) register there (omega arith))
+    (eq-or-lt_of_le from)
 
 module _ (registers : Registers) (whole : length registers.bytes ≡ 256) (address : ℕ) (bytes : List ℕ) (fits : address + length bytes ≤ 256) where
   pub length_written : length (registers_after registers address bytes).bytes ≡ 256

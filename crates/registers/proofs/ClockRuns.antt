@@ -1,15 +1,15 @@
 -- 02, §6: what a run has to do with the clock's registers.
 use mathlib.Core.Path.{◌≡◌, refl, sym, ◌∙◌}
-use mathlib.Core.Logic.{◌⊎◌, inl, inr, ⊎_elim, ◌↔◌}
-use mathlib.Core.Bool.{Bool, true, false, ◌&&◌, ◌||◌, not}
+use mathlib.Core.Logic.{◌⊎◌, ◌↔◌}
+use mathlib.Core.Bool.{Bool, true, false, ◌||◌, not}
 use mathlib.Core.List.{List}
-use Prim.Native.Nat.{ℕ, ◌+◌, ◌≤◌, ◌<◌}
+use Prim.Native.Nat.{ℕ, max, ◌+◌, ◌≤◌, ◌<◌}
 use native.Mathlib.Omega.{arith}
-use borrow.Author.Tests.{leb-true, leb-false, ltb-true, ltb-false, lt-ltb, le-leb, eqb-true}
-use lib.Dec.{eqb, leb, ltb}
+use Rattle.std.proofs.Math.Bool.{or-true, and-true}
+use Rattle.std.proofs.lemmas.Bool.Decides.{nat_tests}
 use lib.ListN.{length}
-use Rattle.wire.proofs.Truths.{never, and_left, and_right, or_left, or_right}
-use Rattle.registers.specs.Table.{clear_register, set_register, is_clock, writable}
+use Rattle.wire.proofs.Truths.{never, or_right}
+use Rattle.registers.specs.Table.{set_register, is_clock, writable}
 use Rattle.registers.specs.Clocked.{HasClockRegister}
 use Rattle.registers.proofs.Covered.{in_run_lem, out_of_run}
 use Rattle.registers.specs.Run.{covers, all_writable, half_page, sets_clock, touches_clock, part_of_clock, unwritable_run, wrong_setting, wrong_clock, wrong_value}
@@ -17,49 +17,22 @@ use Rattle.registers.specs.Run.{covers, all_writable, half_page, sets_clock, tou
 -- a run that is not empty and touches none of them lies before or behind them
 pub clock_apart : (address n : ℕ) → 0 < n → touches_clock address n ≡ false → (0x26 < address) ⊎ (address + n ≤ 0x1F)
 unfolding touches_clock
-clock_apart address n some none = go (leb address 0x26) refl (rw (lt-ltb 0 n some) at none)
-  where
-    go : (b : Bool) → leb address 0x26 ≡ b → (b && ltb 0x1F (address + n)) ≡ false → (0x26 < address) ⊎ (address + n ≤ 0x1F)
-    go true t none = inr (ltb-false 0x1F (address + n) none)
-    go false t none = inl (leb-false address 0x26 t)
+clock_apart address n some none = grind (arith, nat_tests)
 
 -- a run that touches them is not empty
 pub touched_some : (address n : ℕ) → touches_clock address n ≡ true → 0 < n
 unfolding touches_clock
-touched_some address n is =
-    ltb-true 0 n (and_left (ltb 0 n) (leb address 0x26) (and_left (ltb 0 n && leb address 0x26) (ltb 0x1F (address + n)) is))
+touched_some address n is = grind (arith, nat_tests)
 
 -- and has one of them: the first of both
 clock_had : (address n : ℕ) → touches_clock address n ≡ true → HasClockRegister address n
-unfolding touches_clock
-clock_had address n is =
-    let both = and_left (ltb 0 n && leb address 0x26) (ltb 0x1F (address + n)) is in
-    let some : 0 < n = touched_some address n is in
-    let before : address ≤ 0x26 = leb-true address 0x26 (and_right (ltb 0 n) (leb address 0x26) both) in
-    let behind : 0x1F < address + n = ltb-true 0x1F (address + n) (and_right (ltb 0 n && leb address 0x26) (ltb 0x1F (address + n)) is) in
-    go (leb 0x1F address) refl some before behind
-  where
-    go : (b : Bool) → leb 0x1F address ≡ b → 0 < n → address ≤ 0x26 → 0x1F < address + n → HasClockRegister address n
-    go true t some before behind =
-        record {
-          register = address;
-          is_clock = unfold is_clock in rw (t, le-leb address 0x26 before);
-          has = unfold covers in rw (le-leb address address (omega arith), lt-ltb address (address + n) (omega arith));
-        }
-    go false t some before behind =
-        record {
-          register = 0x1F;
-          is_clock = unfold is_clock in refl;
-          has = unfold covers in rw (le-leb address 0x1F (omega (arith, leb-false 0x1F address t)), lt-ltb 0x1F (address + n) behind);
-        }
+unfolding touches_clock is_clock covers
+clock_had address n is = record { register = max address 0x1F; is_clock = grind (arith, nat_tests); has = grind (arith, nat_tests) }
 
 -- a run that has one of them touches them
 pub clock_touched : (address n register : ℕ) → is_clock register ≡ true → address ≤ register → register < address + n → touches_clock address n ≡ true
 unfolding touches_clock is_clock
-clock_touched address n register is from below =
-    let first : 0x1F ≤ register = leb-true 0x1F register (and_left (leb 0x1F register) (leb register 0x26) is) in
-    let last : register ≤ 0x26 = leb-true register 0x26 (and_right (leb 0x1F register) (leb register 0x26) is) in
-    rw (lt-ltb 0 n (omega arith), le-leb address 0x26 (omega arith), lt-ltb 0x1F (address + n) (omega arith))
+clock_touched address n register is from below = grind (arith, nat_tests)
 
 -- 02, §6, "a write touching some": exactly where one of the run's registers is one of the clock's
 pub touches_exactly : (address n : ℕ) → (touches_clock address n ≡ true) ↔ HasClockRegister address n
@@ -82,19 +55,12 @@ clock_outside address n register is none = go (covers address n register) refl
 -- the run that sets the clock
 pub setting_run : (address n : ℕ) → sets_clock address n ≡ true → (address ≡ set_register) × (n ≡ 8)
 unfolding sets_clock
-setting_run address n is =
-    (eqb-true address set_register (and_left (eqb address set_register) (eqb n 8) is), eqb-true n 8 (and_right (eqb address set_register) (eqb n 8) is))
+setting_run address n is = (grind (arith, nat_tests), grind (arith, nat_tests))
 
 -- a write that is not refused with 5 and does not set the clock touches none of its registers
 pub none_touched : (address n : ℕ) → unwritable_run address n ≡ false → sets_clock address n ≡ false → touches_clock address n ≡ false
 unfolding unwritable_run part_of_clock
-none_touched address n may other =
-    go (touches_clock address n) (sets_clock address n) other (or_right (not (all_writable address n) || half_page address n) _ may)
-  where
-    go : (touches sets : Bool) → sets ≡ false → (touches && not sets) ≡ false → touches ≡ false
-    go touches true is part = never (cc)
-    go true false is part = part
-    go false false is part = refl
+none_touched address n may other = rw (other, and-true) at (or_right (not (all_writable address n) || half_page address n) _ may)
 
 -- 02, §6: a write of just the eight is not refused with 5, and with 6 for what it would set the clock to and for nothing else
 pub setting_may : (address n : ℕ) → sets_clock address n ≡ true → unwritable_run address n ≡ false
@@ -116,38 +82,23 @@ setting_right address bytes pages right sets = sym (setting_values address bytes
 -- and 5 for every other run that touches one of them
 pub part_refused : (address n : ℕ) → touches_clock address n ≡ true → sets_clock address n ≡ false → unwritable_run address n ≡ true
 unfolding unwritable_run part_of_clock
-part_refused address n touches other = rw (touches, other) (or_true (not (all_writable address n) || half_page address n))
-  where
-    or_true : (b : Bool) → (b || true) ≡ true
-    or_true true = refl
-    or_true false = refl
+part_refused address n touches other = rw (touches, other, or-true)
 
 clock_apart_from : (register : ℕ) → is_clock register ≡ false → (register < 0x1F) ⊎ (0x27 ≤ register)
 unfolding is_clock
-clock_apart_from register other = go (leb 0x1F register) refl (leb register 0x26) refl other
-  where
-    go : (a : Bool) → leb 0x1F register ≡ a → (b : Bool) → leb register 0x26 ≡ b → (a && b) ≡ false → (register < 0x1F) ⊎ (0x27 ≤ register)
-    go true t true u is = never (cc)
-    go true t false u is = inr (omega (arith, leb-false register 0x26 u))
-    go false t b u is = inl (leb-false 0x1F register t)
+clock_apart_from register other = grind (arith, nat_tests)
 
 -- what is not writable is none of them, and a second leaves it
 pub unwritable_apart : (register : ℕ) → writable register ≡ false → (register < 0x20) ⊎ (0x27 ≤ register)
-unfolding writable
-unwritable_apart register not_written =
-    let others = eqb register 0x01 || eqb register 0x02 || eqb register 0x03 || eqb register 0x04 || eqb register 0x05 || eqb register 0x0B in
-    ⊎_elim (λ (before : register < 0x1F). inl (omega arith)) inr
-    (clock_apart_from register (or_right others (is_clock register) (or_left (others || is_clock register) (eqb register clear_register) not_written)))
+unfolding writable is_clock
+unwritable_apart register not_written = grind (arith, nat_tests)
 
 -- they lie behind the registers that a touch sets
 pub clock_behind : (register : ℕ) → is_clock register ≡ true → 0x0B ≤ register
 unfolding is_clock
-clock_behind register is =
-    let first : 0x1F ≤ register = leb-true 0x1F register (and_left (leb 0x1F register) (leb register 0x26) is) in
-    omega arith
+clock_behind register is = grind (arith, nat_tests)
 
 -- a register that is none of them lies outside the run that sets the clock
 pub setting_outside : (address n register : ℕ) → sets_clock address n ≡ true → is_clock register ≡ false → (register < address) ⊎ (address + n ≤ register)
-setting_outside address n register sets other =
-    let run = setting_run address n sets in
-    ⊎_elim (λ (before : register < 0x1F). inl (omega (arith, run.0))) (λ (behind : 0x27 ≤ register). inr (omega (arith, run.0, run.1))) (clock_apart_from register other)
+unfolding sets_clock is_clock
+setting_outside address n register sets other = grind (arith, nat_tests)

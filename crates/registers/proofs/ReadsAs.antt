@@ -1,13 +1,12 @@
 -- Laws of `reads_as`: what a run reads once it has been written.
 use mathlib.Core.Path.{◌≡◌, refl, sym, ap, ◌∙◌}
 use mathlib.Core.Logic.{◌⊎◌, inl, inr, ⊎_elim}
-use mathlib.Core.Bool.{Bool, true, false, ◌||◌}
+use mathlib.Core.Bool.{false}
 use mathlib.Core.List.{List, [], ◌∷◌}
 use Prim.Native.Nat.{ℕ, zero, suc, ◌+◌, ◌≤◌, ◌<◌}
 use native.Mathlib.Nat.{add-zero}
 use native.Mathlib.Omega.{arith}
 use borrow.Author.Tests.{eq-eqb, ne_eqb}
-use lib.Dec.{eqb}
 use lib.ListN.{length, get_or}
 use Rattle.registers.specs.Table.{clear_register, set_register, weekday_register}
 use Rattle.registers.proofs.ClockRuns.{clock_apart}
@@ -36,32 +35,17 @@ pub reads_as_at : (address : ℕ) (bytes : List ℕ) (i : ℕ) → i < length by
 unfolding reads_as
 reads_as_at address bytes i = read_each_at (weekday_for address bytes) address bytes i
 
--- the three ways of reading a register that was written
 module _ (weekday register b : ℕ) where
-  -- it is EB or 1F
-  abbrev reads_00 : Bool
-  reads_00 = eqb register clear_register || eqb register set_register
-
-  pub zero_reads : (eqb register clear_register || eqb register set_register) ≡ true → 0 ≡ read_as weekday register b
-  unfolding read_as
-  zero_reads is = rw is
-
-  module _ (not-00 : (eqb register clear_register || eqb register set_register) ≡ false) where
-    pub weekday_reads : register ≡ weekday_register → weekday ≡ read_as weekday register b
-    unfolding read_as
-    weekday_reads is = rw (not-00, eq-eqb register weekday_register is)
-
-    pub byte_reads : (register ≡ weekday_register → ⊥) → b ≡ read_as weekday register b
-    unfolding read_as
-    byte_reads not = rw (not-00, ne_eqb register weekday_register not)
-
   -- "it becomes writable and reads 00"
   pub clear_reads : register ≡ clear_register → 0 ≡ read_as weekday register b
-  clear_reads is = zero_reads (rw (eq-eqb register clear_register is))
+  unfolding read_as
+  clear_reads is = rw (eq-eqb register clear_register is)
 
-  -- any other register but the weekday's reads what was written
+  -- any other register but 1F and the weekday's reads what was written
   pub other_reads : (register ≡ clear_register → ⊥) → (register ≡ set_register → ⊥) → (register ≡ weekday_register → ⊥) → b ≡ read_as weekday register b
-  other_reads not-clear not_set = byte_reads (rw (ne_eqb register clear_register not-clear, ne_eqb register set_register not_set))
+  unfolding read_as
+  other_reads not-clear not_set not-weekday =
+      rw (ne_eqb register clear_register not-clear, ne_eqb register set_register not_set, ne_eqb register weekday_register not-weekday)
 
 -- a run of which no register is one of these three
 plain_run : (weekday address : ℕ) (bytes : List ℕ) → (clear_register < address) ⊎ (address + length bytes ≤ clear_register)

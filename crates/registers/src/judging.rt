@@ -39,9 +39,8 @@ fn is_wrong_setting(bytes: &[u8]) -> bool
 
 impl Run<'_> {
     // Its registers, by their addresses.
-    pub(crate) fn registers(self) -> Range<usize>
-        ensures start { result.start ≡ self.entry.address.0 }
-        ensures end { result.end ≡ self.entry.address.0 + length self.entry.bytes.now }
+    fn registers(self) -> Range<usize>
+        ensures { result ≡ record { start = self.entry.address.0; end = self.entry.address.0 + length self.entry.bytes.now } }
     {
         let first = usize::from(self.address.0);
         first..first + self.bytes.len()

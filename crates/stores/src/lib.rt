@@ -32,7 +32,7 @@ pub fn at_most(a: u16, b: u16) -> bool
     signed(a) <= signed(b)
 }
 
-// The number that a mode finds in a word.
+// The number that a mode finds in a word. The mode stays the record's number and no enum: any byte may stand there, and `in_mode` says what each counts as.
 #[tactic(auto, unfolding(crate::specs::Store::in_mode))]
 fn value_in(mode: u8, w: u16) -> i16
     ensures { result ≡ value_in mode w }
@@ -92,7 +92,7 @@ fn fence(up: bool, round: bool, least: i32, greatest: i32, t: i32) -> i32
     if to_least { least } else { greatest }
 }
 
-// The word after a step acted on it.
+// The word after a step acted on it. No struct for the parameters: they are those of `step_stores` in specs/, one for each word of 01's rule.
 #[tactic(auto, unfolding(crate::specs::Step::step_stores))]
 pub fn step_stores(
     mode: u8,

@@ -1,4 +1,6 @@
 -- What a report writes is short: an acknowledgement has 7 bytes, a reply at most 258.
+use Rattle.std.specs.Prelude.{Option, None, Some, Err}
+use Rattle.line.specs.declared.Report.{Report}
 use mathlib.Core.Path.{◌≡◌, refl, ap}
 use mathlib.Core.Bool.{Bool, true, false, cond, ◌&&◌}
 use mathlib.Core.List.{List}
@@ -14,20 +16,19 @@ use Rattle.frame.specs.Acknowledgement.{acknowledgement}
 use Rattle.frame.specs.Writer.{frame_laid, acknowledgement_laid}
 use Rattle.frame.proofs.Acknowledgements.{length_acknowledgement}
 use Rattle.frame.proofs.Writers.{length_frame_of, length_most, header_short}
-use Rattle.line.specs.declared.Report.{Report}
 use Rattle.line.specs.declared.Report.TheVariants as line
 use Rattle.line.specs.declared.Asked.{Asked}
 use Rattle.line.specs.Methods.{asked}
 use Rattle.touch.specs.declared.Setup.{Setup}
 use Rattle.registers.specs.declared.Registers.{Registers}
 use Rattle.commands.specs.declared.Fixed.{Fixed}
-use Rattle.commands.specs.declared.Outcome.{Outcome}
+use Rattle.commands.specs.Outcome.{Outcome}
 use Rattle.commands.specs.Lent.{Lent}
 use Rattle.commands.specs.Outcome.{is_done}
 use Rattle.commands.specs.Effect.{replying, registers_writing, registers_replying, words_writing, words_replying, curves_adding}
 use Rattle.commands.specs.Perform.{Performance, performance}
 use Rattle.panel.specs.declared.Panel.{Panel}
-use Rattle.panel.specs.declared.Handed.TheVariants as handed
+use Rattle.panel.specs.declared.LentError.TheVariants as lent_error
 use Rattle.panel.specs.declared.Reported.{Reported}
 use Rattle.panel.specs.State.{header_for, header_of, fixed_for, answering}
 use Rattle.panel.specs.Reporting.{enough_lent, well_lent, acknowledged, accepting, reports, Reporting, handing_over, handing, reporting}
@@ -86,28 +87,28 @@ performance_at_most fixed registers command content lent =
     chosen false p q hp hq = hq
 
 -- an ask that is refused, with 14 or with 16, writes nothing
-refused_acknowledgement : (enough : Bool) → acknowledged_by (cond enough handed.WrongList handed.NotLent) ≤ acknowledgement_bytes
+refused_acknowledgement : (enough : Bool) → acknowledged_by (cond enough (Err lent_error.WrongList) (Err lent_error.NotLent)) ≤ acknowledgement_bytes
 unfolding acknowledged_by
 refused_acknowledgement true = omega arith
 refused_acknowledgement false = omega arith
 
-refused_reply : (enough : Bool) → replied_by (cond enough handed.WrongList handed.NotLent) ≤ longest_frame
+refused_reply : (enough : Bool) → replied_by (cond enough (Err lent_error.WrongList) (Err lent_error.NotLent)) ≤ longest_frame
 unfolding replied_by
 refused_reply true = omega arith
 refused_reply false = omega arith
 
 module _ (panel : Panel) (lent : Lent) where
-  handed_acknowledgement : (a : Asked) (report : Report) → acknowledged_by (handing a report panel lent).reported.handed ≤ acknowledgement_bytes
+  handed_acknowledgement : (a : Asked) (report : Option Report) → acknowledged_by (handing a report panel lent).reported.handed ≤ acknowledgement_bytes
   unfolding handing handing_over accepting acknowledged_by
-  handed_acknowledgement a line.Nothing = omega arith
-  handed_acknowledgement a (line.BadCheck command) = acknowledged_short panel.setup command false lent.room
-  handed_acknowledgement a (line.Accepted command count) = acknowledged_short panel.setup command true lent.room
+  handed_acknowledgement a None = omega arith
+  handed_acknowledgement a (Some (line.BadCheck command)) = acknowledged_short panel.setup command false lent.room
+  handed_acknowledgement a (Some (line.Accepted command count)) = acknowledged_short panel.setup command true lent.room
 
-  handed_reply : (a : Asked) (report : Report) → replied_by (handing a report panel lent).reported.handed ≤ longest_frame
+  handed_reply : (a : Asked) (report : Option Report) → replied_by (handing a report panel lent).reported.handed ≤ longest_frame
   unfolding handing handing_over accepting replied_by
-  handed_reply a line.Nothing = omega arith
-  handed_reply a (line.BadCheck command) = omega arith
-  handed_reply a (line.Accepted command count) = performance_at_most (fixed_for panel.setup) panel.registers command _ _
+  handed_reply a None = omega arith
+  handed_reply a (Some (line.BadCheck command)) = omega arith
+  handed_reply a (Some (line.Accepted command count)) = performance_at_most (fixed_for panel.setup) panel.registers command _ _
 
   reported_acknowledgement : acknowledged_by (reporting panel lent).reported.handed ≤ acknowledgement_bytes
   unfolding reporting acknowledged_by

@@ -1,4 +1,5 @@
 -- Laws of text laid over a room: that it fits, and one text behind another.
+use Rattle.std.specs.Prelude.{None, Some, Ok, Err}
 use mathlib.Core.Path.{◌≡◌, sym, ap, ◌∙◌}
 use mathlib.Core.List.{List, [], ◌++◌}
 use Prim.Native.Nat.{ℕ, ◌+◌, ◌-◌, ◌≤◌}
@@ -13,10 +14,11 @@ use Rattle.wire.proofs.Over.{over_nil, over_part}
 use Rattle.wire.proofs.Parts.{part_whole}
 use Rattle.frame.specs.Frame.{longest_frame}
 use Rattle.frame.specs.Writer.{least_room}
-use Rattle.commands.specs.declared.Outcome.{Outcome}
+use Rattle.commands.specs.Outcome.{Outcome}
 use Rattle.commands.specs.Outcome as Outcome
-use Rattle.panel.specs.declared.Handed.{Handed}
+use Rattle.panel.specs.Answers.{AskAnswer}
 use Rattle.panel.specs.declared.Handed.TheVariants as handed
+use Rattle.panel.specs.declared.LentError.TheVariants as lent_error
 use Rattle.text.specs.declared.Line.{Line}
 use Rattle.text.specs.Text.{line_text, written_text}
 use Rattle.text.specs.declared.Line.TheVariants as line
@@ -114,38 +116,38 @@ part_long left n k fits = omega (arith, ap length (part_whole left k) ∙ length
 empty_printed : (room : List ℕ) → lays 0 room ≡ prints [] room
 empty_printed room = ap (λ (l : List ℕ). lays 0 l) (sym (over_nil room))
 
-module _ (h : Handed) (reply room : List ℕ) where
-  pub not_lent_printed : h ≡ handed.NotLent → lays 0 room ≡ prints (report_text h reply) room
+module _ (h : AskAnswer) (reply room : List ℕ) where
+  pub not_lent_printed : h ≡ Err lent_error.NotLent → lays 0 room ≡ prints (report_text h reply) room
   unfolding report_text
-  not_lent_printed is = empty_printed room ∙ ap (λ (x : Handed). prints (report_text x reply) room) (sym is)
+  not_lent_printed is = empty_printed room ∙ ap (λ (x : AskAnswer). prints (report_text x reply) room) (sym is)
 
-  pub wrong_list_printed : h ≡ handed.WrongList → lays 0 room ≡ prints (report_text h reply) room
+  pub wrong_list_printed : h ≡ Err lent_error.WrongList → lays 0 room ≡ prints (report_text h reply) room
   unfolding report_text
-  wrong_list_printed is = empty_printed room ∙ ap (λ (x : Handed). prints (report_text x reply) room) (sym is)
+  wrong_list_printed is = empty_printed room ∙ ap (λ (x : AskAnswer). prints (report_text x reply) room) (sym is)
 
-  pub nothing_printed : h ≡ handed.Nothing → lays 0 room ≡ prints (report_text h reply) room
+  pub nothing_printed : h ≡ Ok None → lays 0 room ≡ prints (report_text h reply) room
   unfolding report_text
-  nothing_printed is = empty_printed room ∙ ap (λ (x : Handed). prints (report_text x reply) room) (sym is)
+  nothing_printed is = empty_printed room ∙ ap (λ (x : AskAnswer). prints (report_text x reply) room) (sym is)
 
   module _ (command a k : ℕ) (left : List ℕ) where
-    pub bad_printed : h ≡ handed.BadCheck command a → lays k left ≡ prints (line_text (line.BadCheck command) ++ frames_text a 0 reply) room
+    pub bad_printed : h ≡ Ok (Some (handed.BadCheck command a)) → lays k left ≡ prints (line_text (line.BadCheck command) ++ frames_text a 0 reply) room
         → lays k left ≡ prints (report_text h reply) room
     unfolding report_text
-    bad_printed is e = e ∙ ap (λ (x : Handed). prints (report_text x reply) room) (sym is)
+    bad_printed is e = e ∙ ap (λ (x : AskAnswer). prints (report_text x reply) room) (sym is)
 
     module _ (count r n : ℕ) (outcome : Outcome) where
-      pub accepted_printed : h ≡ handed.Accepted command count outcome a r → n ≡ Outcome.number_of_outcome outcome
+      pub accepted_printed : h ≡ Ok (Some (handed.Accepted command count outcome a r)) → n ≡ Outcome.number_of_outcome outcome
           → lays k left ≡ prints (line_text (line.Frame command n) ++ frames_text a r reply) room → lays k left ≡ prints (report_text h reply) room
       unfolding report_text
       accepted_printed is is-n e =
-          e ∙ ap (λ (i : ℕ). prints (line_text (line.Frame command i) ++ frames_text a r reply) room) is-n ∙ ap (λ (x : Handed). prints (report_text x reply) room) (sym is)
+          e ∙ ap (λ (i : ℕ). prints (line_text (line.Frame command i) ++ frames_text a r reply) room) is-n ∙ ap (λ (x : AskAnswer). prints (report_text x reply) room) (sym is)
 
-module _ (h : Handed) (command a : ℕ) (is : h ≡ handed.BadCheck command a) (short : acknowledged_by h ≤ acknowledgement_bytes) where
+module _ (h : AskAnswer) (command a : ℕ) (is : h ≡ Ok (Some (handed.BadCheck command a))) (short : acknowledged_by h ≤ acknowledgement_bytes) where
   pub bad_short : a ≤ acknowledgement_bytes
   unfolding acknowledged_by
   bad_short = rw is at short
 
-module _ (h : Handed) (command count a r : ℕ) (outcome : Outcome) (is : h ≡ handed.Accepted command count outcome a r) where
+module _ (h : AskAnswer) (command count a r : ℕ) (outcome : Outcome) (is : h ≡ Ok (Some (handed.Accepted command count outcome a r))) where
   pub accepted_short : acknowledged_by h ≤ acknowledgement_bytes → a ≤ acknowledgement_bytes
   unfolding acknowledged_by
   accepted_short short = rw is at short

@@ -1,9 +1,11 @@
 -- No public promise cites this file: what private functions of the code write and how much of it, for their contracts; no rule of 01 stands here.
+use Rattle.std.specs.Prelude.{None, Some, Ok, Err}
 use Rattle.std.specs.Prelude.{ℕ, ◌+◌, ◌*◌, List, length}
 use Rattle.wire.specs.Room.{over, Laid, lays}
 use Rattle.frame.specs.Frame.{longest_frame}
-use Rattle.panel.specs.declared.Handed.{Handed}
+use Rattle.panel.specs.Answers.{AskAnswer}
 use Rattle.panel.specs.declared.Handed.TheVariants as handed
+use Rattle.panel.specs.declared.LentError.TheVariants as lent_error
 
 -- text laid over the front of a room, and its length
 abbrev pub prints : List ℕ → List ℕ → Laid
@@ -28,16 +30,16 @@ abbrev pub frames_bytes : ℕ
 frames_bytes = written_bytes acknowledgement_bytes + written_bytes longest_frame
 
 -- how long an acknowledgement and a reply were written
-unfoldable pub acknowledged_by : Handed → ℕ
-acknowledged_by handed.NotLent = 0
-acknowledged_by handed.WrongList = 0
-acknowledged_by handed.Nothing = 0
-acknowledged_by (handed.BadCheck command acknowledged) = acknowledged
-acknowledged_by (handed.Accepted command count outcome acknowledged replied) = acknowledged
+unfoldable pub acknowledged_by : AskAnswer → ℕ
+acknowledged_by (Err lent_error.NotLent) = 0
+acknowledged_by (Err lent_error.WrongList) = 0
+acknowledged_by (Ok None) = 0
+acknowledged_by (Ok (Some (handed.BadCheck command acknowledged))) = acknowledged
+acknowledged_by (Ok (Some (handed.Accepted command count outcome acknowledged replied))) = acknowledged
 
-unfoldable pub replied_by : Handed → ℕ
-replied_by handed.NotLent = 0
-replied_by handed.WrongList = 0
-replied_by handed.Nothing = 0
-replied_by (handed.BadCheck command acknowledged) = 0
-replied_by (handed.Accepted command count outcome acknowledged replied) = replied
+unfoldable pub replied_by : AskAnswer → ℕ
+replied_by (Err lent_error.NotLent) = 0
+replied_by (Err lent_error.WrongList) = 0
+replied_by (Ok None) = 0
+replied_by (Ok (Some (handed.BadCheck command acknowledged))) = 0
+replied_by (Ok (Some (handed.Accepted command count outcome acknowledged replied))) = replied

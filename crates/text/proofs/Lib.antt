@@ -1,4 +1,3 @@
-pub mod Numbers
 pub mod Lengths
 pub mod Laying
 pub mod Examples

@@ -18,7 +18,8 @@ use Rattle.touch.specs.Rounding.{rounding_of}
 use Rattle.touch.specs.Record.{up, round, digit_mode, along, first_edge, last_edge}
 use Rattle.touch.specs.Judge.{good_mode, good_step, good_kind}
 use Rattle.touch.specs.Act.{acted_by, acted_of}
-use Rattle.touch.proofs.GoodFields.{left, right, slider_ends}
+use Rattle.wire.proofs.Truths.{and_left, and_right}
+use Rattle.touch.proofs.GoodFields.{slider_ends}
 use Rattle.touch.proofs.Rounding.{rounding_fair}
 
 -- the last three of a step's tests on its ends
@@ -31,9 +32,9 @@ module _ (mode : ℕ) (f : StepFields) (good : good_step mode f ≡ true) where
       let low = good_end mode f.least in
       let high = good_end mode f.greatest in
       let order = le_z (signed f.least) (signed f.greatest) in
-      let to-order : (shape && low && high && order) ≡ true = left (shape && low && high && order) (eqb f.once 1) good in
-      let to_high : (shape && low && high) ≡ true = left (shape && low && high) order to-order in
-      (right shape low (left (shape && low) high to_high), (right (shape && low) high to_high, right (shape && low && high) order to-order))
+      let to-order : (shape && low && high && order) ≡ true = and_left (shape && low && high && order) (eqb f.once 1) good in
+      let to_high : (shape && low && high) ≡ true = and_left (shape && low && high) order to-order in
+      (and_right shape low (and_left (shape && low) high to_high), (and_right (shape && low) high to_high, and_right (shape && low && high) order to-order))
 
 module _ (setup : Setup) (r : Record) (old x y : ℕ) (good : good_kind r r.kind ≡ true) where
   pub step_acts_as_printed : (f : StepFields) → r.kind ≡ Step f → f.least < 65536 → f.greatest < 65536

@@ -7,8 +7,6 @@ pub mod Acts
 pub mod Scale
 pub mod ScaleInstances
 -- the laws that the functions' proofs cite
-pub mod ByCode
-pub mod ByKind
 pub mod TableAnswers
 pub mod Determined
 pub mod Said

@@ -14,9 +14,9 @@ use Rattle.touch.specs.Table.{Found, record_bytes, record_at, ends, records_from
 use Rattle.touch.specs.Find.{holds, found, found_said, point_listed, point_said}
 use Rattle.touch.specs.Judge.{Verdict, wrong, named_wrong, not_records, judged, verdict_said, is_found, number_found, table_listed, table_said}
 
-pub setup_said_lem : (s : Setup) (good : Bool) → good ≡ good_setup s → (good ≡ good_setup s) × (says (number_of_setup good) [] ≡ setup_said s)
+pub setup_said_lem : (s : Setup) (good : Bool) → good ≡ good_setup s → says (number_of_setup good) [] ≡ setup_said s
 unfolding setup_listed first_said
-setup_said_lem s good is = (is, ap (λ (b : Bool). says (number_of_setup b) []) is ∙ go (good_setup s))
+setup_said_lem s good is = ap (λ (b : Bool). says (number_of_setup b) []) is ∙ go (good_setup s)
   where
     go : (b : Bool) → says (number_of_setup b) [] ≡ cond (not b) (says 11 []) (says 0 [])
     go true = refl
@@ -31,9 +31,8 @@ said_as_listed s table = go (not_records table) (first_of (wrong s) 0 (records_o
     go false None = refl
     go false (Some (i, r)) = refl
 
-pub table_said_lem : (s : Setup) (table : List ℕ) (verdict : Verdict) → verdict ≡ judged s table
-    → (verdict ≡ judged s table) × (verdict_said verdict ≡ table_said s table)
-table_said_lem s table verdict is = (is, ap verdict_said is ∙ said_as_listed s table)
+pub table_said_lem : (s : Setup) (table : List ℕ) (verdict : Verdict) → verdict ≡ judged s table → verdict_said verdict ≡ table_said s table
+table_said_lem s table verdict is = ap verdict_said is ∙ said_as_listed s table
 
 -- a point
 module _ (table : List ℕ) (page x y : ℕ) where
@@ -54,6 +53,6 @@ module _ (table : List ℕ) (page x y : ℕ) where
       go false true rest is = rw is
       go false false rest is = rw is rest
 
-  pub point_said_lem : (f : Found) → f ≡ found table page x y → (f ≡ found table page x y) × (found_said f ≡ point_said table page x y)
+  pub point_said_lem : (f : Found) → f ≡ found table page x y → found_said f ≡ point_said table page x y
   unfolding found
-  point_said_lem f is = (is, ap found_said is ∙ point_as_listed 0 (length table / record_bytes))
+  point_said_lem f is = ap found_said is ∙ point_as_listed 0 (length table / record_bytes)

@@ -9,28 +9,24 @@ use crate::{Kind, Point, Record, Setup, SliderFields, records, setups};
 fn slid_at(setup: Setup, r: Record, f: SliderFields, old: u16, point: Point) -> u16
     ensures { result ≡ slid_at (rounding_of setup) r f old point.x point.y }
 {
-    let area = r.area;
-    let first = records::along(r.mode, area.xs, area.ys);
-    let last = records::along(r.mode, area.xe, area.ye);
-    let at = records::along(r.mode, point.x, point.y);
     stores::slider_stores(
         setups::sheet(setup),
         r.mode / 16,
         old,
         f.begin,
         f.end,
-        first,
-        last,
-        at,
+        records::along(r.mode, r.area.xs, r.area.ys),
+        records::along(r.mode, r.area.xe, r.area.ye),
+        records::along(r.mode, point.x, point.y),
     )
 }
 
 // The word at a record's address after the record acted at a point.
+#[tactic(auto, unfolding(crate::specs::Act::acted_of))]
 pub fn acted(setup: Setup, r: Record, old: u16, point: Point) -> u16
     ensures { result ≡ acted_of setup r old point.x point.y }
 {
-    let kind = r.kind;
-    match kind {
+    match r.kind {
         Kind::Key(code) => stores::key_stores(r.mode, old, code),
         Kind::Step(f) => stores::step_stores(
             r.mode,
@@ -47,6 +43,7 @@ pub fn acted(setup: Setup, r: Record, old: u16, point: Point) -> u16
 }
 
 // The word after a record that was caught is dragged to a point, which may lie outside its area. Only a slider stores.
+#[tactic(auto, unfolding(crate::specs::Act::dragged_of))]
 pub fn dragged(setup: Setup, r: Record, old: u16, point: Point) -> u16
     ensures { result ≡ dragged_of setup r old point.x point.y }
 {

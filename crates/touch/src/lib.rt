@@ -33,14 +33,14 @@ pub struct Setup {
 }
 
 // A place on the screen, from its upper left corner.
-#[derive(Clone, Copy)]
+#[derive(Clone, Copy, Debug, PartialEq, Eq)]
 pub struct Point {
     pub x: u16,
     pub y: u16,
 }
 
 // From the first point to the last, edges included.
-#[derive(Clone, Copy)]
+#[derive(Clone, Copy, Debug, PartialEq, Eq)]
 pub struct Area {
     pub xs: u16,
     pub ys: u16,
@@ -86,7 +86,7 @@ pub struct Record {
 }
 
 // Why a table is not good.
-#[derive(Clone, Copy)]
+#[derive(Clone, Copy, Debug, PartialEq, Eq)]
 pub enum TableError {
     NotRecords,
     // The number of the first wrong record, from 0.

@@ -1,21 +1,22 @@
 // How a touch record stands in its bytes, and what can be asked of any record.
-ghost use Rattle.std.specs.Prelude.{◌≡◌, ◌/◌, ◌<◌, length};
+ghost use Rattle.std.specs.Prelude.{◌≡◌, ◌/◌, ◌<◌, Bool, length};
+ghost use Rattle.touch.specs.declared.Record.{Record};
 ghost use Rattle.touch.specs.Record.{area_at, step_fields, slider_fields, kind_of, record_of, no_next, slides, along};
-ghost use Rattle.touch.specs.Table.{record_bytes, record_at};
+ghost use Rattle.touch.specs.Table.{record_bytes, record_at, records_of, first_of};
 
-use crate::{Area, Kind, RECORD_BYTES, Record, SliderFields, StepFields};
+use crate::{Area, END_PAGE, Kind, RECORD_BYTES, Record, SliderFields, StepFields};
 
 // The area whose four numbers stand from a place on.
 #[tactic(auto, unfolding(crate::specs::Record::area_at))]
-fn area_at(bytes: &[u8], at: u8) -> Area
+fn area_at(bytes: &[u8], at: usize) -> Area
+    requires { at < record_bytes }
     ensures { result ≡ area_at bytes.now at }
 {
-    let from = wire::count(at);
     Area {
-        xs: wire::word_at(bytes, from),
-        ys: wire::word_at(bytes, from + 2),
-        xe: wire::word_at(bytes, from + 4),
-        ye: wire::word_at(bytes, from + 6),
+        xs: wire::word_at(bytes, at),
+        ys: wire::word_at(bytes, at + 2),
+        xe: wire::word_at(bytes, at + 4),
+        ye: wire::word_at(bytes, at + 6),
     }
 }
 
@@ -37,28 +38,23 @@ fn step_fields(bytes: &[u8]) -> StepFields
 fn slider_fields(bytes: &[u8]) -> SliderFields
     ensures { result ≡ slider_fields bytes.now }
 {
-    let again = area_at(bytes, 0x14);
     SliderFields {
-        again: again,
+        again: area_at(bytes, 0x14),
         begin: wire::word_at(bytes, 0x1C),
         end: wire::word_at(bytes, 0x1E),
     }
 }
 
+#[tactic(auto, unfolding(crate::specs::Record::kind_of))]
 fn kind_of(bytes: &[u8]) -> Kind
     ensures { result ≡ kind_of bytes.now }
 {
-    let code = wire::word_at(bytes, 0x0E);
-    if code == 0xFE05 {
-        return Kind::Key(wire::word_at(bytes, 0x14));
+    match wire::word_at(bytes, 0x0E) {
+        0xFE05 => Kind::Key(wire::word_at(bytes, 0x14)),
+        0xFE02 => Kind::Step(step_fields(bytes)),
+        0xFE03 => Kind::Slider(slider_fields(bytes)),
+        _ => Kind::Other,
     }
-    if code == 0xFE02 {
-        return Kind::Step(step_fields(bytes));
-    }
-    if code == 0xFE03 {
-        return Kind::Slider(slider_fields(bytes));
-    }
-    Kind::Other
 }
 
 // The record that stands at the front of these bytes; bytes past the end count as 0.
@@ -66,13 +62,11 @@ fn kind_of(bytes: &[u8]) -> Kind
 pub fn record_of(bytes: &[u8]) -> Record
     ensures { result ≡ record_of bytes.now }
 {
-    let area = area_at(bytes, 0x02);
-    let kind = kind_of(bytes);
     Record {
         page: wire::word_at(bytes, 0x00),
-        area: area,
+        area: area_at(bytes, 0x02),
         next: wire::word_at(bytes, 0x0A),
-        kind: kind,
+        kind: kind_of(bytes),
         fe: wire::byte_at(bytes, 0x10),
         word: wire::word_at(bytes, 0x11),
         mode: wire::byte_at(bytes, 0x13),
@@ -80,7 +74,7 @@ pub fn record_of(bytes: &[u8]) -> Record
 }
 
 // The record with this number in a table, from 0.
-pub(crate) fn record_at(table: &[u8], i: usize) -> Record
+fn record_at(table: &[u8], i: usize) -> Record
     requires { i < length table.now / record_bytes }
     ensures { result ≡ record_at table.now i }
 {
@@ -88,24 +82,35 @@ pub(crate) fn record_at(table: &[u8], i: usize) -> Record
     record_of(&table[at..at + RECORD_BYTES])
 }
 
+// The first record before a table's end that a test picks, with its number.
+pub(crate) fn first_of<F: Fn(Record) -> bool>(table: &[u8], picks: F) -> Option<(usize, Record)>
+    requires { F.IsAlwaysCallable picks }
+    ensures { (test : Record → Bool) → ((r : Record) (b : Bool) → F.post picks r b → b ≡ test r) → result ≡ first_of test 0 (records_of table.now) }
+{
+    for i in 0..table.len() / RECORD_BYTES {
+        let r = record_at(table, i);
+        if r.page == END_PAGE {
+            return None;
+        }
+        if picks(r) {
+            return Some((i, r));
+        }
+    }
+    None
+}
+
 // Whether a record leads to no other page.
 pub fn no_next(r: Record) -> bool
     ensures { result ≡ no_next r }
 {
-    r.next / 256 == 0xFF
+    wire::high_byte(r.next) == 0xFF
 }
 
 // Whether a record is caught once it acted.
 pub fn is_slider(r: Record) -> bool
     ensures { result ≡ slides r }
 {
-    let kind = r.kind;
-    match kind {
-        Kind::Key(_) => false,
-        Kind::Step(_) => false,
-        Kind::Slider(_) => true,
-        Kind::Other => false,
-    }
+    matches!(r.kind, Kind::Slider(_))
 }
 
 // Of the numbers across and down, the one of a slider's axis.

@@ -14,13 +14,10 @@ pub fn good_setup(s: Setup) -> bool
     ensures value { result ≡ good_setup s }
     ensures result_value { says (number_of_setup result) [] ≡ setup_said s }
 {
-    (s.flags < FLAG_VALUES)
-        & (1 <= s.pages)
-        & (s.pages <= 65280)
-        & (1 <= s.width)
-        & (s.width <= 1024)
-        & (1 <= s.height)
-        & (s.height <= 768)
+    s.flags < FLAG_VALUES
+        && (1..=65280).contains(&s.pages)
+        && (1..=1024).contains(&s.width)
+        && (1..=768).contains(&s.height)
 }
 
 pub fn checking(s: Setup) -> bool

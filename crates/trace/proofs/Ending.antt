@@ -1,4 +1,5 @@
 -- Laws of the end of the input, and of a new trace.
+use Rattle.std.specs.Prelude.{Ok, Err}
 use mathlib.Core.Path.{◌≡◌, refl, sym, ap, ◌∙◌}
 use mathlib.Core.Bool.{Bool, true, false, cond, ◌&&◌}
 use mathlib.Core.List.{List, []}
@@ -14,8 +15,8 @@ use Rattle.touch.specs.Table.{record_bytes}
 use Rattle.registers.specs.Touched.{page_of}
 use Rattle.panel.specs.declared.Panel.{Panel}
 use Rattle.panel.specs.declared.Start.{Start}
-use Rattle.panel.specs.declared.StartAnswer.{StartAnswer}
-use Rattle.panel.specs.declared.StartAnswer.TheVariants as start
+use Rattle.panel.specs.Answers.{StartAnswer}
+use Rattle.panel.specs.declared.StartError.TheVariants as start_error
 use Rattle.panel.specs.Numbers.{start_number}
 use Rattle.panel.specs.Start.{started}
 use Rattle.text.specs.declared.Line.{Line}
@@ -27,7 +28,7 @@ use Rattle.telling.proofs.Printing.{line_printed}
 use Rattle.items.specs.declared.Stage.{Stage}
 use Rattle.items.specs.declared.Stage.TheVariants.{Bare, Ready, Started, Over}
 use Rattle.trace.specs.declared.Trace.{Trace}
-use Rattle.trace.specs.declared.Answer.TheVariants.{Done, NotLent}
+use Rattle.trace.specs.declared.LentError.TheVariants.{NotLent}
 use Rattle.items.specs.Items.{no_item}
 use Rattle.items.specs.Records.{kept_records, table_bytes, table_of}
 use Rattle.trace.specs.State.{new_trace}
@@ -42,32 +43,32 @@ use Rattle.trace.proofs.Items.{table_part}
 -- ---- The last line of a trace that had a setup
 
 module _ (answer : StartAnswer) (panel : Panel) where
-  pub started_line : (page : ℕ) → answer ≡ start.Started → page ≡ page_of panel.registers → line.End page ≡ last_line answer panel
+  pub started_line : (page : ℕ) → answer ≡ Ok tt → page ≡ page_of panel.registers → line.End page ≡ last_line answer panel
   unfolding last_line
   started_line page is is-page = ap line.End is-page ∙ ap (λ (a : StartAnswer). last_line a panel) (sym is)
 
-  pub setup_line : answer ≡ start.WrongSetup → line.Failed 11 ≡ last_line answer panel
+  pub setup_line : answer ≡ Err start_error.WrongSetup → line.Failed 11 ≡ last_line answer panel
   unfolding last_line
   setup_line is = ap (λ (a : StartAnswer). last_line a panel) (sym is)
 
-  pub table_line : answer ≡ start.NotRecords → line.Failed 12 ≡ last_line answer panel
+  pub table_line : answer ≡ Err start_error.NotRecords → line.Failed 12 ≡ last_line answer panel
   unfolding last_line
   table_line is = ap (λ (a : StartAnswer). last_line a panel) (sym is)
 
-  pub wrong_record_line : (i : ℕ) → answer ≡ start.WrongRecord i → line.WrongRecord i ≡ last_line answer panel
+  pub wrong_record_line : (i : ℕ) → answer ≡ Err (start_error.WrongRecord i) → line.WrongRecord i ≡ last_line answer panel
   unfolding last_line
   wrong_record_line i is = ap (λ (a : StartAnswer). last_line a panel) (sym is)
 
-pub number_below : (answer : StartAnswer) (i : ℕ) → named answer < 256 → answer ≡ start.WrongRecord i → i < 256
+pub number_below : (answer : StartAnswer) (i : ℕ) → named answer < 256 → answer ≡ Err (start_error.WrongRecord i) → i < 256
 unfolding named
 number_below answer i few is = let same : named answer ≡ i = ap named is in omega arith
 
 answered_line : (answer : StartAnswer) (panel : Panel) → end_answered answer panel ≡ line_text (last_line answer panel)
 unfolding end_answered refusal_text start_number last_line
-answered_line start.Started panel = refl
-answered_line start.WrongSetup panel = refl
-answered_line start.NotRecords panel = refl
-answered_line (start.WrongRecord i) panel = refl
+answered_line (Ok tt) panel = refl
+answered_line (Err start_error.WrongSetup) panel = refl
+answered_line (Err start_error.NotRecords) panel = refl
+answered_line (Err (start_error.WrongRecord i)) panel = refl
 
 module _ (trace : Trace) (table : List ℕ) (long : ℕ) (is_long : long ≡ min trace.records kept_records * record_bytes) (begun : Start)
     (is-begun : begun ≡ started_by trace (take (long - 0) table)) where
@@ -146,11 +147,11 @@ module _ (trace : Trace) (table room : List ℕ) (c : Closing) (is_c : c ≡ las
 
 module _ (trace : Trace) (table room : List ℕ) where
   pub lent_ends : (n : ℕ) (left : List ℕ) → (leb table_bytes (length table) && leb least_text (length room)) ≡ true → lays n left ≡ prints (end_text trace table) room
-      → ends (record { answer = Done; count = n }) left ≡ ending trace table room
+      → ends (record { answer = Ok tt; count = n }) left ≡ ending trace table room
   unfolding ending
-  lent_ends n left is e = rw is (ap (λ (l : Laid). ends (record { answer = Done; count = l.count }) l.room) e)
+  lent_ends n left is e = rw is (ap (λ (l : Laid). ends (record { answer = Ok tt; count = l.count }) l.room) e)
 
-  pub not_lent_ends : (leb table_bytes (length table) && leb least_text (length room)) ≡ false → ends (record { answer = NotLent; count = 0 }) room ≡ ending trace table room
+  pub not_lent_ends : (leb table_bytes (length table) && leb least_text (length room)) ≡ false → ends (record { answer = Err NotLent; count = 0 }) room ≡ ending trace table room
   unfolding ending
   not_lent_ends is = rw is
 

@@ -1,4 +1,5 @@
 -- Laws of the start and of an event: one for each way the code answers.
+use Rattle.std.specs.Prelude.{Ok, Err}
 use mathlib.Core.Path.{◌≡◌, refl, sym, ap, ◌∙◌}
 use mathlib.Core.Bool.{Bool, true, false, cond, not}
 use mathlib.Core.List.{List}
@@ -9,16 +10,16 @@ use lib.ListN.{length, take, length-take}
 use Rattle.wire.specs.Room.{over, Laid, lays}
 use Rattle.wire.proofs.Truths.{never}
 use Rattle.touch.specs.declared.Setup.{Setup}
-use Rattle.touch.specs.declared.Verdict.{Verdict}
-use Rattle.touch.specs.declared.Verdict.TheVariants.{Good, NotRecords, Wrong}
+use Rattle.touch.specs.Judge.{Verdict}
+use Rattle.touch.specs.declared.TableError.TheVariants.{NotRecords, Wrong}
 use Rattle.touch.specs.Setup.{good_setup}
 use Rattle.touch.specs.Judge.{judged}
 use Rattle.touch.specs.Table.{record_bytes}
 use Rattle.touch.proofs.Tables.{thirteen_names_first}
 use Rattle.panel.specs.declared.Panel.{Panel}
 use Rattle.panel.specs.declared.Start.{Start}
-use Rattle.panel.specs.declared.StartAnswer.{StartAnswer}
-use Rattle.panel.specs.declared.StartAnswer.TheVariants as start
+use Rattle.panel.specs.Answers.{StartAnswer}
+use Rattle.panel.specs.declared.StartError.TheVariants as start_error
 use Rattle.panel.specs.Numbers.{start_number}
 use Rattle.panel.specs.Start.{start_judged, started}
 use Rattle.text.specs.declared.Line.{Line}
@@ -42,7 +43,7 @@ use Rattle.trace.proofs.Items.{table_part}
 -- ---- The start
 
 module _ (trace : Trace) (part : List ℕ) (b : Bool) (is_b : b ≡ is_started trace.stage) where
-  pub begun_before : b ≡ true → record { answer = start.Started; panel = trace.panel } ≡ started_by trace part
+  pub begun_before : b ≡ true → record { answer = Ok tt; panel = trace.panel } ≡ started_by trace part
   unfolding started_by
   begun_before is = rw (sym is_b ∙ is)
 
@@ -52,9 +53,9 @@ module _ (trace : Trace) (part : List ℕ) (b : Bool) (is_b : b ≡ is_started t
 
 judged_below : (setup : Setup) (part : List ℕ) → length part ≤ table_bytes → (v : Verdict) → judged setup part ≡ v → named (start_judged v setup).answer < 256
 unfolding named start_judged
-judged_below setup part short Good e = omega arith
-judged_below setup part short NotRecords e = omega arith
-judged_below setup part short (Wrong i) e = omega (arith, (thirteen_names_first setup part i e).1.0)
+judged_below setup part short (Ok tt) e = omega arith
+judged_below setup part short (Err NotRecords) e = omega arith
+judged_below setup part short (Err (Wrong i)) e = omega (arith, (thirteen_names_first setup part i e).1.0)
 
 either_below : (b : Bool) (p q : Start) → named p.answer < 256 → named q.answer < 256 → named (cond b p q).answer < 256
 either_below true p q hp hq = hp
@@ -73,18 +74,18 @@ begun_below trace part short = either_below (is_started trace.stage) _ _ (omega 
 begun_shows : (answer : StartAnswer) (panel : Panel) (held : Held) (item : List ℕ) → is_begun answer ≡ true
     → event_answered answer panel held item ≡ shows_told held (event panel (met_table held) held.memory item)
 unfolding event_answered
-begun_shows start.Started panel held item is = refl
-begun_shows start.WrongSetup panel held item is = never (cc)
-begun_shows start.NotRecords panel held item is = never (cc)
-begun_shows (start.WrongRecord i) panel held item is = never (cc)
+begun_shows (Ok tt) panel held item is = refl
+begun_shows (Err start_error.WrongSetup) panel held item is = never (cc)
+begun_shows (Err start_error.NotRecords) panel held item is = never (cc)
+begun_shows (Err (start_error.WrongRecord i)) panel held item is = never (cc)
 
 refused_shows : (answer : StartAnswer) (panel : Panel) (held : Held) (item : List ℕ) → is_begun answer ≡ false
     → event_answered answer panel held item ≡ fails held (line_text (last_line answer panel))
 unfolding event_answered refusal_text start_number last_line
-refused_shows start.Started panel held item is = never (cc)
-refused_shows start.WrongSetup panel held item is = refl
-refused_shows start.NotRecords panel held item is = refl
-refused_shows (start.WrongRecord i) panel held item is = refl
+refused_shows (Ok tt) panel held item is = never (cc)
+refused_shows (Err start_error.WrongSetup) panel held item is = refl
+refused_shows (Err start_error.NotRecords) panel held item is = refl
+refused_shows (Err (start_error.WrongRecord i)) panel held item is = refl
 
 pub started_left : (trace : Trace) (told : Told) (panel : Panel) (done : PanelPrinted) (memory memory' : Memory) (room left : List ℕ) (r : TracePrinted) → least_text ≤ length room
     → leaves_panel done memory' left ≡ printed_in told panel memory room → r ≡ after_told trace done → leaves_event r memory' left ≡ event_printing trace told room

@@ -1,4 +1,5 @@
 -- What a step and the end are answered says the number that 01 gives.
+use Rattle.std.specs.Prelude.{Ok, Err}
 use mathlib.Core.Path.{◌≡◌, refl, ap, ◌∙◌}
 use mathlib.Core.Bool.{Bool, true, false, cond, not, ◌&&◌}
 use mathlib.Core.List.{List, [], ◌∷◌}
@@ -12,7 +13,7 @@ use Rattle.telling.specs.Told.{least_text}
 use Rattle.trace.specs.declared.Trace.{Trace}
 use Rattle.trace.specs.declared.Stepped.{Stepped}
 use Rattle.trace.specs.declared.Ended.{Ended}
-use Rattle.trace.specs.declared.Answer.TheVariants.{Done, NotLent}
+use Rattle.trace.specs.declared.LentError.TheVariants.{NotLent}
 use Rattle.items.specs.Records.{table_bytes}
 use Rattle.trace.specs.State.{Held, is_lent}
 use Rattle.trace.specs.Steps.{number_of_step, step_said, said_of_step, Step, step, Stepping, steps, step_done, stepping}
@@ -26,7 +27,7 @@ unfolding stepping said_of_step step_said number_of_step first_said
 step_as_listed held input room = go (is_lent held room) (step held input)
   where
     go : (lent : Bool) (s : Step)
-        → said_by (cond lent (step_done s room) (steps (record { answer = NotLent; used = 0; count = 0; trace = held.trace }) held.table held.memory room))
+        → said_by (cond lent (step_done s room) (steps (record { answer = Err NotLent; used = 0; count = 0; trace = held.trace }) held.table held.memory room))
         ≡ cond (not lent) (says 14 []) (says 0 (s.used ∷ length s.shown.text ∷ []))
     go true s = refl
     go false s = refl
@@ -40,7 +41,7 @@ unfolding ending said_of_end end_said number_of_step first_said
 end_as_listed trace table room = go (leb table_bytes (length table) && leb least_text (length room)) (end_text trace table)
   where
     ended : Bool → List ℕ → Ended
-    ended lent text = (cond lent (ends (record { answer = Done; count = length text }) (over text room)) (ends (record { answer = NotLent; count = 0 }) room)).ended
+    ended lent text = (cond lent (ends (record { answer = Ok tt; count = length text }) (over text room)) (ends (record { answer = Err NotLent; count = 0 }) room)).ended
 
     go : (lent : Bool) (text : List ℕ) → end_said (ended lent text).answer (ended lent text).count ≡ cond (not lent) (says 14 []) (says 0 (length text ∷ []))
     go true text = refl

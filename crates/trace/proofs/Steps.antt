@@ -1,4 +1,5 @@
 -- Laws of a step: what it finds at the front of the input, and what that leaves.
+use Rattle.std.specs.Prelude.{Ok, Err}
 use mathlib.Core.Path.{◌≡◌, refl, sym, ap, ◌∙◌}
 use mathlib.Core.Bool.{Bool, true, false, cond, ◌&&◌}
 use mathlib.Core.List.{List, [], ◌∷◌}
@@ -21,7 +22,7 @@ use Rattle.telling.specs.Events.{asked_once}
 use Rattle.trace.specs.declared.Trace.{Trace}
 use Rattle.trace.specs.declared.TracePrinted.{TracePrinted}
 use Rattle.trace.specs.declared.Took.{Took}
-use Rattle.trace.specs.declared.Answer.TheVariants.{Done, NotLent}
+use Rattle.trace.specs.declared.LentError.TheVariants.{NotLent}
 use Rattle.trace.specs.declared.AtFront.{AtFront}
 use Rattle.trace.specs.declared.AtFront.TheVariants.{Waits, Ran, First}
 use Rattle.trace.specs.declared.Found.{Found}
@@ -157,17 +158,17 @@ lent_judged table words curves room = refl
 module _ (trace : Trace) (table : List ℕ) (memory : Memory) (room input : List ℕ) (l : Bool) (is-l : l ≡ is_lent (holds trace table memory) room) where
   pub lent_steps : (f : Found) (took : Took) (table' : List ℕ) (memory' : Memory) (left : List ℕ) → l ≡ true → f ≡ found trace input
       → leaves_step took table' memory' left ≡ step_printing (found_step table memory f) room
-      → steps (record { answer = Done; used = took.used; count = took.count; trace = took.trace }) table' memory' left
+      → steps (record { answer = Ok tt; used = took.used; count = took.count; trace = took.trace }) table' memory' left
       ≡ stepping (holds trace table memory) input room
   unfolding stepping
   lent_steps f took table' memory' left is is_f e =
       let is_step : found_step table memory f ≡ step (holds trace table memory) input = ap (λ (g : Found). found_step table memory g) is_f ∙ sym (step_taken table memory trace input) in
       rw (sym is-l ∙ is)
-      (ap (λ (s : StepLeft). steps (record { answer = Done; used = s.took.used; count = s.took.count; trace = s.took.trace }) s.table s.memory s.room)
+      (ap (λ (s : StepLeft). steps (record { answer = Ok tt; used = s.took.used; count = s.took.count; trace = s.took.trace }) s.table s.memory s.room)
       (e ∙ ap (λ (s : Step). step_printing s room) is_step))
 
   pub not_lent_steps : l ≡ false
-      → steps (record { answer = NotLent; used = 0; count = 0; trace = trace }) table memory room ≡ stepping (holds trace table memory) input room
+      → steps (record { answer = Err NotLent; used = 0; count = 0; trace = trace }) table memory room ≡ stepping (holds trace table memory) input room
   unfolding stepping
   not_lent_steps is = rw (sym is-l ∙ is)
 

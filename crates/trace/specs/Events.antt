@@ -1,12 +1,13 @@
 -- 01, "The trace program": what an item does that has come whole.
+use Rattle.std.specs.Prelude.{Ok, Err}
 use Rattle.std.specs.Prelude.{ℕ, ◌+◌, ◌*◌, cond, not, ◌&&◌, List, [], eqb, ltb, leb, drop, set}
 use Rattle.wire.specs.ByteOrder.{byte_at}
 use Rattle.wire.specs.Room.{laid_at}
 use Rattle.touch.specs.Table.{record_bytes}
 use Rattle.panel.specs.declared.Panel.{Panel}
 use Rattle.panel.specs.declared.Start.{Start}
-use Rattle.panel.specs.declared.StartAnswer.{StartAnswer}
-use Rattle.panel.specs.declared.StartAnswer.TheVariants as start
+use Rattle.panel.specs.Answers.{StartAnswer}
+use Rattle.panel.specs.declared.StartError.TheVariants as start_error
 use Rattle.panel.specs.Start.{started}
 use Rattle.telling.specs.Events.{event, asked_once}
 use Rattle.trace.specs.declared.Trace.{Trace}
@@ -18,14 +19,14 @@ use Rattle.trace.specs.Lines.{refusal_text, wrong_text}
 
 -- "Start is made at the first whole event or, without one, at the end of input"; `part` is the table of the records met
 unfoldable pub started_by : Trace → List ℕ → Start
-started_by trace part = cond (is_started trace.stage) (record { answer = start.Started; panel = trace.panel }) (started trace.setup part)
+started_by trace part = cond (is_started trace.stage) (record { answer = Ok tt; panel = trace.panel }) (started trace.setup part)
 
 -- "`X n` instead, where start .. fails .. and the program stops"
 unfoldable pub event_answered : StartAnswer → Panel → Held → List ℕ → Shown
-event_answered start.Started panel held item = shows_told held (event panel (met_table held) held.memory item)
-event_answered start.WrongSetup panel held item = fails held (refusal_text start.WrongSetup)
-event_answered start.NotRecords panel held item = fails held (refusal_text start.NotRecords)
-event_answered (start.WrongRecord i) panel held item = fails held (refusal_text (start.WrongRecord i))
+event_answered (Ok tt) panel held item = shows_told held (event panel (met_table held) held.memory item)
+event_answered (Err start_error.WrongSetup) panel held item = fails held (refusal_text (Err start_error.WrongSetup))
+event_answered (Err start_error.NotRecords) panel held item = fails held (refusal_text (Err start_error.NotRecords))
+event_answered (Err (start_error.WrongRecord i)) panel held item = fails held (refusal_text (Err (start_error.WrongRecord i)))
 
 -- "Start is made at the first whole event": an event that has come whole
 unfoldable pub event_done : Held → List ℕ → Shown

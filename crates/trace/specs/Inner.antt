@@ -1,11 +1,12 @@
 -- No public promise cites this file: what private functions of the code leave, for their contracts. Text is laid over the room that is lent for it.
+use Rattle.std.specs.Prelude.{Ok, Err}
 use Rattle.std.specs.Prelude.{ℕ, ◌+◌, Bool, true, false, cond, not, ◌&&◌, List, [], ◌∷◌, eqb, leb, length, set}
 use Rattle.wire.specs.ByteOrder.{byte_at}
 use Rattle.wire.specs.Room.{over}
 use Rattle.registers.specs.Touched.{page_of}
 use Rattle.panel.specs.declared.Panel.{Panel}
-use Rattle.panel.specs.declared.StartAnswer.{StartAnswer}
-use Rattle.panel.specs.declared.StartAnswer.TheVariants as start
+use Rattle.panel.specs.Answers.{StartAnswer}
+use Rattle.panel.specs.declared.StartError.TheVariants as start_error
 use Rattle.text.specs.declared.Line.{Line}
 use Rattle.text.specs.declared.Line.TheVariants as line
 use Rattle.telling.specs.Memory.{Memory}
@@ -87,24 +88,24 @@ quietly trace = record { trace = trace; count = 0 }
 -- ---- The start
 
 abbrev pub is_begun : StartAnswer → Bool
-is_begun start.Started = true
-is_begun start.WrongSetup = false
-is_begun start.NotRecords = false
-is_begun (start.WrongRecord i) = false
+is_begun (Ok tt) = true
+is_begun (Err start_error.WrongSetup) = false
+is_begun (Err start_error.NotRecords) = false
+is_begun (Err (start_error.WrongRecord i)) = false
 
 -- the record that a start names, 0 where it names none
 unfoldable pub named : StartAnswer → ℕ
-named start.Started = 0
-named start.WrongSetup = 0
-named start.NotRecords = 0
-named (start.WrongRecord i) = i
+named (Ok tt) = 0
+named (Err start_error.WrongSetup) = 0
+named (Err start_error.NotRecords) = 0
+named (Err (start_error.WrongRecord i)) = i
 
 -- the last line of a trace whose start is answered so
 unfoldable pub last_line : StartAnswer → Panel → Line
-last_line start.Started panel = line.End (page_of panel.registers)
-last_line start.WrongSetup panel = line.Failed 11
-last_line start.NotRecords panel = line.Failed 12
-last_line (start.WrongRecord i) panel = line.WrongRecord i
+last_line (Ok tt) panel = line.End (page_of panel.registers)
+last_line (Err start_error.WrongSetup) panel = line.Failed 11
+last_line (Err start_error.NotRecords) panel = line.Failed 12
+last_line (Err (start_error.WrongRecord i)) panel = line.WrongRecord i
 
 -- what a step took that printed this
 abbrev pub taking_so : TracePrinted → (used : ℕ) → Took

@@ -1,12 +1,14 @@
 -- What the trace program prints for an input.
+use Rattle.std.specs.Prelude.{Result, Ok, Err}
+use Rattle.trace.specs.declared.LentError.{LentError}
 use Rattle.std.specs.Prelude.{ℕ, zero, suc, cond, not, ◌&&◌, List, [], ◌∷◌, ◌++◌, eqb, leb, length, replicate}
 use Rattle.wire.specs.Numbers.{Said, says, ◌when◌, first_said}
 use Rattle.wire.specs.Room.{over}
 use Rattle.frame.specs.Frame.{longest_frame}
 use Rattle.registers.specs.Touched.{page_of}
 use Rattle.panel.specs.declared.Panel.{Panel}
-use Rattle.panel.specs.declared.StartAnswer.{StartAnswer}
-use Rattle.panel.specs.declared.StartAnswer.TheVariants as start
+use Rattle.panel.specs.Answers.{StartAnswer}
+use Rattle.panel.specs.declared.StartError.TheVariants as start_error
 use Rattle.text.specs.declared.Line.TheVariants as line
 use Rattle.text.specs.Text.{line_text}
 use Rattle.telling.specs.Memory.{new_memory}
@@ -15,8 +17,7 @@ use Rattle.items.specs.declared.Stage.{Stage}
 use Rattle.items.specs.declared.Stage.TheVariants.{Bare, Ready, Started, Over}
 use Rattle.trace.specs.declared.Trace.{Trace}
 use Rattle.trace.specs.declared.Ended.{Ended}
-use Rattle.trace.specs.declared.Answer.{Answer}
-use Rattle.trace.specs.declared.Answer.TheVariants.{Done, NotLent}
+use Rattle.trace.specs.declared.LentError.TheVariants.{NotLent}
 use Rattle.items.specs.Records.{table_bytes, table_of}
 use Rattle.trace.specs.State.{Held, holds, Shown, shows, following, new_trace, waits}
 use Rattle.trace.specs.Lines.{refusal_text, wrong_text}
@@ -32,10 +33,10 @@ all_reports (suc n) held =
 
 -- "at the end `E pppp` the page"; "`X n` instead, where start .. fails"
 unfoldable pub end_answered : StartAnswer → Panel → List ℕ
-end_answered start.Started panel = line_text (line.End (page_of panel.registers))
-end_answered start.WrongSetup panel = refusal_text start.WrongSetup
-end_answered start.NotRecords panel = refusal_text start.NotRecords
-end_answered (start.WrongRecord i) panel = refusal_text (start.WrongRecord i)
+end_answered (Ok tt) panel = line_text (line.End (page_of panel.registers))
+end_answered (Err start_error.WrongSetup) panel = refusal_text (Err start_error.WrongSetup)
+end_answered (Err start_error.NotRecords) panel = refusal_text (Err start_error.NotRecords)
+end_answered (Err (start_error.WrongRecord i)) panel = refusal_text (Err (start_error.WrongRecord i))
 
 -- "Start is made at the first whole event or, without one, at the end of input": the end of an input that may end there
 unfoldable pub end_started : Trace → List ℕ → List ℕ
@@ -67,13 +68,13 @@ ends ended room = record { ended = ended; room = room }
 unfoldable pub ending : Trace → List ℕ → List ℕ → Ending
 ending trace table room =
     let text = end_text trace table in
-    cond (leb table_bytes (length table) && leb least_text (length room)) (ends (record { answer = Done; count = length text }) (over text room))
-    (ends (record { answer = NotLent; count = 0 }) room)
+    cond (leb table_bytes (length table) && leb least_text (length room)) (ends (record { answer = Ok tt; count = length text }) (over text room))
+    (ends (record { answer = Err NotLent; count = 0 }) room)
 
 -- "0: done", "14: words lent aren't 28,672 ..": the number of what the end answers, and beside 0 how many bytes of text were written
-unfoldable pub end_said : Answer → (count : ℕ) → Said
-end_said Done count = says (number_of_step Done) (count ∷ [])
-end_said NotLent count = says (number_of_step NotLent) []
+unfoldable pub end_said : Result Unit LentError → (count : ℕ) → Said
+end_said (Ok tt) count = says (number_of_step (Ok tt)) (count ∷ [])
+end_said (Err NotLent) count = says (number_of_step (Err NotLent)) []
 
 -- "The first number in order whose condition holds is given", 14 or else 0: of the end of the input
 unfoldable pub said_of_end : Trace → List ℕ → List ℕ → Said

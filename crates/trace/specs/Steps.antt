@@ -1,4 +1,6 @@
 -- What one step of the library does, on every trace: it hands over one report, or takes a run of line bytes, or takes one byte.
+use Rattle.std.specs.Prelude.{Result, Ok, Err}
+use Rattle.trace.specs.declared.LentError.{LentError}
 use Rattle.std.specs.Prelude.{ℕ, ◌*◌, cond, not, ◌&&◌, List, [], ◌∷◌, eqb, length}
 use Rattle.wire.specs.Numbers.{Said, says, ◌when◌, first_said}
 use Rattle.wire.specs.Room.{over}
@@ -6,8 +8,7 @@ use Rattle.panel.specs.Inputs.{fed_bytes}
 use Rattle.items.specs.Runs.{line_run}
 use Rattle.telling.specs.Memory.{Memory}
 use Rattle.trace.specs.declared.Trace.{Trace}
-use Rattle.trace.specs.declared.Answer.{Answer}
-use Rattle.trace.specs.declared.Answer.TheVariants.{Done, NotLent}
+use Rattle.trace.specs.declared.LentError.TheVariants.{NotLent}
 use Rattle.trace.specs.declared.Stepped.{Stepped}
 use Rattle.trace.specs.declared.Took.{Took}
 use Rattle.items.specs.Stages.{is_started}
@@ -16,14 +17,14 @@ use Rattle.trace.specs.Events.{took_byte, report_shown}
 
 -- "0: done"; "14: words lent aren't 28,672"; 02, §2: "14 also for a curve area of the wrong length"; and the same number where the table or the room for text
 -- is too small, of which neither speaks
-unfoldable pub number_of_step : Answer → ℕ
-number_of_step Done = 0
-number_of_step NotLent = 14
+unfoldable pub number_of_step : Result Unit LentError → ℕ
+number_of_step (Ok tt) = 0
+number_of_step (Err NotLent) = 14
 
 -- and what is named beside it: how much of the input was taken, and how many bytes of text were written
-unfoldable pub step_said : Answer → (used count : ℕ) → Said
-step_said Done used count = says (number_of_step Done) (used ∷ count ∷ [])
-step_said NotLent used count = says (number_of_step NotLent) []
+unfoldable pub step_said : Result Unit LentError → (used count : ℕ) → Said
+step_said (Ok tt) used count = says (number_of_step (Ok tt)) (used ∷ count ∷ [])
+step_said (Err NotLent) used count = says (number_of_step (Err NotLent)) []
 
 -- how much of the input a step took, and what it shows
 pub record Step : Type 0 where
@@ -80,14 +81,14 @@ abbrev pub step_done : Step → List ℕ → Stepping
 step_done s room =
     let shown = s.shown in
     steps
-    (record { answer = Done; used = s.used; count = length shown.text; trace = shown.held.trace })
+    (record { answer = Ok tt; used = s.used; count = length shown.text; trace = shown.held.trace })
     shown.held.table shown.held.memory (over shown.text room)
 
 -- "otherwise a refusal changes nothing"
 unfoldable pub stepping : Held → List ℕ → List ℕ → Stepping
 stepping held input room =
     cond (is_lent held room) (step_done (step held input) room)
-    (steps (record { answer = NotLent; used = 0; count = 0; trace = held.trace }) held.table held.memory room)
+    (steps (record { answer = Err NotLent; used = 0; count = 0; trace = held.trace }) held.table held.memory room)
 
 -- "14: words lent aren't 28,672, or reply .. room below 265"; 02, §2: "14 also for a curve area of the wrong length"; the table and the lines of a report are
 -- lent here too

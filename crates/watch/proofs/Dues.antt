@@ -1,6 +1,6 @@
 -- Laws of `is_due` and `due_entries`: which entries are due, and what a line write and a sending leave of them.
 use mathlib.Core.Path.{◌≡◌, refl, sym, ap, ◌∙◌}
-use mathlib.Core.Bool.{Bool, true, false, not, cond, ◌&&◌}
+use mathlib.Core.Bool.{Bool, true, false, not, cond}
 use mathlib.Core.List.{List, [], ◌∷◌}
 use mathlib.Core.Logic.{◌≢◌}
 use Prim.Native.Nat.{ℕ, zero, suc, ◌+◌, ◌≤◌, ◌<◌}
@@ -10,6 +10,7 @@ use lib.Dec.{eqb}
 use lib.ListN.{length, get_or}
 use lib.Seq.{get_or-set_same, get_or-set_other}
 use Rattle.std.specs.Prelude.{None}
+use Rattle.wire.proofs.Over.{right_false}
 use Rattle.wire.proofs.Truths.{never, and_left, and_right}
 use Rattle.words.specs.Words.{word_at_address}
 use Rattle.watch.specs.Watched.{Watched, with_values, entry_count, address_at, used_at, sent_at}
@@ -17,10 +18,6 @@ use Rattle.watch.specs.Noting.{in_run, is_noted, noted}
 use Rattle.watch.specs.Sending.{is_due, sends, sent, sending_from, sending, due_from, due_entries}
 use Rattle.watch.proofs.Noted.{noted_at, unnoted_stays}
 use Rattle.watch.proofs.Sent.{Sends, none_due, first_due, sends_ways}
-
-and_false : (a b : Bool) → b ≡ false → (a && b) ≡ false
-and_false true b is = is
-and_false false b is = refl
 
 module _ (words : List ℕ) (w : Watched) (i : ℕ) where
   -- the second half of `is_due`
@@ -43,7 +40,7 @@ module _ (words : List ℕ) (w : Watched) (i : ℕ) where
 
   pub same_not_due : word_at_address words (address_at w.addresses i) ≡ sent_at w.values i → is_due words w i ≡ false
   unfolding is_due differs
-  same_not_due same = and_false (used_at w.uses i) differs (ap not (eq-eqb _ _ same))
+  same_not_due same = right_false (used_at w.uses i) differs (ap not (eq-eqb _ _ same))
 
   -- with the same word and the same value an entry is due as it was
   pub due_as_before : (old values : List ℕ)

@@ -57,7 +57,7 @@ pub fn low_byte(w: u16) -> u8
 pub fn word(high: u8, low: u8) -> u16
     ensures { result ≡ word high low }
 {
-    wide(high) * 256 + wide(low)
+    u16::from_be_bytes([high, low])
 }
 
 // The byte at a place; past the end, 0.
@@ -71,9 +71,8 @@ pub fn byte_at(bytes: &[u8], at: usize) -> u8
 pub fn word_at(bytes: &[u8], at: usize) -> u16
     ensures { result ≡ word_at bytes.now at }
 {
-    if at < bytes.len() {
-        word(bytes[at], byte_at(bytes, at + 1))
-    } else {
-        0
+    match bytes.get(at) {
+        Some(high) => word(*high, byte_at(bytes, at + 1)),
+        None => 0,
     }
 }

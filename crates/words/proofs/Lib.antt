@@ -3,4 +3,3 @@ pub mod Carried
 pub mod Loops
 pub mod Written
 pub mod Determined
-pub mod Ends

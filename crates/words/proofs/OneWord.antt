@@ -1,29 +1,13 @@
 -- Laws of one word at its address.
-use mathlib.Core.Path.{◌≡◌, refl, sym}
+use mathlib.Core.Path.{◌≡◌}
 use mathlib.Core.Logic.{◌≢◌}
 use mathlib.Core.List.{List}
-use Prim.Native.Nat.{ℕ, ◌≤◌, ◌<◌}
-use lib.ListN.{length, get_or, set, length-set, get_or-eq_default}
-use lib.Seq.{set_out, get_or-set_same, get_or-set_other}
+use Prim.Native.Nat.{ℕ, ◌<◌}
+use lib.ListN.{length, length-set}
+use lib.Seq.{get_or-set_same, get_or-set_other}
 use Rattle.words.specs.Words.{word_at_address, word_set}
 
 module _ (words : List ℕ) (address : ℕ) where
-  pub read_word : get_or words address 0 ≡ word_at_address words address
-  unfolding word_at_address
-  read_word = refl
-
-  pub no_word : length words ≤ address → 0 ≡ word_at_address words address
-  unfolding word_at_address
-  no_word past = sym (get_or-eq_default words 0 past)
-
-  pub stored_word : (word : ℕ) → set words address word ≡ word_set words address word
-  unfolding word_set
-  stored_word word = refl
-
-  pub not_stored_word : (word : ℕ) → length words ≤ address → words ≡ word_set words address word
-  unfolding word_set
-  not_stored_word word past = sym (set_out words address word past)
-
   -- what was stored is read back, and no other word changes
   pub word_read_back : (word : ℕ) → address < length words → word_at_address (word_set words address word) address ≡ word
   unfolding word_at_address word_set

@@ -7,8 +7,7 @@ use lib.ListN.{length}
 use Rattle.std.specs.List.{fold}
 use Rattle.std.specs.Simd.{first_chunks}
 use Rattle.check_value.specs.CheckValue.{byte_step}
-use Rattle.check_value.specs.Inner.{pair_step}
-use Rattle.check_value.proofs.ReadingOn.{by_pairs}
+use Rattle.check_value.proofs.ReadingOn.{pair_step, by_pairs}
 use Rattle.check_value.proofs.check_from.Goals as goal
 
 pub returns : goal.returns

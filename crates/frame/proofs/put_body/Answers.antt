@@ -11,5 +11,5 @@ returns c =
     let a = c.args in
     let content : List ℕ = a.command ∷ a.payload.now in (
       c.put_check.ensures.0,
-      content_checked a.checking (1 + length a.payload.now) content a.body.now _ _ (omega arith) (command_laid a.command a.payload.now a.body.now _ _ c.put_first.ensures c.copy_from_slice.ensures.after) c.put_check.ensures.1,
+      content_checked a.checking (1 + length a.payload.now) content a.body.now _ _ (omega arith) (command_laid a.command a.payload.now a.body.now _ (omega arith) c.copy_from_slice.ensures.after) c.put_check.ensures.1,
     )

@@ -1,18 +1,15 @@
 -- `frame::put_check` meets its contract.
-use Rattle.frame.proofs.Prefix.{front_length, check_first, check_second, check_count, check_laid, none_count, none_laid}
+use native.Mathlib.Omega.{arith}
+use Rattle.frame.proofs.Prefix.{check_room, check_count, check_laid, none_count, none_laid}
 use Rattle.frame.proofs.put_check.Goals as goal
 
-pub slice_bounds-check_value-end-then-checking : goal.slice_bounds-check_value-end-then-checking
-slice_bounds-check_value-end-then-checking c = search front_length
+pub returns-then-not-checking : goal.returns-then-not-checking
+returns-then-not-checking c = search (none_count, none_laid)
 
-pub bounds-body-n : goal.bounds-body-n
-bounds-body-n c = search check_first
+pub slice_bounds-copy_from_slice-end : goal.slice_bounds-copy_from_slice-end
+slice_bounds-copy_from_slice-end c =
+    let room = check_room c.args.checking c.args.n _ c.if-not-checking.false c.requires in
+    omega arith
 
-pub bounds-body-n-then-checking : goal.bounds-body-n-then-checking
-bounds-body-n-then-checking c = search check_second
-
-pub returns-then-checking : goal.returns-then-checking
-returns-then-checking c = search (check_count, check_laid)
-
-pub returns-else-checking : goal.returns-else-checking
-returns-else-checking c = search (none_count, none_laid)
+pub returns : goal.returns
+returns c = search (check_count, check_laid)

@@ -10,7 +10,7 @@ pub returns : goal.returns
 returns c = let a = c.args in
     let prefix = c.put_prefix in
     let header = c.length-k in
-    let body = c.put_body-m in
+    let body = c.put_body in
     let content : List ℕ = a.command ∷ a.payload.now in (
       omega (arith, length_enclosed a.checking (header_bytes a.header) a.l content, header.ensures.value, body.ensures.0),
       enclosed_laid a.checking (header_bytes a.header) a.l header.result content a.room.now _ _ header.ensures.value prefix.ensures body.ensures.1,

@@ -2,11 +2,11 @@
 use Rattle.place.proofs.Places.{places}
 use Rattle.place.proofs.after_first.Goals as goal
 
-pub returns-then-s-eq0 : goal.returns-then-s-eq0
-returns-then-s-eq0 c = search places
+pub returns-in-empty : goal.returns-in-empty
+returns-in-empty c = search places
 
-pub returns-then-s-h2 : goal.returns-then-s-h2
-returns-then-s-h2 c = search places
+pub returns-in-len1-up : goal.returns-in-len1-up
+returns-in-len1-up c = search places
 
-pub returns-else-s-h2 : goal.returns-else-s-h2
-returns-else-s-h2 c = search places
+pub returns-in_default : goal.returns-in_default
+returns-in_default c = search places

@@ -1,14 +1,12 @@
 -- `words::store_run` meets its contract.
-use borrow.Author.Rules.{rules}
-use lib.Seq.{paste-zero}
-use Rattle.words.proofs.Loops.{stored_more, stored_all}
+use native.Mathlib.Omega.{arith}
+use Rattle.std.proofs.lemmas.List.{ext_get_or}
+use Rattle.words.proofs.Carried.{length_words_of}
+use Rattle.words.proofs.Loops.{stored_more}
 use Rattle.words.proofs.store_run.Goals as goal
 
-pub loop-i-init : goal.loop-i-init
-loop-i-init c = (search rules, search rules, search paste-zero)
-
 pub loop-i-preserved : goal.loop-i-preserved
-loop-i-preserved c = (search rules, search rules, search stored_more)
+loop-i-preserved c = stored_more _ _ _ _ c.loop-i.invariant (omega arith) (omega arith) c.word.ensures
 
 pub returns : goal.returns
-returns c = search stored_all
+returns c = ext_get_or 0 _ _ (omega (arith, length_words_of c.args.bytes.now)) (λ k inside. c.loop-i.invariant k (omega arith))

@@ -4,8 +4,8 @@ use Rattle.line.proofs.Asking.{frame_held, held_fits}
 use borrow.Author.Rules.{rules}
 use Rattle.line.proofs.ask.hand_over.Goals as goal
 
-pub returns-then-k-n : goal.returns-then-k-n
-returns-then-k-n c = search nothing_handed_asked
+pub returns-then-k-reader : goal.returns-then-k-reader
+returns-then-k-reader c = search nothing_handed_asked
 
 pub hand_report-requires : goal.hand_report-requires
 hand_report-requires c = (search rules, search frame_held, search held_fits, search rules, search rules)

@@ -14,7 +14,7 @@ pub loop-i-init : goal.loop-i-init
 loop-i-init c = (search rules, search rules, search rules, search rules, search rules, search blind_nothing, search fed_start)
 
 pub take_block-k-requires : goal.take_block-k-requires
-take_block-k-requires c = (search rules, search rules, search some_left, search rules, search rules)
+take_block-k-requires c = (search rules, search rules, search some_left, (search rules, search rules, search rules))
 
 pub loop-i-smaller-then-n-need : goal.loop-i-smaller-then-n-need
 loop-i-smaller-then-n-need c = search block_less
@@ -52,7 +52,7 @@ pub loop-i-preserved-then-n-b : goal.loop-i-preserved-then-n-b
 loop-i-preserved-then-n-b c = (search noise_inside, search rules, search rules, search rules, search rules, search rules, search fed_noise)
 
 pub take_byte-step-requires : goal.take_byte-step-requires
-take_byte-step-requires c = (search room_left, search rules, search rules)
+take_byte-step-requires c = (search room_left, (search rules, search rules, search rules))
 
 pub loop-i-smaller : goal.loop-i-smaller
 loop-i-smaller c = search turn_less

@@ -7,4 +7,4 @@ pub returns-then-k-lt16 : goal.returns-then-k-lt16
 returns-then-k-lt16 c = (search rules, search rules, search rules, search byte_behind)
 
 pub returns : goal.returns
-returns c = (search rules, search rules, search rules, search block_laid)
+returns c = (search rules, search rules, search rules, search (rules, block_laid))

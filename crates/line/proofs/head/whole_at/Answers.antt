@@ -4,9 +4,6 @@ use native.Mathlib.Omega.{arith}
 use borrow.Author.Rules.{rules}
 use Rattle.line.proofs.head.whole_at.Goals as goal
 
-pub overflow_cast-result : goal.overflow_cast-result
-overflow_cast-result c = omega (arith, c.type_inv.s c.length-h.result)
-
 pub overflow_add-result-then-h-s : goal.overflow_add-result-then-h-s
 overflow_add-result-then-h-s c = omega (arith, c.type_inv.s c.length-h.result)
 

@@ -6,8 +6,8 @@ use Rattle.line.proofs.settle.settle_in.Goals as goal
 pub slice_bounds-first_stop-end-2 : goal.slice_bounds-first_stop-end-2
 slice_bounds-first_stop-end-2 c = search (rules, prefix_long)
 
-pub returns-then-at-eq0 : goal.returns-then-at-eq0
-returns-then-at-eq0 c = (search rest_stays, search held_unmoved)
+pub returns-then-stop-eq0 : goal.returns-then-stop-eq0
+returns-then-stop-eq0 c = (search rest_stays, search held_unmoved)
 
 pub slice_bounds-packed-count : goal.slice_bounds-packed-count
 slice_bounds-packed-count c = search stop_within

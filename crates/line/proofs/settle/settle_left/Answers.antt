@@ -3,8 +3,8 @@ use Rattle.line.proofs.Handing.{left_none, left_fits, left_from, left_room, left
 use borrow.Author.Rules.{rules}
 use Rattle.line.proofs.settle.settle_left.Goals as goal
 
-pub returns-then-k-n : goal.returns-then-k-n
-returns-then-k-n c = search left_none
+pub returns-then-k-reader : goal.returns-then-k-reader
+returns-then-k-reader c = search left_none
 
 pub overflow_add-from : goal.overflow_add-from
 overflow_add-from c = search (rules, left_fits)

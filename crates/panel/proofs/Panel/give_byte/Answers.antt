@@ -1,6 +1,6 @@
 -- `panel::Panel::give_byte` meets its contract.
-use Rattle.panel.proofs.Inputs.{byte_fed}
 use Rattle.panel.proofs.Said.{byte_fed_said}
+use Rattle.panel.proofs.Inputs.{byte_fed}
 use Rattle.panel.proofs.Panel.give_byte.Goals as goal
 
 pub returns : goal.returns

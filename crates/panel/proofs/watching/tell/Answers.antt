@@ -1,9 +1,9 @@
 -- `panel::watching::tell` meets its contract.
-use Rattle.panel.proofs.Watchings.{none_told, one_told}
+use Rattle.panel.proofs.Watchings.{only_sent, none_told, one_told}
 use Rattle.panel.proofs.watching.tell.Goals as goal
 
-pub returns-in-Nothing : goal.returns-in-Nothing
-returns-in-Nothing c = search none_told
+pub returns-in-None : goal.returns-in-None
+returns-in-None c = record { told = search none_told; list_after = search only_sent }
 
-pub returns-in-Word : goal.returns-in-Word
-returns-in-Word c = search one_told
+pub returns-in-Some : goal.returns-in-Some
+returns-in-Some c = record { told = search one_told; list_after = search only_sent }

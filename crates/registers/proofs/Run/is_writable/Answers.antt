@@ -9,5 +9,5 @@ use Rattle.registers.proofs.Run.is_writable.Goals as goal
 
 pub returns : goal.returns
 returns c =
-    all_from_yields_List writable _ _ _ c.all.ensures.ran (YieldsList-from_range c.args.self.address.0 (c.args.self.address.0 + length c.args.self.bytes.now) (length c.args.self.bytes.now) (cc) (omega arith)) (λ x b q k. search (rules, tests))
+    all_from_yields_List writable _ _ _ c.all.ensures.ran (YieldsList-from_range c.args.self.address.0 (c.args.self.address.0 + length c.args.self.bytes.now) (length c.args.self.bytes.now) c.registers.ensures (omega arith)) (λ x b q k. search (rules, tests))
     ∙ all_of_run c.args.self.address.0 (length c.args.self.bytes.now)

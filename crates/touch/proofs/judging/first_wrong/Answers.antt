@@ -1,18 +1,12 @@
 -- `touch::judging::first_wrong` meets its contract.
-use Rattle.touch.proofs.TableAnswers.{walk}
+use mathlib.Core.Path.{ap}
+use Rattle.touch.specs.Judge.{wrong, named_wrong}
 use Rattle.touch.proofs.judging.first_wrong.Goals as goal
 
-pub loop-i-init : goal.loop-i-init
-loop-i-init c = search walk
+pub returns-in-Some : goal.returns-in-Some
+unfolding wrong
+returns-in-Some c = ap named_wrong (c.in-Some.ensures (wrong c.args.s) (λ r b told. cc))
 
-pub returns-then-r : goal.returns-then-r
-returns-then-r c = search walk
-
-pub loop-i-preserved : goal.loop-i-preserved
-loop-i-preserved c = search walk
-
-pub returns-then-not-good_record : goal.returns-then-not-good_record
-returns-then-not-good_record c = search walk
-
-pub returns : goal.returns
-returns c = search walk
+pub returns-in-None : goal.returns-in-None
+unfolding wrong
+returns-in-None c = ap named_wrong (c.in-None.ensures (wrong c.args.s) (λ r b told. cc))

@@ -1,7 +1,11 @@
 -- `touch::setups::good_setup` meets its contract.
-use borrow.Author.Rules.{rules}
+use Rattle.std.proofs.Common.{arith}
+use Rattle.std.proofs.lemmas.Grind.{common_steps}
 use Rattle.touch.proofs.Said.{setup_said_lem}
 use Rattle.touch.proofs.setups.good_setup.Goals as goal
 
-pub returns : goal.returns
-returns c = let both = setup_said_lem _ _ (search rules) in record { value = both.0; result_value = both.1 }
+pub returns-then-contains-2-clause-result_value : goal.returns-then-contains-2-clause-result_value
+returns-then-contains-2-clause-result_value c = setup_said_lem _ _ (grind (arith, common_steps))
+
+pub returns-else-contains-2-clause-result_value : goal.returns-else-contains-2-clause-result_value
+returns-else-contains-2-clause-result_value c = setup_said_lem _ _ (grind (arith, common_steps))
