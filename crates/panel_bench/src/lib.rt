@@ -14,6 +14,7 @@ use curves::CURVE_WORDS;
 use frame::LEAST_ROOM;
 use panel::{Handed, LentError, Panel, Reported};
 use touch::Setup;
+use watch::WatchList;
 use wire::WORD_COUNT;
 
 // How many bytes are given at once.
@@ -27,12 +28,16 @@ fn weight(handed: Result<Option<Handed>, LentError>) -> u64
     match handed {
         Err(_) | Ok(None) => 0,
         Ok(Some(Handed::BadCheck(command, _))) => u64::from(command),
-        Ok(Some(Handed::Accepted {
-            command,
-            count,
-            replied,
-            ..
-        })) => u64::from(command).wrapping_add((count as u64).wrapping_add(replied as u64)),
+        Ok(
+            Some(
+                Handed::Accepted {
+                    command,
+                    count,
+                    replied,
+                    ..
+                },
+            ),
+        ) => u64::from(command).wrapping_add((count as u64).wrapping_add(replied as u64)),
     }
 }
 
@@ -62,7 +67,12 @@ fn is_lent(words: usize, curves: usize, room: usize) -> bool
 fn ask(panel: Panel, words: &mut [u16], curves: &mut [u16], room: &mut [u8]) -> Reported
     ensures { reports result (lending words.new curves.new room.new none_watched) ≡ reporting panel (lending words.old curves.old room.old none_watched) }
 {
-    panel.report(words, curves, room, &[], &[], &mut [])
+    let mut list = WatchList {
+        addresses: &[],
+        uses: &[],
+        values: &mut [],
+    };
+    panel.report(words, curves, room, &mut list)
 }
 
 // Gives the bytes to the panel and asks for each report as soon as it waits.
