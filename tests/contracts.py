@@ -120,7 +120,7 @@ def theorem_fault(function, others):
     if not re.search(r"^(pub )?mod Determined$", read(function.crate, "Lib.antt"), re.M):
         return f"crates/{function.crate}/proofs/Lib.antt does not declare Determined"
     alias = re.search(rf"^use Rattle\.{function.crate}\.proofs\.{re.escape(function.proof)}\.Reads as (\S+)$", text, re.M)
-    if not alias or f" {alias.group(1)}.Post" not in says or "OneAnswer" not in says:
+    if not alias or not re.search(rf"[ (]{re.escape(alias.group(1))}\.Post\b", says) or "OneAnswer" not in says:
         return f"the theorem {names[-1]} does not say OneAnswer of the contract of {function.name}"
     lent, left = function.parameters.count("&mut "), len(re.findall(r"\bs(?:\.\d)+\.now\b", says))
     if lent != left:

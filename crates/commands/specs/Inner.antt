@@ -1,4 +1,4 @@
--- What only private functions of commands cite.
+-- No public promise cites this file: what the judges and the layer of replies promise inside this crate.
 use Rattle.std.specs.Prelude.{◌≡◌, ℕ, ◌≤◌, List, length, Result, Ok, Err}
 use denote.Ref.{MutBor}
 use Rattle.wire.specs.Room.{over}

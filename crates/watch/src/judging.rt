@@ -1,6 +1,6 @@
 // Which lists are wrong: 16.
 ghost use Rattle.std.specs.Prelude.{◌≡◌, length};
-ghost use Rattle.watch.specs.Watched.{list_of, address_at, used_at};
+ghost use Rattle.watch.specs.Watched.{list_of, address_at, used_at, watching};
 ghost use Rattle.watch.specs.Judge.{some_below, is_past_end, share, is_wrong_at, wrong_lengths, wrong_list};
 
 use crate::{MOST_WATCHED, WatchList};
@@ -9,7 +9,7 @@ use words::WordAddress;
 
 // Whether the three slices are no list of up to 16 entries.
 #[tactic(auto, unfolding(crate::specs::Judge::wrong_lengths))]
-pub(crate) fn are_wrong_lengths(addresses: usize, uses: usize, values: usize) -> bool
+fn are_wrong_lengths(addresses: usize, uses: usize, values: usize) -> bool
     ensures { result ≡ wrong_lengths addresses uses values }
 {
     MOST_WATCHED < addresses || uses != addresses || values != addresses
@@ -63,7 +63,7 @@ impl WatchList<'_, '_> {
     }
 
     // Whether one of the entries does.
-    pub(crate) fn has_wrong(&self) -> bool
+    fn has_wrong(&self) -> bool
         ensures { result ≡ some_below (is_wrong_at self.now.addresses.now self.now.uses.now) (length self.now.addresses.now) }
     {
         (0..self.addresses.len()).any(|i| self.is_wrong_at(i))
@@ -77,4 +77,18 @@ impl WatchList<'_, '_> {
         are_wrong_lengths(self.addresses.len(), self.uses.len(), self.values.len())
             || self.has_wrong()
     }
+}
+
+// Whether a list is refused with 16, for a caller to whom the values last sent are not lent to be written.
+#[tactic(auto, unfolding(crate::specs::Judge::wrong_list))]
+pub fn is_wrong(addresses: &[u16], uses: &[u8], values: &[u16]) -> bool
+    ensures { result ≡ wrong_list (watching addresses.now uses.now values.now) }
+{
+    let mut none = [0u16; 0];
+    let list = WatchList {
+        addresses,
+        uses,
+        values: &mut none,
+    };
+    are_wrong_lengths(addresses.len(), uses.len(), values.len()) || list.has_wrong()
 }

@@ -4,9 +4,8 @@
 mod judging; // 16
 mod noting; // what a line write notes
 mod sending; // the entry that is due
-mod slices; // the same over the three slices
 
-pub use slices::{is_wrong, note, send};
+pub use judging::is_wrong;
 
 // "a list of up to 16 watched words"
 pub const MOST_WATCHED: usize = 16;

@@ -3,12 +3,6 @@ use Prim.Native.Nat.{ℕ}
 use mir.Val.{Fits}
 use mir.Syntax.{w64}
 use Rattle.wire.specs.OneAnswer.{OneAnswer}
-use Rattle.wire.proofs.wide.Reads as wide
-use Rattle.wire.proofs.wide.Kinds as wide_kinds
-use Rattle.wire.proofs.count.Reads as count
-use Rattle.wire.proofs.count.Kinds as count_kinds
-use Rattle.wire.proofs.above.Reads as above
-use Rattle.wire.proofs.above.Kinds as above_kinds
 use Rattle.wire.proofs.zeros.Reads as zeros
 use Rattle.wire.proofs.zeros.Kinds as zeros_kinds
 use Rattle.wire.proofs.high_byte.Reads as high_byte
@@ -21,15 +15,6 @@ use Rattle.wire.proofs.byte_at.Reads as byte_at
 use Rattle.wire.proofs.byte_at.Kinds as byte_at_kinds
 use Rattle.wire.proofs.word_at.Reads as word_at
 use Rattle.wire.proofs.word_at.Kinds as word_at_kinds
-
-pub wide_determined : OneAnswer 0 wide_kinds.ps wide_kinds.r wide.Post
-wide_determined κs a x y s t p q = cc
-
-pub count_determined : OneAnswer 0 count_kinds.ps count_kinds.r count.Post
-count_determined κs a x y s t p q = cc
-
-pub above_determined : OneAnswer 0 above_kinds.ps above_kinds.r above.Post
-above_determined κs a x y s t p q = cc
 
 pub high_byte_determined : OneAnswer 0 high_byte_kinds.ps high_byte_kinds.r high_byte.Post
 high_byte_determined κs a x y s t p q = cc

@@ -1,36 +1,14 @@
 // How 01's multi-byte numbers stand in bytes, and how a run of bytes is laid over the front of a lent room.
-// The only place where a byte order is written out.
+// Numbers that go high byte first are read and written here alone; the check value, which goes low byte first, by frame and place.
 #![tactic(auto)]
 
-ghost use Rattle.std.specs.Prelude.{◌≡◌, ◌-◌, ◌<◌, replicate};
+ghost use Rattle.std.specs.Prelude.{◌≡◌, replicate};
 ghost use Rattle.wire.specs.ByteOrder.{high_byte, low_byte, word, byte_at, word_at};
 
 // 01: "There are 256 register bytes and 28,672 variable words, 0x0000 to 0x6FFF"; `register_count` and `word_count` in specs/.
 pub const REGISTER_COUNT: usize = 256;
 
 pub const WORD_COUNT: usize = 28672;
-
-// A byte as a 16-bit number.
-pub fn wide(b: u8) -> u16
-    ensures { result ≡ b }
-{
-    u16::from(b)
-}
-
-// A byte as a count or an index.
-pub fn count(b: u8) -> usize
-    ensures value { result ≡ b }
-    ensures upper_bound { result < 256 }
-{
-    usize::from(b)
-}
-
-// How much a is above b; 0 where it is not.
-pub fn above(a: usize, b: usize) -> usize
-    ensures { result ≡ a - b }
-{
-    a.saturating_sub(b)
-}
 
 // An array of zeros, by its length: a room that nothing has been laid in.
 pub fn zeros<const N: usize>() -> [u8; N]
@@ -43,14 +21,16 @@ pub fn zeros<const N: usize>() -> [u8; N]
 pub fn high_byte(w: u16) -> u8
     ensures { result ≡ high_byte w }
 {
-    (w / 256) as u8
+    let [high, _] = w.to_be_bytes();
+    high
 }
 
 // The second of them.
 pub fn low_byte(w: u16) -> u8
     ensures { result ≡ low_byte w }
 {
-    (w % 256) as u8
+    let [_, low] = w.to_be_bytes();
+    low
 }
 
 // The number whose two bytes these are.
