@@ -56,6 +56,7 @@ fn bench_setup() -> Setup
 }
 
 // Words, curve area and room are what the panel asks for; otherwise no report is ever handed over.
+// The panel's own test is private to its crate; asked first here, it keeps refusals out of the loop.
 #[tactic(auto, unfolding(panel::specs::Reporting::enough))]
 fn is_lent(words: usize, curves: usize, room: usize) -> bool
     ensures { result ≡ enough words curves room }
