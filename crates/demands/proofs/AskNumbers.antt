@@ -11,6 +11,7 @@ use Rattle.wire.specs.Numbers.{Said, says, first_said, ◌when◌}
 use Rattle.frame.specs.Frame.{most_payload}
 use Rattle.frame.specs.Writer.{least_room}
 use Rattle.reading.specs.Place.{Report, bad_check, accepted_frame}
+use Rattle.line.specs.declared.Report.{Report as Told}
 use Rattle.line.specs.declared.Asked.{Asked}
 use Rattle.line.specs.Methods.{asked}
 use Rattle.line.specs.Reached.{report_as, payload_as}
@@ -88,7 +89,7 @@ accepted_number panel lent whole command content =
     ∙ ap (λ (n : ℕ). (perform_said (fixed_for setup) n (length part.room) command content).number) whole
     ∙ numbers_said setup (length part.room) command content
 
-handing_numbers : (panel : Panel) (lent : Lent) → length lent.words ≡ word_count → (a : Asked) (told : Option Report) (report : List Report) → told ≡ report_as report
+handing_numbers : (panel : Panel) (lent : Lent) → length lent.words ≡ word_count → (a : Asked) (told : Option Told) (report : List Report) → told ≡ report_as report
     → a.payload ≡ payload_as report
     → report_number (handing a told panel lent).reported.handed ≡ first_number (waiting_numbers panel.setup report)
 unfolding handing handing_over report_number report_as payload_as of_frame first_said

@@ -26,7 +26,7 @@ use Rattle.panel.specs.State.{panel_register, panel_moment}
 use Rattle.panel.proofs.Invariant.{reachable_sound}
 use Rattle.demands.specs.Calls.{Moment, Call, second, ask, after, after_all, number_given, handed_over, AllTyped, Arises}
 use Rattle.demands.specs.Reports.{report_waits}
-use Rattle.demands.specs.Demand2.{NamesRegister, Some}
+use Rattle.demands.specs.Demand2.{NamesRegister, SomeCall}
 use Rattle.demands.specs.Replied.{Replied}
 use Rattle.demands.specs.Clock.{ClockRight, SettingAnswered, after_second, OnlyTheClock, ChangesClock, WeekdayMoves, seconds, SecondsPass, ADayPasses, without_seconds, ReadsOn}
 use Rattle.demands.proofs.Calls.{arises_reachable}
@@ -109,7 +109,7 @@ only_seconds_and_settings now arises = ClockCalls.clock_changes_by now (arises_r
 pub setting_is_read_back : (now : Moment) → Arises now → (year month day sent hour minute last : ℕ)
     → handed_over now ask ≡ accepted_frame 0x80 (0x1F ∷ 0x5A ∷ year ∷ month ∷ day ∷ sent ∷ hour ∷ minute ∷ last ∷ []) ∷ [] → number_given now ask ≡ 0
     → (calls : List Call) → AllTyped calls
-    → ((k : ℕ) → 0x1F ≤ k → k < 0x27 → Some (λ then call. NamesRegister then k call) (after now ask) calls → ⊥)
+    → ((k : ℕ) → 0x1F ≤ k → k < 0x27 → SomeCall (λ then call. NamesRegister then k call) (after now ask) calls → ⊥)
     → handed_over (after_all (after now ask) calls) ask ≡ accepted_frame 0x81 (0x1F ∷ 8 ∷ []) ∷ []
     → Replied (after_all (after now ask) calls) 0x81 (0x1F ∷ 8 ∷ [])
     (0x1F ∷ 8 ∷ 0x00 ∷ year ∷ month ∷ day ∷ weekday_of (date_in year month day) ∷ hour ∷ minute ∷ last ∷ [])

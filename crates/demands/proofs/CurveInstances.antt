@@ -13,7 +13,7 @@ use Rattle.watch.specs.Watched.{none_watched}
 use Rattle.commands.specs.Lent.{lending}
 use Rattle.panel.specs.State.{panel_count}
 use Rattle.demands.specs.Calls.{Moment, Call, bytes, ask, after, after_all, Typed, AllTyped, Arises, by_call}
-use Rattle.demands.specs.Demand2.{curve_word_at, NamesCurveWord, NamesCount, Some}
+use Rattle.demands.specs.Demand2.{curve_word_at, NamesCurveWord, NamesCount, SomeCall}
 use Rattle.demands.specs.History.{recorded, recorded_by, history_by, history_over, history_of, area_left, LentAsLeft, lends_anew, none_lends_anew, Keeps}
 use Rattle.demands.specs.Story.{story_setup, new}
 use Rattle.demands.proofs.Computed.{computing_start, computing_calls}
@@ -124,6 +124,6 @@ count_changes : panel_count (after_all fed (ask ∷ [])).panel 0 ≢ panel_count
 unfolding computing_calls
 count_changes same = omega arith
 
-pub changed_count_is_named : Some (λ now call. NamesCount now 0 call) fed (ask ∷ [])
+pub changed_count_is_named : SomeCall (λ now call. NamesCount now 0 call) fed (ask ∷ [])
 unfolding AllTyped Typed
 changed_count_is_named = no_other_count_changes fed fed_arises (ask ∷ []) (tt, tt) 0 (omega arith) count_changes

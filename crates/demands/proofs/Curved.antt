@@ -28,7 +28,7 @@ use Rattle.panel.proofs.Lengths.{contacted_area_stands}
 use Rattle.panel.proofs.Ways.{contact_ways, lift_ways, second_ways}
 use Rattle.panel.proofs.Invariant.{reachable_sound}
 use Rattle.demands.specs.Calls.{Moment, Call, lend, byte, bytes, mark, second, ask, contact, lift, after, after_all, number_given, handed_over, AllTyped}
-use Rattle.demands.specs.Demand2.{leaving, after_write, after_read, after_store, after_fetch, after_add, after_bad_check, after_command, AskLeaves, hands_nothing, hands_bad_check, refuses_command, does_command, curve_word_at, NamesCurveWord, by_adding, by_exchange, NamesCount, by_numbers, by_clear, Some, here, later}
+use Rattle.demands.specs.Demand2.{leaving, after_write, after_read, after_store, after_fetch, after_add, after_bad_check, after_command, AskLeaves, hands_nothing, hands_bad_check, refuses_command, does_command, curve_word_at, NamesCurveWord, by_adding, by_exchange, NamesCount, by_numbers, by_clear, SomeCall, here, later}
 use Rattle.demands.specs.History.{recorded, recorded_by, history_by}
 use Rattle.demands.specs.Reports.{read_behind}
 use Rattle.demands.proofs.Asking.{by_command_lem, one_of_five, as_command, asking_leaves}
@@ -192,7 +192,7 @@ module _ (now : Moment) (reached : Reachable now.panel) (n : ℕ) (inside : n < 
 
 -- over any sequence of calls, from a panel that is reached
 pub count_stays_or_is_named : (now : Moment) → Reachable now.panel → (calls : List Call) → AllTyped calls → (n : ℕ) → n < channel_count
-    → (panel_count (after_all now calls).panel n ≡ panel_count now.panel n) ⊎ Some (λ then call. NamesCount then n call) now calls
+    → (panel_count (after_all now calls).panel n ≡ panel_count now.panel n) ⊎ SomeCall (λ then call. NamesCount then n call) now calls
 unfolding after_all AllTyped
 count_stays_or_is_named now reached [] typed n inside = inl refl
 count_stays_or_is_named now reached (call ∷ calls) typed n inside =
@@ -203,7 +203,7 @@ count_stays_or_is_named now reached (call ∷ calls) typed n inside =
 
 pub curve_word_stays_or_is_named : (now : Moment) → Reachable now.panel → (calls : List Call) → AllTyped calls → (n : ℕ) → n < channel_count
     → (i : ℕ) → i < channel_words
-    → (curve_word_at (after_all now calls).lent.curves n i ≡ curve_word_at now.lent.curves n i) ⊎ Some (λ then call. NamesCurveWord then n i call) now calls
+    → (curve_word_at (after_all now calls).lent.curves n i ≡ curve_word_at now.lent.curves n i) ⊎ SomeCall (λ then call. NamesCurveWord then n i call) now calls
 unfolding after_all AllTyped
 curve_word_stays_or_is_named now reached [] typed n inside i few = inl refl
 curve_word_stays_or_is_named now reached (call ∷ calls) typed n inside i few =

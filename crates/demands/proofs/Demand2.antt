@@ -1,5 +1,5 @@
 -- Demand 2, theorem by theorem. `Arises now`: any calls with any inputs have led to this moment from any start.
-use Rattle.std.specs.Prelude.{Ok}
+use Rattle.std.specs.Prelude.{Some, Ok}
 use mathlib.Core.Path.{◌≡◌}
 use mathlib.Core.Logic.{◌≢◌, ⊎_elim}
 use mathlib.Core.Bool.{Bool, true, false}
@@ -44,7 +44,7 @@ use Rattle.panel.proofs.Lengths.{reported_area_long}
 use Rattle.panel.proofs.Invariant.{reachable_sound}
 use Rattle.demands.specs.Calls.{Moment, Call, ask, contact, lift, begun, after, after_all, number_given, handed_over, Typed, AllTyped, Arises, WellLent}
 use Rattle.demands.specs.Reports.{rules_of}
-use Rattle.demands.specs.Demand2.{NamesWord, NamesRegister, curve_word_at, NamesCurveWord, NamesCount, Some, ReadsBack, DoesCommands, after_bad_check, AskLeaves, after_contact, after_lift}
+use Rattle.demands.specs.Demand2.{NamesWord, NamesRegister, curve_word_at, NamesCurveWord, NamesCount, SomeCall, ReadsBack, DoesCommands, after_bad_check, AskLeaves, after_contact, after_lift}
 use Rattle.demands.specs.Done.{Exactly}
 use Rattle.demands.specs.Entries.{entry_at, FirstDue, NamesEntry, OnlyValues, bytes_written, Tells, UnaskedReadsBack, WordsStand, due_at, SentInOrder, AllSent, Among, Rising, AllLeaveEntry, StaysQuiet}
 use Rattle.demands.specs.History.{history_of, area_left, LentAsLeft, none_lends_anew, Keeps}
@@ -134,7 +134,7 @@ frame_acknowledged now arises = Acknowledged.frame_acknowledged now (arises_reac
 pub what_80_wrote_81_replies : (now : Moment) → Arises now → (content : List ℕ) → handed_over now ask ≡ accepted_frame 0x80 content ∷ [] → number_given now ask ≡ 0
     → (calls : List Call) → AllTyped calls
     → (address count : ℕ) → byte_at content 0 ≤ address → address + count ≤ byte_at content 0 + length (drop 1 content)
-    → ((k : ℕ) → address ≤ k → k < address + count → Some (λ then call. NamesRegister then k call) (after now ask) calls → ⊥)
+    → ((k : ℕ) → address ≤ k → k < address + count → SomeCall (λ then call. NamesRegister then k call) (after now ask) calls → ⊥)
     → handed_over (after_all (after now ask) calls) ask ≡ accepted_frame 0x81 (address ∷ count ∷ []) ∷ []
     → Replied (after_all (after now ask) calls) 0x81 (address ∷ count ∷ []) (address ∷ count ∷ take count (drop (address - byte_at content 0) (reads_as (byte_at content 0) (drop 1 content))))
 what_80_wrote_81_replies now arises = WrittenReads.what_80_wrote_81_replies now (arises_reachable now arises)
@@ -143,7 +143,7 @@ what_80_wrote_81_replies now arises = WrittenReads.what_80_wrote_81_replies now 
 pub what_82_wrote_83_replies : (now : Moment) → Arises now → (content : List ℕ) → handed_over now ask ≡ accepted_frame 0x82 content ∷ [] → number_given now ask ≡ 0
     → (calls : List Call) → AllTyped calls
     → (address count : ℕ) → word_at content 0 ≤ address → address + count ≤ word_at content 0 + length (words_of (drop 2 content))
-    → ((k : ℕ) → address ≤ k → k < address + count → Some (λ then call. NamesWord then k call) (after now ask) calls → ⊥)
+    → ((k : ℕ) → address ≤ k → k < address + count → SomeCall (λ then call. NamesWord then k call) (after now ask) calls → ⊥)
     → handed_over (after_all (after now ask) calls) ask ≡ accepted_frame 0x83 (high_first address ++ (count ∷ [])) ∷ []
     → 3 + 2 * count ≤ most_data (checking_of (after_all (after now ask) calls).panel.setup)
     → Replied (after_all (after now ask) calls) 0x83 (high_first address ++ (count ∷ []))
@@ -209,12 +209,12 @@ writer_reads_back now arises = ReadBack.writer_reads_back now (arises_reachable 
 
 -- "No word or register changes but those the command or touch rule names.": over any sequence of calls
 pub no_other_word_changes : (now : Moment) (calls : List Call) (k : ℕ) → word_at_address (after_all now calls).lent.words k ≢ word_at_address now.lent.words k
-    → Some (λ then call. NamesWord then k call) now calls
+    → SomeCall (λ then call. NamesWord then k call) now calls
 no_other_word_changes now calls k differs = ⊎_elim (λ same. absurd (differs same)) (λ named. named) (Named.word_stays_or_is_named now calls k)
 
 pub no_other_register_changes : (now : Moment) → Arises now → (calls : List Call) → AllTyped calls → (address : ℕ)
     → panel_register (after_all now calls).panel address ≢ panel_register now.panel address
-    → Some (λ then call. NamesRegister then address call) now calls
+    → SomeCall (λ then call. NamesRegister then address call) now calls
 no_other_register_changes now arises calls typed address differs =
     ⊎_elim (λ same. absurd (differs same)) (λ named. named)
     (Named.register_stays_or_is_named now (arises_reachable now arises) calls typed address)
@@ -222,14 +222,14 @@ no_other_register_changes now arises calls typed address differs =
 -- 02, §2: "No word or register changes but those the command .. rule names", of the curve area and of the channels' counts
 pub no_other_curve_word_changes : (now : Moment) → Arises now → (calls : List Call) → AllTyped calls → (n : ℕ) → n < channel_count → (i : ℕ) → i < channel_words
     → curve_word_at (after_all now calls).lent.curves n i ≢ curve_word_at now.lent.curves n i
-    → Some (λ then call. NamesCurveWord then n i call) now calls
+    → SomeCall (λ then call. NamesCurveWord then n i call) now calls
 no_other_curve_word_changes now arises calls typed n inside i few differs =
     ⊎_elim (λ same. absurd (differs same)) (λ named. named)
     (Curved.curve_word_stays_or_is_named now (arises_reachable now arises) calls typed n inside i few)
 
 pub no_other_count_changes : (now : Moment) → Arises now → (calls : List Call) → AllTyped calls → (n : ℕ) → n < channel_count
     → panel_count (after_all now calls).panel n ≢ panel_count now.panel n
-    → Some (λ then call. NamesCount then n call) now calls
+    → SomeCall (λ then call. NamesCount then n call) now calls
 no_other_count_changes now arises calls typed n inside differs =
     ⊎_elim (λ same. absurd (differs same)) (λ named. named)
     (Curved.count_stays_or_is_named now (arises_reachable now arises) calls typed n inside)
@@ -237,7 +237,7 @@ no_other_count_changes now arises calls typed n inside differs =
 -- 02, §4: "Demand 2 then reads: words, registers and the matching entry.": no entry of the watch list changes but those whose word the run of a done 0x82 names and
 -- the one that a contact sends, over any sequence of calls; and at an ask and a contact only values last sent do
 pub no_other_entry_changes : (now : Moment) → Arises now → (calls : List Call) → AllTyped calls → (i : ℕ)
-    → entry_at (after_all now calls).lent.watched i ≢ entry_at now.lent.watched i → Some (λ then call. NamesEntry then i call) now calls
+    → entry_at (after_all now calls).lent.watched i ≢ entry_at now.lent.watched i → SomeCall (λ then call. NamesEntry then i call) now calls
 no_other_entry_changes now arises calls typed i differs =
     ⊎_elim (λ same. absurd (differs same)) (λ named. named)
     (Entries.entry_stays_or_is_named now (arises_reachable now arises) calls typed i)

@@ -31,7 +31,7 @@ use Rattle.panel.specs.Reachable.{Reachable}
 use Rattle.panel.proofs.Ways.{touched_by}
 use Rattle.panel.proofs.Refusals.{refused_contact_changes_nothing}
 use Rattle.demands.specs.Calls.{Moment, Call, lend, byte, bytes, mark, second, ask, contact, lift, after, after_all, number_given, handed_over, AllTyped}
-use Rattle.demands.specs.Demand2.{leaving, after_write, after_read, after_store, after_fetch, after_add, after_bad_check, after_contact, after_command, AskLeaves, hands_nothing, hands_bad_check, refuses_command, does_command, Some, here, later}
+use Rattle.demands.specs.Demand2.{leaving, after_write, after_read, after_store, after_fetch, after_add, after_bad_check, after_contact, after_command, AskLeaves, hands_nothing, hands_bad_check, refuses_command, does_command, SomeCall, here, later}
 use Rattle.demands.specs.Entries.{ListEntry, entry_at, NamesEntry, by_noting, by_sending, by_other_list, OnlyValues, bytes_written, Tells, tells_nothing, tells_entry}
 use Rattle.demands.proofs.Answers.{moment_touched}
 use Rattle.demands.proofs.Asking.{by_command_lem, one_of_five, as_command, asking_leaves}
@@ -261,7 +261,7 @@ module _ (now : Moment) (i : ℕ) where
 
 -- over any sequence of calls
 pub entry_stays_or_is_named : (now : Moment) → Reachable now.panel → (calls : List Call) → AllTyped calls → (i : ℕ)
-    → (entry_at (after_all now calls).lent.watched i ≡ entry_at now.lent.watched i) ⊎ Some (λ then call. NamesEntry then i call) now calls
+    → (entry_at (after_all now calls).lent.watched i ≡ entry_at now.lent.watched i) ⊎ SomeCall (λ then call. NamesEntry then i call) now calls
 unfolding after_all AllTyped
 entry_stays_or_is_named now reached [] typed i = inl refl
 entry_stays_or_is_named now reached (call ∷ calls) typed i =

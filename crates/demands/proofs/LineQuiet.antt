@@ -25,7 +25,7 @@ use Rattle.commands.specs.Lent.{Lent}
 use Rattle.panel.specs.Contacts.{Contact}
 use Rattle.panel.specs.Reachable.{Reachable}
 use Rattle.demands.specs.Calls.{Moment, Call, lend, byte, bytes, mark, second, ask, contact, lift, after, after_all, number_given, handed_over, AllTyped}
-use Rattle.demands.specs.Demand2.{leaving, after_store, Some, here, later}
+use Rattle.demands.specs.Demand2.{leaving, after_store, SomeCall, here, later}
 use Rattle.demands.specs.Entries.{ListEntry, Tells, tells_nothing, tells_entry, LeavesEntry, AllLeaveEntry, SendsEntry, sends_first, StaysQuiet}
 use Rattle.demands.proofs.Access.{writes_words}
 use Rattle.demands.proofs.Calls.{call_reached}
@@ -145,7 +145,7 @@ all_quiet i now reached (call ∷ calls) typed leave quiet =
     let rest = all_quiet i (after now call) (call_reached now call typed.0 reached) calls typed.1 leave.1 next in
     record { not_due = rest.not_due; never_sent = none rest.never_sent }
   where
-    none : (Some (λ then call. SendsEntry i then call) (after now call) calls → ⊥) → Some (λ then call. SendsEntry i then call) now (call ∷ calls) → ⊥
+    none : (SomeCall (λ then call. SendsEntry i then call) (after now call) calls → ⊥) → SomeCall (λ then call. SendsEntry i then call) now (call ∷ calls) → ⊥
     none later-none (here _ _ _ sends) = call_not_sends i now call leave.0 quiet sends
     none later-none (later _ _ _ some) = later-none some
 

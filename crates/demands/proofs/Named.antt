@@ -1,5 +1,5 @@
 -- The words and registers that calls name: every other one stays, over one call and over a sequence.
-use Rattle.std.specs.Prelude.{Ok, Err}
+use Rattle.std.specs.Prelude.{Some, Ok, Err}
 use mathlib.Core.Path.{◌≡◌, refl, ap, ◌∙◌}
 use mathlib.Core.Logic.{◌⊎◌, inl, inr, ⊎_elim}
 use mathlib.Core.Bool.{Bool, true, false}
@@ -35,7 +35,7 @@ use Rattle.panel.proofs.Named.{second_only_clock}
 use Rattle.panel.proofs.Ways.{contact_ways, lift_ways, second_ways, report_ways}
 use Rattle.panel.proofs.Invariant.{always_256_registers}
 use Rattle.demands.specs.Calls.{Moment, Call, lend, byte, bytes, mark, second, ask, contact, lift, after, after_all, number_given, report_handed, handed_over, AllTyped}
-use Rattle.demands.specs.Demand2.{NamesWord, by_store, by_acting, by_dragging, by_lending, NamesRegister, by_write, by_status, by_place, by_page, by_second, by_lifting, Some, here, later}
+use Rattle.demands.specs.Demand2.{NamesWord, by_store, by_acting, by_dragging, by_lending, NamesRegister, by_write, by_status, by_place, by_page, by_second, by_lifting, SomeCall, here, later}
 use Rattle.demands.proofs.Calls.{call_reached}
 use Rattle.demands.proofs.TouchedRegisters as Registers
 use Rattle.commands.specs.Lent.{Lent, with_room}
@@ -149,7 +149,7 @@ call_names_word now lift k = inl refl
 
 -- a word over any sequence of calls: it stays, or some call of the sequence names it
 pub word_stays_or_is_named : (now : Moment) (calls : List Call) (k : ℕ)
-    → (word_at_address (after_all now calls).lent.words k ≡ word_at_address now.lent.words k) ⊎ Some (λ then call. NamesWord then k call) now calls
+    → (word_at_address (after_all now calls).lent.words k ≡ word_at_address now.lent.words k) ⊎ SomeCall (λ then call. NamesWord then k call) now calls
 unfolding after_all
 word_stays_or_is_named now [] k = inl refl
 word_stays_or_is_named now (call ∷ calls) k =
@@ -251,7 +251,7 @@ call_names_register now whole lift address = lifted_register now whole address
 
 -- a register over any sequence of calls, from a panel that is reached: it stays, or some call of the sequence names it
 pub register_stays_or_is_named : (now : Moment) → Reachable now.panel → (calls : List Call) → AllTyped calls → (address : ℕ)
-    → (panel_register (after_all now calls).panel address ≡ panel_register now.panel address) ⊎ Some (λ then call. NamesRegister then address call) now calls
+    → (panel_register (after_all now calls).panel address ≡ panel_register now.panel address) ⊎ SomeCall (λ then call. NamesRegister then address call) now calls
 unfolding after_all AllTyped
 register_stays_or_is_named now reached [] typed address = inl refl
 register_stays_or_is_named now reached (call ∷ calls) typed address =

@@ -7,7 +7,7 @@ use Prim.Native.Nat.{ℕ}
 use native.Mathlib.Omega.{arith}
 use Rattle.reading.proofs.ByteLists.{all_bytes, tested_bytes}
 use Rattle.demands.specs.Calls.{Moment, Call, bytes, ask, after, after_all, Typed, AllTyped, Arises, by_call}
-use Rattle.demands.specs.Demand2.{NamesWord, NamesRegister, Some, here, later}
+use Rattle.demands.specs.Demand2.{NamesWord, NamesRegister, SomeCall, here, later}
 use Rattle.demands.specs.Replied.{Replied}
 use Rattle.demands.specs.Story.{new}
 use Rattle.demands.proofs.Computed.{computing_calls}
@@ -33,14 +33,14 @@ bytes_name_no_word named = elim named [ ]
 bytes_name_no_register : {now : Moment} {k : ℕ} {frame : List ℕ} → NamesRegister now k (bytes frame) → ⊥
 bytes_name_no_register named = elim named [ ]
 
-none_does : {P : Moment → Call → Type 0} {now : Moment} → Some P now [] → ⊥
+none_does : {P : Moment → Call → Type 0} {now : Moment} → SomeCall P now [] → ⊥
 none_does some = elim some [ ]
 
-no_word : (now : Moment) (k : ℕ) (frame : List ℕ) → Some (λ then call. NamesWord then k call) now (bytes frame ∷ []) → ⊥
+no_word : (now : Moment) (k : ℕ) (frame : List ℕ) → SomeCall (λ then call. NamesWord then k call) now (bytes frame ∷ []) → ⊥
 no_word now k frame (here _ _ _ named) = bytes_name_no_word named
 no_word now k frame (later _ _ _ some) = none_does some
 
-pub no_register : (now : Moment) (k : ℕ) (frame : List ℕ) → Some (λ then call. NamesRegister then k call) now (bytes frame ∷ []) → ⊥
+pub no_register : (now : Moment) (k : ℕ) (frame : List ℕ) → SomeCall (λ then call. NamesRegister then k call) now (bytes frame ∷ []) → ⊥
 no_register now k frame (here _ _ _ named) = bytes_name_no_register named
 no_register now k frame (later _ _ _ some) = none_does some
 

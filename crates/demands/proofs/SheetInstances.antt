@@ -1,5 +1,6 @@
 -- 02, §5, of a panel of each sheet, by computation: the same touches of the slider of TouchInstances, the high byte of word 0001, across from 100 to 300, 255 to 0.
 use mathlib.Core.Path.{◌≡◌, refl}
+use Rattle.std.proofs.lemmas.Option.{some_pair_parts}
 use mathlib.Core.Logic.{inl, inr}
 use Prim.Native.Nat.{ℕ, ◌%◌}
 use native.Mathlib.Omega.{arith}
@@ -79,12 +80,12 @@ caught_is_good = caught_slider_good down down_arises (record_of slider_bytes) re
 -- what `sheets_agree_at_the_edges` asks of a contact is met by one on the step, which is no slider, and by one at the slider's last edge
 pub on_the_step : EdgesOnly up on_step
 unfolding computing_contacts
-on_the_step r (while_up i is_up acts) = let same : record_of step_bytes ≡ r = cc in rw (← same) (inl refl)
+on_the_step r (while_up i is_up acts) = let same = some_pair_parts 0 i (record_of step_bytes) r acts in rw (← same.1) (inl refl)
 on_the_step r (while_down is_down caught) = never (cc)
 
 at_the_last_edge : EdgesOnly up (at 300)
 unfolding computing_contacts
-at_the_last_edge r (while_up i is_up acts) = let same : record_of slider_bytes ≡ r = cc in rw (← same) (inr (inr (omega arith)))
+at_the_last_edge r (while_up i is_up acts) = let same = some_pair_parts 1 i (record_of slider_bytes) r acts in rw (← same.1) (inr (inr (omega arith)))
 at_the_last_edge r (while_down is_down caught) = never (cc)
 
 -- and, while it is caught, by one past that edge

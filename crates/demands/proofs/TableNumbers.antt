@@ -1,5 +1,6 @@
 -- The numbers that go by a table, at a contact and at a start: 12, then 13; and 13 names the first wrong record.
 use Rattle.std.specs.Prelude.{None, Some, Ok, Err}
+use Rattle.std.proofs.lemmas.Option.{some_pair_parts}
 use mathlib.Core.Path.{◌≡◌, refl, sym, ap, ◌∙◌}
 use mathlib.Core.Bool.{Bool, true, false, cond, not, ◌&&◌, ◌||◌}
 use mathlib.Core.List.{List, [], ◌∷◌}
@@ -126,7 +127,7 @@ picked_within picks (q ∷ rs) i j r is = go (picks q) is (picked_within picks r
   where
     go : (b : Bool) → cond b (Some (i, q)) (first_of picks (i + 1) rs) ≡ Some (j, r) → (first_of picks (i + 1) rs ≡ Some (j, r) → j < i + 1 + length rs)
         → j < i + suc (length rs)
-    go true is further = let same : i ≡ j = cc in omega arith
+    go true is further = omega (arith, (some_pair_parts _ _ _ _ is).0)
     go false is further = let below = further is in omega arith
 
 wrong_within : (setup : Setup) (table : List ℕ) (i : ℕ) → judged setup table ≡ Err (Wrong i) → i < length (records_of table)

@@ -21,7 +21,7 @@ use Rattle.commands.specs.Lent.{Lent, lending}
 use Rattle.panel.specs.Contacts.{Contact}
 use Rattle.demands.specs.Calls.{Moment, WellLent, Call, lend, bytes, mark, ask, contact, begun, after, after_all, number_given, handed_over, Typed, AllTyped, Arises, from_start, by_call}
 use Rattle.demands.specs.Reports.{rules_of}
-use Rattle.demands.specs.Demand2.{Some}
+use Rattle.demands.specs.Demand2.{SomeCall}
 use Rattle.demands.specs.Entries.{GoodList, ListEntry, entry_at, FirstDue, NamesEntry, bytes_written, Tells, UnaskedReadsBack, frames_sent, frame_sent, WordsStand, due_at, AllSent, LeavesEntry, AllLeaveEntry, StaysQuiet}
 use Rattle.demands.specs.Story.{version, story_setup, new}
 use Rattle.demands.proofs.Computed.{computing_watched, computing_start, computing_calls, computing_contacts}
@@ -118,7 +118,7 @@ touch_typed : AllTyped (contact anywhere ∷ [])
 unfolding AllTyped Typed all_bytes
 touch_typed = ((tested_bytes [] refl, (omega arith, omega arith)), tt)
 
-pub sent_is_named : Some (λ then call. NamesEntry then 0 call) watched (contact anywhere ∷ [])
+pub sent_is_named : SomeCall (λ then call. NamesEntry then 0 call) watched (contact anywhere ∷ [])
 sent_is_named = no_other_entry_changes watched arises (contact anywhere ∷ []) touch_typed 0 sent_differs
 
 -- ---- A line write

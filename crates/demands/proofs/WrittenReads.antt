@@ -29,7 +29,7 @@ use Rattle.panel.specs.State.{header_of}
 use Rattle.panel.specs.Reachable.{Reachable, by_report}
 use Rattle.panel.proofs.Invariant.{always_256_registers}
 use Rattle.demands.specs.Calls.{Moment, Call, ask, after, after_all, number_given, handed_over, AllTyped}
-use Rattle.demands.specs.Demand2.{NamesWord, NamesRegister, Some, leaving, after_write, after_store}
+use Rattle.demands.specs.Demand2.{NamesWord, NamesRegister, SomeCall, leaving, after_write, after_store}
 use Rattle.demands.specs.Counts.{reply_to}
 use Rattle.demands.specs.Replied.{Replied}
 use Rattle.demands.proofs.Calls.{calls_reached}
@@ -78,7 +78,7 @@ run_part r (suc k) (suc n) address count fits =
 module _ (now : Moment) (reached : Reachable now.panel) (content : List ℕ) (writes : handed_over now ask ≡ accepted_frame 0x80 content ∷ [])
     (done : number_given now ask ≡ 0) (calls : List Call) (typed : AllTyped calls) (address count : ℕ) (from : byte_at content 0 ≤ address)
     (to : address + count ≤ byte_at content 0 + length (drop 1 content))
-    (none : (k : ℕ) → address ≤ k → k < address + count → Some (λ then call. NamesRegister then k call) (after now ask) calls → ⊥) where
+    (none : (k : ℕ) → address ≤ k → k < address + count → SomeCall (λ then call. NamesRegister then k call) (after now ask) calls → ⊥) where
   fits_registers : byte_at content 0 + length (drop 1 content) ≤ register_count
   unfolding outcome
   fits_registers = (registers_passed now.panel.setup.pages content (is_done_lem now reached content done 0x80 (handed_asks now 0x80 content writes))).fits
@@ -163,7 +163,7 @@ bytes_of_drop (suc k) (w ∷ words) =
 module _ (now : Moment) (reached : Reachable now.panel) (content : List ℕ) (writes : handed_over now ask ≡ accepted_frame 0x82 content ∷ [])
     (done : number_given now ask ≡ 0) (calls : List Call) (typed : AllTyped calls) (address count : ℕ) (from : word_at content 0 ≤ address)
     (to : address + count ≤ word_at content 0 + length (words_of (drop 2 content)))
-    (none : (k : ℕ) → address ≤ k → k < address + count → Some (λ then call. NamesWord then k call) (after now ask) calls → ⊥) where
+    (none : (k : ℕ) → address ≤ k → k < address + count → SomeCall (λ then call. NamesWord then k call) (after now ask) calls → ⊥) where
   abbrev n : ℕ
   n = length (words_of (drop 2 content))
 

@@ -90,9 +90,9 @@ pub data NamesCount (now : Moment) (n : ℕ) : Call → Type 0 where
       → clears (clear_value (byte_at content 0) (drop 1 content)) n ≡ true → NamesCount now n ask
 
 -- some call of a sequence does so
-pub data Some (P : Moment → Call → Type 0) : Moment → List Call → Type 0 where
-  here : (now : Moment) (call : Call) (calls : List Call) → P now call → Some P now (call ∷ calls)
-  later : (now : Moment) (call : Call) (calls : List Call) → Some P (after now call) calls → Some P now (call ∷ calls)
+pub data SomeCall (P : Moment → Call → Type 0) : Moment → List Call → Type 0 where
+  here : (now : Moment) (call : Call) (calls : List Call) → P now call → SomeCall P now (call ∷ calls)
+  later : (now : Moment) (call : Call) (calls : List Call) → SomeCall P (after now call) calls → SomeCall P now (call ∷ calls)
 
 -- "What our frame writer writes, our reader reads back as the same command and data": all its bytes are taken, asking then hands over one accepted frame
 -- with this command and data, and nothing is held or waiting

@@ -15,7 +15,7 @@ use Rattle.commands.specs.Lent.{Lent}
 use Rattle.panel.specs.State.{header_of}
 use Rattle.panel.specs.Contacts.{Contact, contacting}
 use Rattle.demands.specs.Calls.{Moment, Call, lend, byte, bytes, mark, second, ask, contact, lift, after, after_all, number_given, handed_over}
-use Rattle.demands.specs.Demand2.{Some, ReadsBack}
+use Rattle.demands.specs.Demand2.{SomeCall, ReadsBack}
 
 -- "each entry a word address, whether it is in use, and the value last sent": one entry, as it stands in the three slices
 pub record ListEntry : Type 0 where
@@ -172,4 +172,4 @@ pub data SendsEntry (i : ℕ) (now : Moment) : Call → Type 0 where
 -- entry i is not due behind these calls, and none of them sends it
 pub record StaysQuiet (i : ℕ) (now : Moment) (calls : List Call) : Type 0 where
   pub not_due : is_due (after_all now calls).lent.words (after_all now calls).lent.watched i ≡ false
-  pub never_sent : Some (λ then call. SendsEntry i then call) now calls → ⊥
+  pub never_sent : SomeCall (λ then call. SendsEntry i then call) now calls → ⊥

@@ -1,5 +1,5 @@
 -- A read that is replied to: "Reply 0x81, address, count, bytes.", "Reply 0x83, address, count, words."
-use Rattle.std.specs.Prelude.{Ok}
+use Rattle.std.specs.Prelude.{Some, Ok}
 use Rattle.std.specs.Prelude.{◌≡◌, true, List, ℕ, length}
 use Rattle.frame.specs.Frame.{frame_of}
 use Rattle.touch.specs.Setup.{checking_of}
@@ -15,6 +15,6 @@ use Rattle.demands.specs.Counts.{handed_by}
 pub record Replied (now : Moment) (command : ℕ) (content payload : List ℕ) : Type 0 where
   pub done : number_given now ask ≡ 0
   pub counts : handed_by now
-      ≡ Accepted command (length content) (Ok tt) (length (acknowledgement_of now.panel.setup command true))
-      (length (frame_of (checking_of now.panel.setup) (header_of now.panel.setup) command payload))
+      ≡ Ok (Some (Accepted command (length content) (Ok tt) (length (acknowledgement_of now.panel.setup command true))
+      (length (frame_of (checking_of now.panel.setup) (header_of now.panel.setup) command payload))))
   pub room : (after now ask).lent.room ≡ with_reply now command payload
