@@ -14,12 +14,10 @@ use Rattle.wire.proofs.Truths.{never}
 use Rattle.registers.specs.Touched.{is_touch_off}
 use Rattle.touch.specs.declared.Setup.{Setup}
 use Rattle.touch.specs.declared.Record.{Record}
-use Rattle.touch.specs.Table.{Found}
-use Rattle.touch.specs.Judge.{Verdict}
+use Rattle.touch.specs.Table.{Found, first_of, records_of}
+use Rattle.touch.specs.Judge.{Verdict, good_record, wrong, named_wrong, not_records, judged}
 use Rattle.touch.specs.declared.TableError.TheVariants.{NotRecords, Wrong}
 use Rattle.touch.specs.Setup.{good_setup}
-use Rattle.touch.specs.Table.{first_of, records_of}
-use Rattle.touch.specs.Judge.{good_record, wrong, named_wrong, not_records, judged}
 use Rattle.contact.specs.Contact.{Touching}
 use Rattle.touch.proofs.Tables.{thirteen_names_first}
 use Rattle.panel.specs.declared.Panel.{Panel}
