@@ -1,5 +1,5 @@
 -- The numbers that go by a table, at a contact and at a start: 12, then 13; and 13 names the first wrong record.
-use Rattle.std.specs.Prelude.{None, Some, Ok, Err}
+use Rattle.std.specs.Prelude.{None, Some, is_some, Ok, Err}
 use Rattle.std.proofs.lemmas.Option.{some_pair_parts}
 use mathlib.Core.Path.{◌≡◌, refl, sym, ap, ◌∙◌}
 use mathlib.Core.Bool.{Bool, true, false, cond, not, ◌&&◌, ◌||◌}
@@ -36,17 +36,13 @@ use Rattle.panel.proofs.Ways.{touched_by, told_answers}
 use Rattle.demands.proofs.Waits.{busy_waits}
 
 -- a table: 12, then 13
-abbrev is_at : Found → Bool
-is_at None = false
-is_at (Some (i, r)) = true
-
-some_wrong : (setup : Setup) (i : ℕ) (rs : List Record) → one_wrong setup rs ≡ is_at (first_of (wrong setup) i rs)
+some_wrong : (setup : Setup) (i : ℕ) (rs : List Record) → one_wrong setup rs ≡ is_some (first_of (wrong setup) i rs)
 unfolding one_wrong first_of wrong
 some_wrong setup i [] = refl
 some_wrong setup i (r ∷ rs) = go (not (good_record setup r)) (some_wrong setup (i + 1) rs)
   where
-    go : (b : Bool) → one_wrong setup rs ≡ is_at (first_of (wrong setup) (i + 1) rs)
-        → (b || one_wrong setup rs) ≡ is_at (cond b (Some (i, r)) (first_of (wrong setup) (i + 1) rs))
+    go : (b : Bool) → one_wrong setup rs ≡ is_some (first_of (wrong setup) (i + 1) rs)
+        → (b || one_wrong setup rs) ≡ is_some (cond b (Some (i, r)) (first_of (wrong setup) (i + 1) rs))
     go true ih = refl
     go false ih = ih
 
@@ -77,7 +73,7 @@ module _ (panel : Panel) (c : Contact) (lent : Lent) where
     where
       go : (b : Bool) (f : Found)
           → contact_number (contact_judged (cond b (Err NotRecords) (named_wrong f)) panel c lent).contacted.answer
-          ≡ cond b 12 (cond (is_at f) 13 (cond (is_touch_off panel.registers) 9 (cond (off_screen panel.setup c.x c.y) 8 0)))
+          ≡ cond b 12 (cond (is_some f) 13 (cond (is_touch_off panel.registers) 9 (cond (off_screen panel.setup c.x c.y) 8 0)))
       go true f = refl
       go false (Some (i, r)) = refl
       go false None = on_number
@@ -111,7 +107,7 @@ start_as_printed setup table =
   where
     go : (a b : Bool) (f : Found)
         → start_number (cond a (refuses (Err start_error.WrongSetup)) (start_judged (cond b (Err NotRecords) (named_wrong f)) setup)).answer
-        ≡ cond a 11 (cond b 12 (cond (is_at f) 13 0))
+        ≡ cond a 11 (cond b 12 (cond (is_some f) 13 0))
     go true b f = refl
     go false true f = refl
     go false false (Some (i, r)) = refl
