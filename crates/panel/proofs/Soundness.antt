@@ -47,7 +47,7 @@ use Rattle.touch.specs.declared.Record.{Record}
 use Rattle.touch.specs.Record.{slides}
 use Rattle.touch.specs.Judge.{good_record}
 use Rattle.touch.specs.Setup.{flag_values, checking_of, acknowledging_of, good_setup}
-use Rattle.touch.proofs.GoodFields.{left, right}
+use Rattle.wire.proofs.Truths.{and_left, and_right}
 use Rattle.contact.specs.Contact.{Catch}
 use Rattle.contact.specs.Contact.{pad_with, touched, lifted}
 use Rattle.contact.specs.Sound as Pad
@@ -74,7 +74,7 @@ pages_some setup good =
     let f = leb 1 setup.height in
     let g = leb setup.height 768 in
     leb-true 1 setup.pages
-    (right a b (left (a && b) c (left (a && b && c) d (left (a && b && c && d) e (left (a && b && c && d && e) f (left (a && b && c && d && e && f) g good))))))
+    (and_right a b (and_left (a && b) c (and_left (a && b && c) d (and_left (a && b && c && d) e (and_left (a && b && c && d && e) f (and_left (a && b && c && d && e && f) g good))))))
 
 pub new_sound : (setup : Setup) → good_setup setup ≡ true → Sound (new_panel setup)
 unfolding new_panel start_registers start_rows with_rows laid_at page_of register_at
