@@ -18,8 +18,10 @@ fn with_bytes(value: u64, bytes: &[u8]) -> u64 {
 }
 
 // The value with a day of a year more.
-pub fn with_day(value: u64, date: Date) -> u64 {
-    with_bytes(value, &[date.month, date.day, date.weekday()])
+pub fn with_day(value: u64, date: Date) -> u64
+    ensures { result < 2147483647 }
+{
+    with_byte(with_bytes(value, &[date.month, date.day]), date.weekday())
 }
 
 // The value with the seven bytes more that show a moment.

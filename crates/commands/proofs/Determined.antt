@@ -4,6 +4,8 @@ use mathlib.Core.List.{List}
 use Prim.Native.Nat.{ℕ}
 use Rattle.wire.specs.OneAnswer.{OneAnswer, OneAnswerLeft}
 use Rattle.commands.specs.Perform.{Performance}
+use Rattle.commands.proofs.Refusal.number.Reads as refusal_number
+use Rattle.commands.proofs.Refusal.number.Kinds as refusal_number_kinds
 use Rattle.commands.proofs.Said.{nothing_lent}
 use Rattle.commands.proofs.on_curves.counts_left.Reads as counts_left
 use Rattle.commands.proofs.on_curves.counts_left.Kinds as counts_left_kinds
@@ -11,6 +13,9 @@ use Rattle.commands.proofs.on_registers.registers_left.Reads as registers_left
 use Rattle.commands.proofs.on_registers.registers_left.Kinds as registers_left_kinds
 use Rattle.commands.proofs.performing.perform.Reads as perform
 use Rattle.commands.proofs.performing.perform.Kinds as perform_kinds
+
+pub refusal_number_determined : OneAnswer 0 refusal_number_kinds.ps refusal_number_kinds.r refusal_number.Post
+refusal_number_determined κs a x y s t p q = p ∙ sym q
 
 pub registers_left_determined : OneAnswer 1 registers_left_kinds.ps registers_left_kinds.r registers_left.Post
 registers_left_determined κs a x y s t p q = p ∙ sym q

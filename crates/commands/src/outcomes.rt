@@ -1,10 +1,27 @@
 // What an outcome says to those who go on from it, and the one number that both reads share.
 ghost use Rattle.std.specs.Prelude.{◌≡◌, ◌≤◌, cond, IfOk};
 ghost use Rattle.frame.specs.Frame.{most_data};
-ghost use Rattle.commands.specs.Outcome.{reply_too_long};
+ghost use Rattle.commands.specs.Outcome.{number_of_outcome, reply_too_long};
 ghost use Rattle.commands.specs.Effect.{answered};
 
 use crate::{Performed, Refusal};
+
+impl Refusal {
+    // 01's number.
+    #[tactic(auto, unfolding(crate::specs::Outcome::number_of_outcome))]
+    pub fn number(self) -> u8
+        ensures { result ≡ number_of_outcome (Err self) }
+    {
+        match self {
+            Refusal::UnknownCommand => 2,
+            Refusal::WrongData => 3,
+            Refusal::PastEnd => 4,
+            Refusal::Unwritable => 5,
+            Refusal::WrongValue => 6,
+            Refusal::ReplyTooLong => 7,
+        }
+    }
+}
 
 // Registers, catch and curves stay, and nothing is noted.
 pub(crate) fn answer(outcome: Result<(), Refusal>, replied: usize) -> Performed

@@ -9,7 +9,7 @@
 #![tactic(auto)]
 
 use frame::{Header, LONGEST_FRAME, MOST_PAYLOAD};
-use line::{Answer, Reader, Report};
+use line::{Reader, Report, Waiting};
 use std::io::{self, BufReader, BufWriter, Read, Write};
 
 // More bytes than a chunk has.
@@ -44,28 +44,25 @@ fn put_hex<W: Write>(out: &mut W, bytes: &[u8]) -> io::Result<()> {
     Ok(())
 }
 
-// Prints a report; answers whether there was one.
 fn put_report<W: Write>(
     out: &mut W,
     report: Report,
     payload: &[u8; MOST_PAYLOAD],
-) -> io::Result<bool> {
+) -> io::Result<()> {
     match report {
         Report::Accepted { command, len } => {
             write!(out, "F {command:02X}")?;
             put_hex(out, &payload[..len.min(MOST_PAYLOAD)])?;
-            writeln!(out)?;
+            writeln!(out)
         }
-        Report::BadCheck(command) => writeln!(out, "B {command:02X}")?,
-        Report::Nothing => return Ok(false),
+        Report::BadCheck(command) => writeln!(out, "B {command:02X}"),
     }
-    Ok(true)
 }
 
-fn put_answer<W: Write>(out: &mut W, answer: Answer) -> io::Result<()> {
+fn put_answer<W: Write>(out: &mut W, answer: Result<(), Waiting>) -> io::Result<()> {
     match answer {
-        Answer::Done => Ok(()),
-        Answer::Waits => writeln!(out, "1"),
+        Ok(()) => Ok(()),
+        Err(Waiting::ReportWaits) => writeln!(out, "1"),
     }
 }
 
@@ -138,9 +135,10 @@ impl Cases {
         for _ in 0..=LONGEST_FRAME {
             let asked = self.reader.ask();
             self.reader = asked.reader;
-            if !put_report(out, asked.report, &asked.payload)? {
+            let Some(report) = asked.report else {
                 break;
-            }
+            };
+            put_report(out, report, &asked.payload)?;
         }
         Ok(())
     }

@@ -7,6 +7,14 @@ use Rattle.watch.specs.declared.WatchList.{WatchList}
 use Rattle.watch.specs.Watched.{with_sent}
 use Rattle.panel.specs.Reporting.{Reporting}
 use Rattle.panel.specs.Contacts.{Contacting}
+use Rattle.panel.proofs.StartError.number.Reads as start_error_number
+use Rattle.panel.proofs.StartError.number.Kinds as start_error_number_kinds
+use Rattle.panel.proofs.LentError.number.Reads as lent_error_number
+use Rattle.panel.proofs.LentError.number.Kinds as lent_error_number_kinds
+use Rattle.panel.proofs.ContactError.number.Reads as contact_error_number
+use Rattle.panel.proofs.ContactError.number.Kinds as contact_error_number_kinds
+use Rattle.panel.proofs.LiftError.number.Reads as lift_error_number
+use Rattle.panel.proofs.LiftError.number.Kinds as lift_error_number_kinds
 use Rattle.panel.proofs.Panel.report.Reads as report
 use Rattle.panel.proofs.Panel.report.Kinds as report_kinds
 use Rattle.panel.proofs.Panel.contact.Reads as contact
@@ -51,13 +59,12 @@ pub report_determined :
     OneAnswerLeft 6 report_kinds.ps report_kinds.r report.Post {B = List ℕ × (List ℕ × (List ℕ × WatchList))}
     (λ κs s. (s.1.0.now, (s.1.1.0.now, (s.1.1.1.0.now, s.1.1.1.1.0.now))))
 report_determined κs a x y s t p q =
-    let both = p.0 ∙ sym q.0 in
-    (
+    let both = p.0 ∙ sym q.0 in (
       ap (λ (d : Reporting). d.reported) both,
       pair _ _ _ _ (ap (λ (d : Reporting). d.lent.words) both)
-      (pair _ _ _ _ (ap (λ (d : Reporting). d.lent.curves) both)
-      (pair _ _ _ _ (ap (λ (d : Reporting). d.lent.room) both)
-      (sent_alike a.1.1.1.1.0.now s.1.1.1.1.0.now t.1.1.1.1.0.now p.1.0 q.1.0 (ap (λ (d : Reporting). d.lent.watched.values) both)))),
+          (pair _ _ _ _ (ap (λ (d : Reporting). d.lent.curves) both)
+          (pair _ _ _ _ (ap (λ (d : Reporting). d.lent.room) both)
+          (sent_alike a.1.1.1.1.0.now s.1.1.1.1.0.now t.1.1.1.1.0.now p.1.0 q.1.0 (ap (λ (d : Reporting). d.lent.watched.values) both)))),
     )
 
 -- of a contact the curve area, which it is not lent, may be taken to be empty
@@ -65,12 +72,11 @@ pub contact_determined :
     OneAnswerLeft 6 contact_kinds.ps contact_kinds.r contact.Post {B = List ℕ × (List ℕ × WatchList)}
     (λ κs s. (s.1.1.0.now, (s.1.1.1.0.now, s.1.1.1.1.0.now)))
 contact_determined κs a x y s t p q =
-    let both = p.0 [] ∙ sym (q.0 []) in
-    (
+    let both = p.0 [] ∙ sym (q.0 []) in (
       ap (λ (d : Contacting). d.contacted) both,
       pair _ _ _ _ (ap (λ (d : Contacting). d.lent.words) both)
-      (pair _ _ _ _ (ap (λ (d : Contacting). d.lent.room) both)
-      (sent_alike a.1.1.1.1.0.now s.1.1.1.1.0.now t.1.1.1.1.0.now p.1.0 q.1.0 (ap (λ (d : Contacting). d.lent.watched.values) both))),
+          (pair _ _ _ _ (ap (λ (d : Contacting). d.lent.room) both)
+          (sent_alike a.1.1.1.1.0.now s.1.1.1.1.0.now t.1.1.1.1.0.now p.1.0 q.1.0 (ap (λ (d : Contacting). d.lent.watched.values) both))),
     )
 
 pub curve_count_determined : OneAnswer 0 curve_count_kinds.ps curve_count_kinds.r curve_count.Post
@@ -111,3 +117,15 @@ lift_determined κs a x y s t p q = p.0 ∙ sym q.0
 
 pub is_waiting_determined : OneAnswer 0 is_waiting_kinds.ps is_waiting_kinds.r is_waiting.Post
 is_waiting_determined κs a x y s t p q = p ∙ sym q
+
+pub starterror_number_determined : OneAnswer 0 start_error_number_kinds.ps start_error_number_kinds.r start_error_number.Post
+starterror_number_determined κs a x y s t p q = p ∙ sym q
+
+pub lenterror_number_determined : OneAnswer 0 lent_error_number_kinds.ps lent_error_number_kinds.r lent_error_number.Post
+lenterror_number_determined κs a x y s t p q = p ∙ sym q
+
+pub contacterror_number_determined : OneAnswer 0 contact_error_number_kinds.ps contact_error_number_kinds.r contact_error_number.Post
+contacterror_number_determined κs a x y s t p q = p ∙ sym q
+
+pub lifterror_number_determined : OneAnswer 0 lift_error_number_kinds.ps lift_error_number_kinds.r lift_error_number.Post
+lifterror_number_determined κs a x y s t p q = p ∙ sym q

@@ -18,7 +18,7 @@ use crate::{Effected, Handed, HandedOver, LentError, Panel, Reported, starting, 
 use commands::Fixed;
 use curves::{CURVE_WORDS, Counts};
 use frame::{LEAST_ROOM, MOST_PAYLOAD};
-use line::Report;
+use line::{Asked, Report};
 use touch::{Record, Setup};
 use watch::WatchList;
 use wire::WORD_COUNT;
@@ -43,7 +43,7 @@ impl Panel {
         let asked = self.reader.ask();
         // a local of their own: to lend a part of self copies all of self
         let mut registers = self.registers;
-        let done = hand_over(self.setup, &registers.bytes, asked.report, &asked.payload, words, room);
+        let done = hand_over(self.setup, &registers.bytes, &asked, words, room);
         let content = &asked.payload[..content_length(asked.report)];
         let counts = draw(done.writes, done.adds, self.counts, content, curves);
         watching::note(done.notes, content, words, list);
@@ -218,15 +218,13 @@ fn draw(writes: bool, adds: bool, counts: Counts, content: &[u8], area: &mut [u1
 fn hand_over(
     setup: Setup,
     registers: &[u8],
-    report: Option<Report>,
-    payload: &[u8],
+    asked: &Asked,
     words: &mut [u16],
     room: &mut [u8],
 ) -> HandedOver
-    requires { length payload.now ≡ most_payload }
-    ensures { (rest : Lent) → overs result (with_words_room rest words.new room.new) ≡ handing_over setup (holding registers.now) report payload.now (with_words_room rest words.old room.old) }
+    ensures { (rest : Lent) → overs result (with_words_room rest words.new room.new) ≡ handing_over setup (holding registers.now) asked.now.report asked.now.payload (with_words_room rest words.old room.old) }
 {
-    let Some(report) = report else {
+    let Some(report) = asked.report else {
         return only(None);
     };
     match report {
@@ -235,8 +233,12 @@ fn hand_over(
             only(Some(Handed::BadCheck(command, acknowledged)))
         }
         Report::Accepted { command, len } => {
-            let content = &payload[..len.min(MOST_PAYLOAD)];
-            accepted(command, len, accept(setup, registers, command, content, words, room))
+            let content = &asked.payload[..len.min(MOST_PAYLOAD)];
+            accepted(
+                command,
+                len,
+                accept(setup, registers, command, content, words, room),
+            )
         }
     }
 }

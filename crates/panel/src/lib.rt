@@ -10,6 +10,7 @@ use touch::{Record, Setup};
 
 mod asking; // asking for a report
 mod giving; // line bytes, quiet marks and seconds
+mod numbers; // 01's number of each refusal
 mod showing; // what the display board reads
 mod starting; // starting a panel
 mod touching; // contact and lift

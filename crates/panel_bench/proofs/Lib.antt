@@ -1,4 +1,3 @@
-pub mod Weights
 pub mod Asks
 pub mod Streaming
 pub mod Determined

@@ -2,7 +2,7 @@
 // the work was done.
 #![tactic(auto)]
 
-ghost use Rattle.std.specs.Prelude.{◌≡◌, min, slice_index};
+ghost use Rattle.std.specs.Prelude.{◌≡◌};
 ghost use Rattle.watch.specs.Watched.{none_watched};
 ghost use Rattle.commands.specs.Lent.{lending};
 ghost use Rattle.panel.specs.Reporting.{enough, reports, reporting};
@@ -12,37 +12,33 @@ ghost use Rattle.panel_bench.specs.Inner.{Ready, flow};
 
 use curves::CURVE_WORDS;
 use frame::LEAST_ROOM;
-use panel::{Handed, Panel, Reported};
+use panel::{Handed, LentError, Panel, Reported};
 use touch::Setup;
+use watch::WatchList;
 use wire::WORD_COUNT;
 
+// How many bytes are given at once.
+const PIECE: usize = 4096;
+
 // What one report adds to the sum.
-fn weight(handed: Handed) -> u64
+#[tactic(auto, unfolding(crate::specs::Stream::weight_of))]
+fn weight(handed: Result<Option<Handed>, LentError>) -> u64
     ensures { result ≡ wrapped (weight_of handed) }
 {
     match handed {
-        Handed::NotLent => 0,
-        Handed::WrongList => 0,
-        Handed::Nothing => 0,
-        Handed::BadCheck(command, _) => command as u64,
-        Handed::Accepted {
-            command,
-            count,
-            outcome: _,
-            acknowledged: _,
-            replied,
-        } => std::num::wrapping_add_u64(
-            command as u64,
-            std::num::wrapping_add_u64(count as u64, replied as u64),
-        ),
+        Err(_) | Ok(None) => 0,
+        Ok(Some(Handed::BadCheck(command, _))) => u64::from(command),
+        Ok(
+            Some(
+                Handed::Accepted {
+                    command,
+                    count,
+                    replied,
+                    ..
+                },
+            ),
+        ) => u64::from(command).wrapping_add((count as u64).wrapping_add(replied as u64)),
     }
-}
-
-// The smaller of two.
-fn least(a: usize, b: usize) -> usize
-    ensures { result ≡ min a b }
-{
-    if a < b { a } else { b }
 }
 
 // Header 5A A5 and checking on; the rest is as small as it may be.
@@ -60,27 +56,24 @@ fn bench_setup() -> Setup
 }
 
 // Words, curve area and room are what the panel asks for; otherwise no report is ever handed over.
+// The panel's own test is private to its crate; asked first here, it keeps refusals out of the loop.
+#[tactic(auto, unfolding(panel::specs::Reporting::enough))]
 fn is_lent(words: usize, curves: usize, room: usize) -> bool
     ensures { result ≡ enough words curves room }
 {
-    (words == WORD_COUNT) & (curves == CURVE_WORDS) & (LEAST_ROOM <= room)
-}
-
-// The first byte, 0 where there is none. It is read for what the prover is told of a slice that is read: that all in it are bytes.
-fn first_of(s: &[u8]) -> u8
-    ensures { (result ≡ slice_index s.now 0) × Bytes s.now }
-{
-    if 0 < s.len() { s[0] } else { 0 }
+    words == WORD_COUNT && curves == CURVE_WORDS && LEAST_ROOM <= room
 }
 
 // Asks for a report. No words are watched.
 fn ask(panel: Panel, words: &mut [u16], curves: &mut [u16], room: &mut [u8]) -> Reported
     ensures { reports result (lending words.new curves.new room.new none_watched) ≡ reporting panel (lending words.old curves.old room.old none_watched) }
 {
-    let addresses = [0u16; 0];
-    let uses = [0u8; 0];
-    let mut values = [0u16; 0];
-    panel.report(words, curves, room, &addresses, &uses, &mut values)
+    let mut list = WatchList {
+        addresses: &[],
+        uses: &[],
+        values: &mut [],
+    };
+    panel.report(words, curves, room, &mut list)
 }
 
 // Gives the bytes to the panel and asks for each report as soon as it waits.
@@ -96,23 +89,18 @@ fn stream_on(
 {
     let mut panel = started;
     let mut sum = 0u64;
-    let mut i = 0usize;
+    let mut rest = input;
     loop {
         if panel.is_waiting() {
             let reported = ask(panel, words, curves, room);
-            let handed = reported.handed;
-            sum = std::num::wrapping_add_u64(sum, weight(handed));
-            let next = reported.panel;
-            panel = next;
+            sum = sum.wrapping_add(weight(reported.handed));
+            panel = reported.panel;
+        } else if rest.is_empty() {
+            return sum;
         } else {
-            let left = input.len() - i;
-            if left == 0 {
-                return sum;
-            }
-            let fed = panel.give_bytes(&input[i..i + least(4096, left)]);
-            let next = fed.panel;
-            panel = next;
-            i += fed.used;
+            let fed = panel.give_bytes(&rest[..rest.len().min(PIECE)]);
+            panel = fed.panel;
+            rest = &rest[fed.used..];
         }
     }
 }
@@ -130,8 +118,6 @@ pub extern "C" fn panel_bench_stream(
     if !is_lent(words.len(), curves.len(), room.len()) {
         return 0;
     }
-    first_of(input);
-    let start = Panel::start(bench_setup(), &input[0..0]);
-    let panel = start.panel;
-    stream_on(input, panel, words, curves, room)
+    let started = Panel::start(bench_setup(), &[]);
+    stream_on(input, started.panel, words, curves, room)
 }

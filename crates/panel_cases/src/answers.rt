@@ -1,57 +1,61 @@
 // Writing what a call answers, by 01's numbers.
 use crate::say::{bytes, part};
-use commands::Outcome;
-use line::Answer;
-use panel::{ContactAnswer, Handed, LiftAnswer, Reported, StartAnswer};
+use commands::Refusal;
+use line::Waiting;
+use panel::{ContactError, Handed, LentError, LiftError, Reported, StartError};
 use std::io::{self, Write};
 
-pub fn say_start<W: Write>(out: &mut W, a: StartAnswer) -> io::Result<()> {
-    match a {
-        StartAnswer::Started => writeln!(out, "S 0"),
-        StartAnswer::WrongSetup => writeln!(out, "S 11"),
-        StartAnswer::NotRecords => writeln!(out, "S 12"),
-        StartAnswer::WrongRecord(i) => writeln!(out, "S 13 {i}"),
+pub fn say_start<W: Write>(out: &mut W, answer: Result<(), StartError>) -> io::Result<()> {
+    match answer {
+        Ok(()) => writeln!(out, "S 0"),
+        Err(StartError::WrongSetup) => writeln!(out, "S 11"),
+        Err(StartError::NotRecords) => writeln!(out, "S 12"),
+        Err(StartError::WrongRecord(i)) => writeln!(out, "S 13 {i}"),
     }
 }
 
 // An input by its letter, and what it is answered.
-pub fn say_input<W: Write>(out: &mut W, letter: &str, a: Answer) -> io::Result<()> {
-    match a {
-        Answer::Done => writeln!(out, "{letter} 0"),
-        Answer::Waits => writeln!(out, "{letter} 1"),
+pub fn say_input<W: Write>(
+    out: &mut W,
+    letter: &str,
+    answer: Result<(), Waiting>,
+) -> io::Result<()> {
+    match answer {
+        Ok(()) => writeln!(out, "{letter} 0"),
+        Err(Waiting::ReportWaits) => writeln!(out, "{letter} 1"),
     }
 }
 
-pub fn say_lift<W: Write>(out: &mut W, a: LiftAnswer) -> io::Result<()> {
-    match a {
-        LiftAnswer::Done => writeln!(out, "U 0"),
-        LiftAnswer::Waits => writeln!(out, "U 1"),
-        LiftAnswer::IsUp => writeln!(out, "U 10"),
+pub fn say_lift<W: Write>(out: &mut W, answer: Result<(), LiftError>) -> io::Result<()> {
+    match answer {
+        Ok(()) => writeln!(out, "U 0"),
+        Err(LiftError::Waits) => writeln!(out, "U 1"),
+        Err(LiftError::IsUp) => writeln!(out, "U 10"),
     }
 }
 
-fn say_contact<W: Write>(out: &mut W, a: ContactAnswer) -> io::Result<()> {
-    match a {
-        ContactAnswer::Done => write!(out, "C 0"),
-        ContactAnswer::NotLent => write!(out, "C 14"),
-        ContactAnswer::WrongList => write!(out, "C 16"),
-        ContactAnswer::Waits => write!(out, "C 1"),
-        ContactAnswer::NotRecords => write!(out, "C 12"),
-        ContactAnswer::WrongRecord(i) => write!(out, "C 13 {i}"),
-        ContactAnswer::TouchOff => write!(out, "C 9"),
-        ContactAnswer::OffScreen => write!(out, "C 8"),
+fn say_contact<W: Write>(out: &mut W, answer: Result<(), ContactError>) -> io::Result<()> {
+    match answer {
+        Ok(()) => write!(out, "C 0"),
+        Err(ContactError::NotLent) => write!(out, "C 14"),
+        Err(ContactError::WrongList) => write!(out, "C 16"),
+        Err(ContactError::Waits) => write!(out, "C 1"),
+        Err(ContactError::NotRecords) => write!(out, "C 12"),
+        Err(ContactError::WrongRecord(i)) => write!(out, "C 13 {i}"),
+        Err(ContactError::TouchOff) => write!(out, "C 9"),
+        Err(ContactError::OffScreen) => write!(out, "C 8"),
     }
 }
 
-fn number_of(o: Outcome) -> usize {
-    match o {
-        Outcome::Done => 0,
-        Outcome::UnknownCommand => 2,
-        Outcome::WrongData => 3,
-        Outcome::PastEnd => 4,
-        Outcome::Unwritable => 5,
-        Outcome::WrongValue => 6,
-        Outcome::ReplyTooLong => 7,
+fn number_of(outcome: Result<(), Refusal>) -> usize {
+    match outcome {
+        Ok(()) => 0,
+        Err(Refusal::UnknownCommand) => 2,
+        Err(Refusal::WrongData) => 3,
+        Err(Refusal::PastEnd) => 4,
+        Err(Refusal::Unwritable) => 5,
+        Err(Refusal::WrongValue) => 6,
+        Err(Refusal::ReplyTooLong) => 7,
     }
 }
 
@@ -59,20 +63,24 @@ fn number_of(o: Outcome) -> usize {
 pub fn say_reported<W: Write>(out: &mut W, reported: &Reported, room: &[u8]) -> io::Result<()> {
     write!(out, "? ")?;
     match reported.handed {
-        Handed::NotLent => write!(out, "14"),
-        Handed::WrongList => write!(out, "16"),
-        Handed::Nothing => write!(out, "nothing"),
-        Handed::BadCheck(command, acknowledged) => {
+        Err(LentError::NotLent) => write!(out, "14"),
+        Err(LentError::WrongList) => write!(out, "16"),
+        Ok(None) => write!(out, "nothing"),
+        Ok(Some(Handed::BadCheck(command, acknowledged))) => {
             let acknowledgement = bytes(part(room, 0, acknowledged));
             write!(out, "B {command:02x} acknowledgement{acknowledgement}")
         }
-        Handed::Accepted {
-            command,
-            count,
-            outcome,
-            acknowledged,
-            replied,
-        } => {
+        Ok(
+            Some(
+                Handed::Accepted {
+                    command,
+                    count,
+                    outcome,
+                    acknowledged,
+                    replied,
+                },
+            ),
+        ) => {
             let number = number_of(outcome);
             let given = bytes(part(&reported.payload, 0, count));
             write!(out, "F {command:02x} {number} data{given}")?;
@@ -86,10 +94,10 @@ pub fn say_reported<W: Write>(out: &mut W, reported: &Reported, room: &[u8]) -> 
 // A contact, and the unasked reply that it wrote to the room.
 pub fn say_contacted<W: Write>(
     out: &mut W,
-    a: ContactAnswer,
+    answer: Result<(), ContactError>,
     room: &[u8],
     written: usize,
 ) -> io::Result<()> {
-    say_contact(out, a)?;
+    say_contact(out, answer)?;
     write!(out, " written {written}{}", bytes(part(room, 0, written)))
 }

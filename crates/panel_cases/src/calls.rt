@@ -1,7 +1,9 @@
 // The panel's calls.
 use crate::{Bench, answers, say, script, sums};
-use panel::{Panel, StartAnswer};
+use panel::Panel;
 use std::io::{self, Read, Write};
+use touch::Point;
+use watch::WatchList;
 
 // How many bytes may be given at once.
 const PIECE: usize = 4096;
@@ -11,7 +13,7 @@ impl Bench {
     pub fn start<R: Read, W: Write>(&mut self, script: &mut R, out: &mut W) -> io::Result<()> {
         let setup = script::next_setup(script)?;
         let started = Panel::start(setup, self.table.part());
-        if let StartAnswer::Started = started.answer {
+        if started.answer.is_ok() {
             self.panel = started.panel;
         }
         answers::say_start(out, started.answer)
@@ -52,9 +54,11 @@ impl Bench {
             self.words.part_mut(),
             self.curves.part_mut(),
             self.room.part_mut(),
-            self.addresses.part(),
-            self.uses.part(),
-            self.values.part_mut(),
+            &mut WatchList {
+                addresses: self.addresses.part(),
+                uses: self.uses.part(),
+                values: self.values.part_mut(),
+            },
         );
         self.panel = reported.panel;
         answers::say_reported(out, &reported, &self.room.all)?;
@@ -62,17 +66,20 @@ impl Bench {
     }
 
     pub fn contact<R: Read, W: Write>(&mut self, script: &mut R, out: &mut W) -> io::Result<()> {
-        let x = script::next_word(script)?;
-        let y = script::next_word(script)?;
+        let point = Point {
+            x: script::next_word(script)?,
+            y: script::next_word(script)?,
+        };
         let contacted = self.panel.contact(
             self.table.part(),
             self.words.part_mut(),
             self.room.part_mut(),
-            self.addresses.part(),
-            self.uses.part(),
-            self.values.part_mut(),
-            x,
-            y,
+            &mut WatchList {
+                addresses: self.addresses.part(),
+                uses: self.uses.part(),
+                values: self.values.part_mut(),
+            },
+            point,
         );
         self.panel = contacted.panel;
         answers::say_contacted(out, contacted.answer, &self.room.all, contacted.written)?;
