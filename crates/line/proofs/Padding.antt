@@ -6,7 +6,7 @@ use native.Mathlib.Nat.{sub-zero}
 use native.Mathlib.Omega.{arith}
 use lib.ListN.{length, take, drop, set, replicate, length-append, length-replicate}
 use native.Mathlib.Numerals.{add-one}
-use lib.Seq.{take_at, drop_at, set_split, drop-drop, take-nil}
+use lib.Seq.{take_at, drop_at, set_split, drop-drop, take-nil, take-length}
 use Rattle.line.specs.State.{padded}
 
 pub drop_take : (k n : ℕ) (l : List ℕ) → drop k (take n l) ≡ take (n - k) (drop k l)
@@ -57,6 +57,10 @@ unfolding padded
 copied_empty size xs out to empty is =
     let z : size - 0 - length xs ≡ size - length xs = omega arith in
     is ∙ rw (empty, drop_zeros (length xs) (size - 0), z)
+
+-- bytes laid over the front of an empty array
+pub laid_empty : (size : ℕ) (xs out to : List ℕ) → out ≡ padded size [] → to ≡ take (length xs) xs ++ drop (length xs) out → to ≡ padded size xs
+laid_empty size xs out to empty is = copied_empty size xs out to empty (is ∙ rw (take-length xs))
 
 -- bytes laid behind those that an array holds
 pub laid_behind : (size n : ℕ) (xs ys : List ℕ) → length xs ≡ n

@@ -1,5 +1,5 @@
 -- Laws of text laid over a room: that it fits, and one text behind another.
-use Rattle.std.specs.Prelude.{None, Some, Ok, Err}
+use Rattle.std.specs.Prelude.{Option, None, Some, Ok, Err}
 use mathlib.Core.Path.{◌≡◌, sym, ap, ◌∙◌}
 use mathlib.Core.List.{List, [], ◌++◌}
 use Prim.Native.Nat.{ℕ, ◌+◌, ◌-◌, ◌≤◌}
@@ -18,6 +18,8 @@ use Rattle.commands.specs.Outcome.{Outcome}
 use Rattle.commands.specs.Outcome as Outcome
 use Rattle.panel.specs.Answers.{AskAnswer}
 use Rattle.panel.specs.declared.Handed.TheVariants as handed
+use Rattle.panel.specs.declared.Handed.{Handed}
+use Rattle.panel.specs.declared.LentError.{LentError}
 use Rattle.panel.specs.declared.LentError.TheVariants as lent_error
 use Rattle.text.specs.declared.Line.{Line}
 use Rattle.text.specs.Text.{line_text, written_text}
@@ -117,41 +119,36 @@ empty_printed : (room : List ℕ) → lays 0 room ≡ prints [] room
 empty_printed room = ap (λ (l : List ℕ). lays 0 l) (sym (over_nil room))
 
 module _ (h : AskAnswer) (reply room : List ℕ) where
-  pub not_lent_printed : h ≡ Err lent_error.NotLent → lays 0 room ≡ prints (report_text h reply) room
+  pub refused_printed : (why : LentError) → h ≡ Err why → lays 0 room ≡ prints (report_text h reply) room
   unfolding report_text
-  not_lent_printed is = empty_printed room ∙ ap (λ (x : AskAnswer). prints (report_text x reply) room) (sym is)
+  refused_printed lent_error.NotLent is = rw is (empty_printed room)
+  refused_printed lent_error.WrongList is = rw is (empty_printed room)
 
-  pub wrong_list_printed : h ≡ Err lent_error.WrongList → lays 0 room ≡ prints (report_text h reply) room
+  pub nothing_printed : (report : Option Handed) → h ≡ Ok report → report ≡ None → lays 0 room ≡ prints (report_text h reply) room
   unfolding report_text
-  wrong_list_printed is = empty_printed room ∙ ap (λ (x : AskAnswer). prints (report_text x reply) room) (sym is)
+  nothing_printed report is none = rw (is, none) (empty_printed room)
 
-  pub nothing_printed : h ≡ Ok None → lays 0 room ≡ prints (report_text h reply) room
-  unfolding report_text
-  nothing_printed is = empty_printed room ∙ ap (λ (x : AskAnswer). prints (report_text x reply) room) (sym is)
+module _ (h : AskAnswer) (report : Option Handed) (one : Handed) (is : h ≡ Ok report) (some : report ≡ Some one) where
+  module _ (command a : ℕ) (bad : one ≡ handed.BadCheck command a) where
+    pub bad_short : acknowledged_by h ≤ acknowledgement_bytes → a ≤ acknowledgement_bytes
+    unfolding acknowledged_by
+    bad_short short = rw (is, some, bad) at short
 
-  module _ (command a k : ℕ) (left : List ℕ) where
-    pub bad_printed : h ≡ Ok (Some (handed.BadCheck command a)) → lays k left ≡ prints (line_text (line.BadCheck command) ++ frames_text a 0 reply) room
+    pub bad_printed : (k : ℕ) (reply room left : List ℕ) → lays k left ≡ prints (line_text (line.BadCheck command) ++ frames_text a 0 reply) room
         → lays k left ≡ prints (report_text h reply) room
     unfolding report_text
-    bad_printed is e = e ∙ ap (λ (x : AskAnswer). prints (report_text x reply) room) (sym is)
+    bad_printed k reply room left e = rw (is, some, bad) e
 
-    module _ (count r n : ℕ) (outcome : Outcome) where
-      pub accepted_printed : h ≡ Ok (Some (handed.Accepted command count outcome a r)) → n ≡ Outcome.number_of_outcome outcome
-          → lays k left ≡ prints (line_text (line.Frame command n) ++ frames_text a r reply) room → lays k left ≡ prints (report_text h reply) room
-      unfolding report_text
-      accepted_printed is is-n e =
-          e ∙ ap (λ (i : ℕ). prints (line_text (line.Frame command i) ++ frames_text a r reply) room) is-n ∙ ap (λ (x : AskAnswer). prints (report_text x reply) room) (sym is)
+  module _ (command count a r : ℕ) (outcome : Outcome) (good : one ≡ handed.Accepted command count outcome a r) where
+    pub accepted_short : acknowledged_by h ≤ acknowledgement_bytes → a ≤ acknowledgement_bytes
+    unfolding acknowledged_by
+    accepted_short short = rw (is, some, good) at short
 
-module _ (h : AskAnswer) (command a : ℕ) (is : h ≡ Ok (Some (handed.BadCheck command a))) (short : acknowledged_by h ≤ acknowledgement_bytes) where
-  pub bad_short : a ≤ acknowledgement_bytes
-  unfolding acknowledged_by
-  bad_short = rw is at short
+    pub accepted_brief : replied_by h ≤ longest_frame → r ≤ longest_frame
+    unfolding replied_by
+    accepted_brief brief = rw (is, some, good) at brief
 
-module _ (h : AskAnswer) (command count a r : ℕ) (outcome : Outcome) (is : h ≡ Ok (Some (handed.Accepted command count outcome a r))) where
-  pub accepted_short : acknowledged_by h ≤ acknowledgement_bytes → a ≤ acknowledgement_bytes
-  unfolding acknowledged_by
-  accepted_short short = rw is at short
-
-  pub accepted_brief : replied_by h ≤ longest_frame → r ≤ longest_frame
-  unfolding replied_by
-  accepted_brief brief = rw is at brief
+    pub accepted_printed : (n k : ℕ) (reply room left : List ℕ) → n ≡ Outcome.number_of_outcome outcome
+        → lays k left ≡ prints (line_text (line.Frame command n) ++ frames_text a r reply) room → lays k left ≡ prints (report_text h reply) room
+    unfolding report_text
+    accepted_printed n k reply room left number e = rw (is, some, good) (rw number at e)

@@ -1,9 +1,12 @@
 -- Laws of events and reports: one for each way the code answers.
-use mathlib.Core.Path.{◌≡◌, sym, ap, ◌∙◌}
+use mathlib.Core.Path.{◌≡◌, refl, sym, ap, ◌∙◌}
 use mathlib.Core.List.{List, []}
 use Prim.Native.Nat.{ℕ, ◌≤◌, ◌<◌}
+use native.Mathlib.Omega.{arith}
 use borrow.Author.Tests.{ne_eqb, le-leb, lt-leb}
 use lib.ListN.{length, get_or}
+use Rattle.std.specs.Prelude.{replicate}
+use Rattle.frame.specs.Writer.{least_room}
 use Rattle.wire.specs.ByteOrder.{word_at}
 use Rattle.wire.specs.Room.{Laid, lays}
 use Rattle.wire.proofs.Over.{over_nil}
@@ -19,7 +22,10 @@ use Rattle.panel.specs.Reporting.{Reporting, reports, reporting}
 use Rattle.text.specs.declared.Line.TheVariants as line
 use Rattle.text.specs.Text.{line_text}
 use Rattle.telling.specs.declared.PanelPrinted.{PanelPrinted}
-use Rattle.telling.specs.Inner.{prints}
+use Rattle.items.specs.declared.Kind.{Kind}
+use Rattle.items.specs.declared.Kind.TheVariants as kinds
+use Rattle.items.specs.KindBytes.{number_of}
+use Rattle.telling.specs.Inner.{prints, quietly}
 use Rattle.telling.specs.Told.{Told, tells, leaves_panel, panel_printing, least_text, printed_in}
 use Rattle.telling.specs.Lines.{report_text}
 use Rattle.telling.specs.Events.{touch_text, contact_told, lift_told, event, reply_room, asked_once}
@@ -49,12 +55,12 @@ module _ (panel : Panel) (room left : List ℕ) (n k : ℕ) (is-text : lays k le
         is-text ∙ ap (λ (i : ℕ). prints (line_text (line.Touch i)) room) is-n
         ∙ ap (λ (d : Lifted). prints (line_text (line.Touch (lift_number d.answer))) room) is_done_lem
 
-  module _ (table words words' curves reply reply' : List ℕ) (watched : Watched) (x y : ℕ) (done : Contacted) (is-reply : reply ≡ reply_room)
+  module _ (table words words' curves reply reply' : List ℕ) (watched : Watched) (x y : ℕ) (done : Contacted) (is-reply : reply ≡ replicate least_room 0)
       (is_done_lem : contacts done (lending words' curves reply' watched) ≡ contacting panel (contact_at table x y) (lending words curves reply none_watched))
       (is-n : n ≡ contact_number done.answer) where
     pub contact_printed : leaves_panel (record { panel = done.panel; count = k }) (remembering words' curves) left
         ≡ panel_printing (contact_told panel (contact_at table x y) (remembering words curves)) room
-    unfolding contact_told touch_text
+    unfolding contact_told touch_text reply_room
     contact_printed =
         told_left done.panel (remembering words' curves) (line_text (line.Touch n)) room left k is-text
         ∙ ap (λ (i : ℕ). panel_printing (tells done.panel (remembering words' curves) (line_text (line.Touch i))) room) is-n
@@ -63,10 +69,10 @@ module _ (panel : Panel) (room left : List ℕ) (n k : ℕ) (is-text : lays k le
 pub lift_left : (panel : Panel) (done : Lifted) → done ≡ lifting panel → done.panel ≡ (lifting panel).panel
 lift_left panel done is = ap (λ (d : Lifted). d.panel) is
 
-pub report_printed : (panel : Panel) (words words' curves curves' reply reply' room left : List ℕ) (watched : Watched) (k : ℕ) (done : Reported) → reply ≡ reply_room
+pub report_printed : (panel : Panel) (words words' curves curves' reply reply' room left : List ℕ) (watched : Watched) (k : ℕ) (done : Reported) → reply ≡ replicate least_room 0
     → reports done (lending words' curves' reply' watched) ≡ reporting panel (lending words curves reply none_watched) → lays k left ≡ prints (report_text done.handed reply') room
     → leaves_panel (record { panel = done.panel; count = k }) (remembering words' curves') left ≡ panel_printing (asked_once panel (remembering words curves)) room
-unfolding asked_once
+unfolding asked_once reply_room
 report_printed panel words words' curves curves' reply reply' room left watched k done is-reply is_done_lem is-text =
     told_left done.panel (remembering words' curves') (report_text done.handed reply') room left k is-text
     ∙ ap (λ (r : Reporting). panel_printing (tells r.reported.panel (memory_of r.lent) (report_text r.reported.handed r.lent.room)) room) (rw is-reply at is_done_lem)
@@ -77,38 +83,58 @@ quiet_left : (next : Panel) (memory : Memory) (room : List ℕ) → leaves_panel
 quiet_left next memory room = ap (λ (l : List ℕ). leaves_panel (record { panel = next; count = 0 }) memory l) (sym (over_nil room))
 
 module _ (panel : Panel) (item table room words : List ℕ) where
-  pub event_byte : (next : Panel) → get_or item 0 0 ≡ 1 → next ≡ (fed_byte panel (get_or item 1 0)).panel → (curves : List ℕ)
-      → leaves_panel (record { panel = next; count = 0 }) (remembering words curves) room ≡ panel_printing (event panel table (remembering words curves) item) room
-  unfolding event
-  event_byte next is-kind is_next curves = rw is-kind (rw (← is_next) (quiet_left next (remembering words curves) room))
-
-  module _ (not-1 : get_or item 0 0 ≡ 1 → ⊥) where
-    pub event_mark : (next : Panel) → get_or item 0 0 ≡ 2 → next ≡ (fed_mark panel).panel → (curves : List ℕ)
-        → leaves_panel (record { panel = next; count = 0 }) (remembering words curves) room ≡ panel_printing (event panel table (remembering words curves) item) room
+  -- an item that is an event of some kind
+  module _ (kind : Kind) (number : number_of kind ≡ get_or item 0 0) where
+    pub event_byte : (r : PanelPrinted) → kind ≡ kinds.LineByte → (next : Panel) → next ≡ (fed_byte panel (get_or item 1 0)).panel → r ≡ quietly next
+        → (curves : List ℕ) → leaves_panel r (remembering words curves) room ≡ panel_printing (event panel table (remembering words curves) item) room
     unfolding event
-    event_mark next is-kind is_next curves = rw is-kind (rw (← is_next) (quiet_left next (remembering words curves) room))
+    event_byte r is next is_next quiet curves = rw (quiet, ← rw is at number, is_next) (quiet_left (fed_byte panel (get_or item 1 0)).panel (remembering words curves) room)
 
-    module _ (not-2 : get_or item 0 0 ≡ 2 → ⊥) where
-      pub event_contact : (r : PanelPrinted) (words' left : List ℕ) (x y : ℕ) → get_or item 0 0 ≡ 3 → x ≡ word_at item 1 → y ≡ word_at item 3
-          → ((curves : List ℕ) → leaves_panel r (remembering words' curves) left ≡ panel_printing (contact_told panel (contact_at table x y) (remembering words curves)) room)
-          → (curves : List ℕ) → leaves_panel r (remembering words' curves) left ≡ panel_printing (event panel table (remembering words curves) item) room
-      unfolding event
-      event_contact r words' left x y is-kind is_x is_y e curves = rw is-kind (rw (is_x, is_y) at (e curves))
+    pub event_mark : (r : PanelPrinted) → kind ≡ kinds.Mark → (next : Panel) → next ≡ (fed_mark panel).panel → r ≡ quietly next
+        → (curves : List ℕ) → leaves_panel r (remembering words curves) room ≡ panel_printing (event panel table (remembering words curves) item) room
+    unfolding event
+    event_mark r is next is_next quiet curves = rw (quiet, ← rw is at number, is_next) (quiet_left (fed_mark panel).panel (remembering words curves) room)
 
-      pub event_second : (next : Panel) → (get_or item 0 0 ≡ 3 → ⊥) → get_or item 0 0 ≡ 6 → next ≡ (fed_second panel).panel → (curves : List ℕ)
-          → leaves_panel (record { panel = next; count = 0 }) (remembering words curves) room ≡ panel_printing (event panel table (remembering words curves) item) room
-      unfolding event
-      event_second next not-3 is-kind is_next curves = rw is-kind (rw (← is_next) (quiet_left next (remembering words curves) room))
+    pub event_second : (r : PanelPrinted) → kind ≡ kinds.Second → (next : Panel) → next ≡ (fed_second panel).panel → r ≡ quietly next
+        → (curves : List ℕ) → leaves_panel r (remembering words curves) room ≡ panel_printing (event panel table (remembering words curves) item) room
+    unfolding event
+    event_second r is next is_next quiet curves = rw (quiet, ← rw is at number, is_next) (quiet_left (fed_second panel).panel (remembering words curves) room)
 
-      pub event_lift : (r : PanelPrinted) (left : List ℕ) → (get_or item 0 0 ≡ 3 → ⊥) → (get_or item 0 0 ≡ 6 → ⊥) → r.panel ≡ (lifting panel).panel
-          → lays r.count left ≡ prints (touch_text (lift_number (lifting panel).answer)) room → (curves : List ℕ)
-          → leaves_panel r (remembering words curves) left ≡ panel_printing (event panel table (remembering words curves) item) room
-      unfolding event lift_told
-      event_lift r left not-3 not-6 is-panel is-text curves =
+    pub event_contact : (r : PanelPrinted) (words' left : List ℕ) (x y : ℕ) → kind ≡ kinds.Contact → x ≡ word_at item 1 → y ≡ word_at item 3
+        → ((curves : List ℕ) → leaves_panel r (remembering words' curves) left ≡ panel_printing (contact_told panel (contact_at table x y) (remembering words curves)) room)
+        → (curves : List ℕ) → leaves_panel r (remembering words' curves) left ≡ panel_printing (event panel table (remembering words curves) item) room
+    unfolding event
+    event_contact r words' left x y is is_x is_y e curves = rw (← rw is at number) (rw (is_x, is_y) at (e curves))
+
+  -- a lift, and what 01 lets stand in its place: no other kind is asked of here
+  module _ (r : PanelPrinted) (left : List ℕ) (is-panel : r.panel ≡ (lifting panel).panel)
+      (is-text : lays r.count left ≡ prints (touch_text (lift_number (lifting panel).answer)) room)
+    where
+      lift_shown : (curves : List ℕ) → leaves_panel r (remembering words curves) left ≡ panel_printing (lift_told panel (remembering words curves)) room
+      unfolding lift_told
+      lift_shown curves =
           let memory = remembering words curves in
-          rw (ne_eqb (get_or item 0 0) 1 not-1, ne_eqb (get_or item 0 0) 2 not-2, ne_eqb (get_or item 0 0) 3 not-3, ne_eqb (get_or item 0 0) 6 not-6)
-          (ap (λ (l : Laid). leaves_panel (record { panel = r.panel; count = l.count }) memory l.room) is-text
-          ∙ ap (λ (p : Panel). panel_printing (tells p memory (touch_text (lift_number (lifting panel).answer))) room) is-panel)
+          ap (λ (l : Laid). leaves_panel (record { panel = r.panel; count = l.count }) memory l.room) is-text
+          ∙ ap (λ (p : Panel). panel_printing (tells p memory (touch_text (lift_number (lifting panel).answer))) room) is-panel
+
+      pub event_lift : (kind : Kind) → number_of kind ≡ get_or item 0 0 → (kind ≡ kinds.LineByte → ⊥) → (kind ≡ kinds.Mark → ⊥) → (kind ≡ kinds.Contact → ⊥)
+          → (kind ≡ kinds.Second → ⊥) → (curves : List ℕ)
+          → leaves_panel r (remembering words curves) left ≡ panel_printing (event panel table (remembering words curves) item) room
+      unfolding event
+      event_lift kinds.Setup number a b c d curves = rw (← number) (lift_shown curves)
+      event_lift kinds.LineByte number a b c d curves = absurd (a refl)
+      event_lift kinds.Mark number a b c d curves = absurd (b refl)
+      event_lift kinds.Contact number a b c d curves = absurd (c refl)
+      event_lift kinds.Lift number a b c d curves = rw (← number) (lift_shown curves)
+      event_lift kinds.Record number a b c d curves = rw (← number) (lift_shown curves)
+      event_lift kinds.Second number a b c d curves = absurd (d refl)
+
+      pub event_other : 6 < get_or item 0 0 → (curves : List ℕ)
+          → leaves_panel r (remembering words curves) left ≡ panel_printing (event panel table (remembering words curves) item) room
+      unfolding event
+      event_other unknown curves =
+          rw (ne_eqb (get_or item 0 0) 1 (omega arith), ne_eqb (get_or item 0 0) 2 (omega arith), ne_eqb (get_or item 0 0) 3 (omega arith), ne_eqb (get_or item 0 0) 6 (omega arith))
+          (lift_shown curves)
 
 -- ---- With and without room
 

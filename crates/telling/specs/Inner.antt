@@ -5,11 +5,17 @@ use Rattle.wire.specs.Room.{over, Laid, lays}
 use Rattle.frame.specs.Frame.{longest_frame}
 use Rattle.panel.specs.Answers.{AskAnswer}
 use Rattle.panel.specs.declared.Handed.TheVariants as handed
+use Rattle.panel.specs.declared.Panel.{Panel}
+use Rattle.telling.specs.declared.PanelPrinted.{PanelPrinted}
 use Rattle.panel.specs.declared.LentError.TheVariants as lent_error
 
 -- text laid over the front of a room, and its length
 abbrev pub prints : List ℕ → List ℕ → Laid
 prints text room = lays (length text) (over text room)
+
+-- an event that has no line
+abbrev pub quietly : Panel → PanelPrinted
+quietly panel = record { panel = panel; count = 0 }
 
 -- ---- How long it is at most
 

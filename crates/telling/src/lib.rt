@@ -35,10 +35,7 @@ pub fn tell_event(
     ensures { (curves : List ℕ) → leaves_panel result (remembering words.new curves) room.new ≡ printed_in (event panel table.now (remembering words.old curves) item) panel (remembering words.old curves) room.old }
 {
     if room.len() < LEAST_TEXT {
-        return PanelPrinted {
-            panel: panel,
-            count: 0,
-        };
+        return PanelPrinted { panel, count: 0 };
     }
     events::do_event(panel, item, table, words, room)
 }
@@ -53,10 +50,7 @@ pub fn tell_report(
     ensures { leaves_panel result (remembering words.new curves.new) room.new ≡ printed_in (asked_once panel (remembering words.old curves.old)) panel (remembering words.old curves.old) room.old }
 {
     if room.len() < LEAST_TEXT {
-        return PanelPrinted {
-            panel: panel,
-            count: 0,
-        };
+        return PanelPrinted { panel, count: 0 };
     }
     reports::ask_once(panel, words, curves, room)
 }

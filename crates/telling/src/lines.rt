@@ -9,7 +9,7 @@ ghost use Rattle.telling.specs.Inner.{frames_bytes, written_bytes, longest_line,
 ghost use Rattle.telling.specs.Lines.{frames_text, report_text};
 
 use crate::numbers;
-use panel::Handed;
+use panel::{Handed, LentError};
 use text::Line;
 
 // One line.
@@ -62,15 +62,22 @@ fn print_both(
     k + m
 }
 
-// The lines of a report.
-pub(crate) fn print_report(handed: Handed, reply: &[u8], room: &mut [u8]) -> usize
+// The lines of a report; where none is handed over, there is no line.
+pub(crate) fn print_report(
+    handed: Result<Option<Handed>, LentError>,
+    reply: &[u8],
+    room: &mut [u8],
+) -> usize
     requires { (least_text ≤ length room.old) × (length reply.now ≡ least_room) × (acknowledged_by handed ≤ acknowledgement_bytes) × (replied_by handed ≤ longest_frame) }
     ensures { lays result room.new ≡ prints (report_text handed reply.now) room.old }
 {
+    let Ok(handed) = handed else {
+        return 0;
+    };
+    let Some(handed) = handed else {
+        return 0;
+    };
     match handed {
-        Handed::NotLent => 0,
-        Handed::WrongList => 0,
-        Handed::Nothing => 0,
         Handed::BadCheck(command, acknowledged) => print_both(
             Line::BadCheck(command),
             acknowledged,
@@ -86,7 +93,7 @@ pub(crate) fn print_report(handed: Handed, reply: &[u8], room: &mut [u8]) -> usi
             replied,
         } => {
             let line = Line::Frame {
-                command: command,
+                command,
                 number: numbers::outcome_number(outcome),
             };
             print_both(line, acknowledged, replied, reply, room)

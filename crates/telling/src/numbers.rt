@@ -1,49 +1,28 @@
-// 01's number of each answer.
+// 01's number of each answer: 0, or that of the refusal.
 ghost use Rattle.std.specs.Prelude.{◌≡◌};
 ghost use Rattle.commands.specs.Outcome.{number_of_outcome};
 ghost use Rattle.panel.specs.Numbers.{contact_number, lift_number};
 
-use commands::Outcome;
-use panel::{ContactAnswer, LiftAnswer};
+use commands::Refusal;
+use panel::{ContactError, LiftError};
 
 #[tactic(auto, unfolding(commands::specs::Outcome::number_of_outcome))]
-pub fn outcome_number(o: Outcome) -> u8
-    ensures { result ≡ number_of_outcome o }
+pub fn outcome_number(outcome: Result<(), Refusal>) -> u8
+    ensures { result ≡ number_of_outcome outcome }
 {
-    match o {
-        Outcome::Done => 0,
-        Outcome::UnknownCommand => 2,
-        Outcome::WrongData => 3,
-        Outcome::PastEnd => 4,
-        Outcome::Unwritable => 5,
-        Outcome::WrongValue => 6,
-        Outcome::ReplyTooLong => 7,
-    }
+    outcome.map_or_else(Refusal::number, |()| 0)
 }
 
 #[tactic(auto, unfolding(panel::specs::Numbers::contact_number))]
-pub fn contact_number(answer: ContactAnswer) -> u8
+pub fn contact_number(answer: Result<(), ContactError>) -> u8
     ensures { result ≡ contact_number answer }
 {
-    match answer {
-        ContactAnswer::Done => 0,
-        ContactAnswer::NotLent => 14,
-        ContactAnswer::WrongList => 16,
-        ContactAnswer::Waits => 1,
-        ContactAnswer::NotRecords => 12,
-        ContactAnswer::WrongRecord(_) => 13,
-        ContactAnswer::TouchOff => 9,
-        ContactAnswer::OffScreen => 8,
-    }
+    answer.map_or_else(ContactError::number, |()| 0)
 }
 
 #[tactic(auto, unfolding(panel::specs::Numbers::lift_number))]
-pub fn lift_number(answer: LiftAnswer) -> u8
+pub fn lift_number(answer: Result<(), LiftError>) -> u8
     ensures { result ≡ lift_number answer }
 {
-    match answer {
-        LiftAnswer::Done => 0,
-        LiftAnswer::Waits => 1,
-        LiftAnswer::IsUp => 10,
-    }
+    answer.map_or_else(LiftError::number, |()| 0)
 }

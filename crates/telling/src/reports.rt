@@ -1,19 +1,13 @@
 // A report that is asked for, and its lines.
 ghost use Rattle.std.specs.Prelude.{◌≡◌, ◌≤◌, length};
 ghost use Rattle.telling.specs.Told.{leaves_panel, panel_printing, least_text};
-ghost use Rattle.telling.specs.Events.{reply_room, asked_once};
+ghost use Rattle.telling.specs.Events.{asked_once};
 ghost use Rattle.telling.specs.Memory.{remembering};
 
 use crate::{PanelPrinted, lines};
 use frame::LEAST_ROOM;
 use panel::Panel;
-
-// The room of a reply as it is lent.
-pub(crate) fn no_reply() -> [u8; LEAST_ROOM]
-    ensures { result ≡ reply_room }
-{
-    [0u8; LEAST_ROOM]
-}
+use watch::WatchList;
 
 // Asks for one report and prints it. No words are watched.
 pub(crate) fn ask_once(
@@ -25,16 +19,17 @@ pub(crate) fn ask_once(
     requires { least_text ≤ length room.old }
     ensures { leaves_panel result (remembering words.new curves.new) room.new ≡ panel_printing (asked_once panel (remembering words.old curves.old)) room.old }
 {
-    let mut reply = no_reply();
-    let addresses = [0u16; 0];
-    let uses = [0u8; 0];
-    let mut values = [0u16; 0];
-    let done = panel.report(words, curves, &mut reply, &addresses, &uses, &mut values);
-    let handed = done.handed;
-    let next = done.panel;
-    let count = lines::print_report(handed, &reply, room);
+    let mut reply = wire::zeros::<LEAST_ROOM>();
+    let mut none = [0u16; 0];
+    let mut list = WatchList {
+        addresses: &[],
+        uses: &[],
+        values: &mut none,
+    };
+    let done = panel.report(words, curves, &mut reply, &mut list);
+    let count = lines::print_report(done.handed, &reply, room);
     PanelPrinted {
-        panel: next,
-        count: count,
+        panel: done.panel,
+        count,
     }
 }

@@ -1,5 +1,5 @@
 -- Laws of the end of the input, and of a new trace.
-use Rattle.std.specs.Prelude.{Ok, Err}
+use Rattle.std.specs.Prelude.{Option, None, Some, Ok, Err}
 use mathlib.Core.Path.{◌≡◌, refl, sym, ap, ◌∙◌}
 use mathlib.Core.Bool.{Bool, true, false, cond, ◌&&◌}
 use mathlib.Core.List.{List, []}
@@ -32,8 +32,6 @@ use Rattle.trace.specs.declared.LentError.TheVariants.{NotLent}
 use Rattle.items.specs.Items.{no_item}
 use Rattle.items.specs.Records.{kept_records, table_bytes, table_of}
 use Rattle.trace.specs.State.{new_trace}
-use Rattle.trace.specs.declared.Closing.{Closing}
-use Rattle.trace.specs.declared.Closing.TheVariants as closing
 use Rattle.trace.specs.Inner.{named, last_line, page_or_refusal, last_at, last_of}
 use Rattle.trace.specs.Lines.{refusal_text, wrong_text}
 use Rattle.trace.specs.Events.{started_by}
@@ -80,7 +78,7 @@ module _ (trace : Trace) (table : List ℕ) (long : ℕ) (is_long : long ≡ min
   page_said l is-l = is-l ∙ ap (λ (s : Start). last_line s.answer s.panel) (is-begun ∙ ap (λ (l : List ℕ). started_by trace l) the_part)
 
 module _ (trace : Trace) (table : List ℕ) where
-  pub cut_item : (trace.have ≡ 0 → ⊥) → closing.Says (line.Failed 15) ≡ last_of trace table
+  pub cut_item : (trace.have ≡ 0 → ⊥) → Some (line.Failed 15) ≡ last_of trace table
   unfolding last_of
   cut_item some = rw (ne_eqb trace.have 0 some)
 
@@ -89,27 +87,27 @@ module _ (trace : Trace) (table : List ℕ) where
     unfolding last_of
     at_stage stage is = rw (eq-eqb trace.have 0 whole) (ap (λ (s : Stage). last_at s trace table) (sym is))
 
-    pub no_setup : trace.stage ≡ Bare → closing.Says (line.Failed 15) ≡ last_of trace table
+    pub no_setup : trace.stage ≡ Bare → Some (line.Failed 15) ≡ last_of trace table
     unfolding last_at
     no_setup is = at_stage Bare is
 
-    pub no_event : (l : Line) → trace.stage ≡ Ready → l ≡ page_or_refusal trace table → closing.Says l ≡ last_of trace table
+    pub no_event : (l : Line) → trace.stage ≡ Ready → l ≡ page_or_refusal trace table → Some l ≡ last_of trace table
     unfolding last_at
-    no_event l is is-l = ap closing.Says is-l ∙ at_stage Ready is
+    no_event l is is-l = ap Some is-l ∙ at_stage Ready is
 
-    pub last_page : (l : Line) → trace.stage ≡ Started → l ≡ page_or_refusal trace table → closing.Says l ≡ last_of trace table
+    pub last_page : (l : Line) → trace.stage ≡ Started → l ≡ page_or_refusal trace table → Some l ≡ last_of trace table
     unfolding last_at
-    last_page l is is-l = ap closing.Says is-l ∙ at_stage Started is
+    last_page l is is-l = ap Some is-l ∙ at_stage Started is
 
-    pub after_failure : trace.stage ≡ Over → closing.Nothing ≡ last_of trace table
+    pub after_failure : trace.stage ≡ Over → None ≡ last_of trace table
     unfolding last_at
     after_failure is = at_stage Over is
 
 -- ---- What it prints
 
-unfoldable closing_text : Closing → List ℕ
-closing_text closing.Nothing = []
-closing_text (closing.Says l) = line_text l
+unfoldable closing_text : Option Line → List ℕ
+closing_text None = []
+closing_text (Some l) = line_text l
 
 page_text : (trace : Trace) (table : List ℕ) → line_text (page_or_refusal trace table) ≡ end_started trace table
 unfolding page_or_refusal end_started
@@ -128,22 +126,22 @@ last_text : (trace : Trace) (table : List ℕ) → closing_text (last_of trace t
 unfolding closing_text last_of end_text wrong_text
 last_text trace table = go (eqb trace.have 0)
   where
-    go : (b : Bool) → closing_text (cond b (last_at trace.stage trace table) (closing.Says (line.Failed 15))) ≡ cond b (end_at trace.stage trace table) (line_text (line.Failed 15))
+    go : (b : Bool) → closing_text (cond b (last_at trace.stage trace table) (Some (line.Failed 15))) ≡ cond b (end_at trace.stage trace table) (line_text (line.Failed 15))
     go true = stage_text trace.stage trace table
     go false = refl
 
-module _ (trace : Trace) (table room : List ℕ) (c : Closing) (is_c : c ≡ last_of trace table) where
-  so : (d : Closing) → c ≡ d → prints (closing_text d) room ≡ prints (end_text trace table) room
+module _ (trace : Trace) (table room : List ℕ) (c : Option Line) (is_c : c ≡ last_of trace table) where
+  so : (d : Option Line) → c ≡ d → prints (closing_text d) room ≡ prints (end_text trace table) room
   so d is = ap (λ (l : List ℕ). prints l room) (ap closing_text (sym is ∙ is_c) ∙ last_text trace table)
 
-  pub nothing_printed : c ≡ closing.Nothing → lays 0 room ≡ prints (end_text trace table) room
+  pub nothing_printed : c ≡ None → lays 0 room ≡ prints (end_text trace table) room
   unfolding closing_text
-  nothing_printed is = ap (λ (l : List ℕ). lays 0 l) (sym (over_nil room)) ∙ so closing.Nothing is
+  nothing_printed is = ap (λ (l : List ℕ). lays 0 l) (sym (over_nil room)) ∙ so None is
 
-  pub last_printed : (l : Line) (n : ℕ) (left : List ℕ) → c ≡ closing.Says l → least_text ≤ length room
+  pub last_printed : (l : Line) (n : ℕ) (left : List ℕ) → c ≡ Some l → least_text ≤ length room
       → lays n left ≡ laid (leb (length (line_text l)) (length room)) (line_text l) room → lays n left ≡ prints (end_text trace table) room
   unfolding closing_text
-  last_printed l n left is wide e = line_printed l room left n wide e ∙ so (closing.Says l) is
+  last_printed l n left is wide e = line_printed l room left n wide e ∙ so (Some l) is
 
 module _ (trace : Trace) (table room : List ℕ) where
   pub lent_ends : (n : ℕ) (left : List ℕ) → (leb table_bytes (length table) && leb least_text (length room)) ≡ true → lays n left ≡ prints (end_text trace table) room

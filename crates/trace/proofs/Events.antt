@@ -8,7 +8,6 @@ use native.Mathlib.Nat.{min-le_left}
 use native.Mathlib.Omega.{arith}
 use lib.ListN.{length, take, length-take}
 use Rattle.wire.specs.Room.{over, Laid, lays}
-use Rattle.wire.proofs.Truths.{never}
 use Rattle.touch.specs.declared.Setup.{Setup}
 use Rattle.touch.specs.Judge.{Verdict}
 use Rattle.touch.specs.declared.TableError.TheVariants.{NotRecords, Wrong}
@@ -19,6 +18,7 @@ use Rattle.touch.proofs.Tables.{thirteen_names_first}
 use Rattle.panel.specs.declared.Panel.{Panel}
 use Rattle.panel.specs.declared.Start.{Start}
 use Rattle.panel.specs.Answers.{StartAnswer}
+use Rattle.panel.specs.declared.StartError.{StartError}
 use Rattle.panel.specs.declared.StartError.TheVariants as start_error
 use Rattle.panel.specs.Numbers.{start_number}
 use Rattle.panel.specs.Start.{start_judged, started}
@@ -32,7 +32,7 @@ use Rattle.telling.specs.Events.{event}
 use Rattle.telling.proofs.Telling.{printed_in_lem}
 use Rattle.trace.specs.declared.Trace.{Trace}
 use Rattle.trace.specs.declared.TracePrinted.{TracePrinted}
-use Rattle.trace.specs.Inner.{byte_printing, leaves_byte, event_printing, leaves_event, EventLeft, is_begun, named, last_line, after_told}
+use Rattle.trace.specs.Inner.{byte_printing, leaves_byte, event_printing, leaves_event, EventLeft, named, last_line, after_told}
 use Rattle.items.specs.Stages.{is_started}
 use Rattle.items.specs.Records.{kept_records, table_of, table_bytes}
 use Rattle.trace.specs.State.{Held, Shown, met_table, stopped, holds, shows_told, fails}
@@ -71,21 +71,12 @@ begun_below trace part short = either_below (is_started trace.stage) _ _ (omega 
 
 -- ---- An event
 
-begun_shows : (answer : StartAnswer) (panel : Panel) (held : Held) (item : List ℕ) → is_begun answer ≡ true
-    → event_answered answer panel held item ≡ shows_told held (event panel (met_table held) held.memory item)
-unfolding event_answered
-begun_shows (Ok tt) panel held item is = refl
-begun_shows (Err start_error.WrongSetup) panel held item is = never (cc)
-begun_shows (Err start_error.NotRecords) panel held item is = never (cc)
-begun_shows (Err (start_error.WrongRecord i)) panel held item is = never (cc)
-
-refused_shows : (answer : StartAnswer) (panel : Panel) (held : Held) (item : List ℕ) → is_begun answer ≡ false
-    → event_answered answer panel held item ≡ fails held (line_text (last_line answer panel))
+refused_shows : (why : StartError) (panel : Panel) (held : Held) (item : List ℕ)
+    → event_answered (Err why) panel held item ≡ fails held (line_text (last_line (Err why) panel))
 unfolding event_answered refusal_text start_number last_line
-refused_shows (Ok tt) panel held item is = never (cc)
-refused_shows (Err start_error.WrongSetup) panel held item is = refl
-refused_shows (Err start_error.NotRecords) panel held item is = refl
-refused_shows (Err (start_error.WrongRecord i)) panel held item is = refl
+refused_shows start_error.WrongSetup panel held item = refl
+refused_shows start_error.NotRecords panel held item = refl
+refused_shows (start_error.WrongRecord i) panel held item = refl
 
 pub started_left : (trace : Trace) (told : Told) (panel : Panel) (done : PanelPrinted) (memory memory' : Memory) (room left : List ℕ) (r : TracePrinted) → least_text ≤ length room
     → leaves_panel done memory' left ≡ printed_in told panel memory room → r ≡ after_told trace done → leaves_event r memory' left ≡ event_printing trace told room
@@ -120,22 +111,23 @@ module _ (trace : Trace) (table : List ℕ) (n : ℕ) (is-n : n ≡ min trace.re
     answered_so =
         ap (λ (s : Start). byte_printing (event_answered s.answer s.panel (holds trace table memory) item) room) (is-begun ∙ ap (λ (l : List ℕ). started_by trace l) the_part)
 
-    pub event_refused : (b : Bool) → b ≡ is_begun begun.answer → b ≡ false → (l : Line) → l ≡ last_line begun.answer begun.panel
+    pub event_refused : (why : StartError) → begun.answer ≡ Err why → (l : Line) → l ≡ last_line begun.answer begun.panel
         → (done : TracePrinted) (left : List ℕ) → done.trace ≡ stopped trace → lays done.count left ≡ prints (line_text l) room
         → leaves_byte done table memory left ≡ byte_printing (event_done (holds trace table memory) item) room
-    event_refused b is_b is l is-l done left is-trace e =
+    event_refused why is l is-l done left is-trace e =
         ap (λ (p : Laid). leaves_byte (record { trace = done.trace; count = p.count }) table memory p.room) e
         ∙ ap (λ (t : Trace). leaves_byte (record { trace = t; count = length (line_text l) }) table memory (over (line_text l) room)) is-trace
         ∙ ap (λ (p : Line). byte_printing (fails (holds trace table memory) (line_text p)) room) is-l
-        ∙ sym (ap (λ (s : Shown). byte_printing s room) (refused_shows begun.answer begun.panel (holds trace table memory) item (sym is_b ∙ is)))
+        ∙ sym (ap (λ (s : Shown). byte_printing s room) (rw is (refused_shows why begun.panel (holds trace table memory) item)))
         ∙ answered_so
 
-  pub event_told : (item room words words' left : List ℕ) (b : Bool) → b ≡ is_begun begun.answer → b ≡ true → (done : TracePrinted)
+  pub event_told : (item room words words' left : List ℕ) → begun.answer ≡ Ok tt → (done : TracePrinted)
       → ((curves : List ℕ) → leaves_event done (remembering words' curves) left
       ≡ event_printing trace (event begun.panel (take (n - 0) table) (remembering words curves) item) room)
       → (curves : List ℕ) → leaves_byte done table (remembering words' curves) left ≡ byte_printing (event_done (holds trace table (remembering words curves)) item) room
-  event_told item room words words' left b is_b is done e curves =
+  unfolding event_answered
+  event_told item room words words' left is done e curves =
       let held = holds trace table (remembering words curves) in
       ap (λ (l : EventLeft). leaves_byte l.printed table l.memory l.room) (rw the_part at (e curves))
-      ∙ sym (ap (λ (s : Shown). byte_printing s room) (begun_shows begun.answer begun.panel held item (sym is_b ∙ is)))
+      ∙ sym (ap (λ (a : StartAnswer). byte_printing (event_answered a begun.panel held item) room) is)
       ∙ answered_so (remembering words curves) item room

@@ -1,5 +1,5 @@
 -- No public promise cites this file: what private functions of the code leave, for their contracts. Text is laid over the room that is lent for it.
-use Rattle.std.specs.Prelude.{Ok, Err}
+use Rattle.std.specs.Prelude.{Option, None, Some, Ok, Err}
 use Rattle.std.specs.Prelude.{ℕ, ◌+◌, Bool, true, false, cond, not, ◌&&◌, List, [], ◌∷◌, eqb, leb, length, set}
 use Rattle.wire.specs.ByteOrder.{byte_at}
 use Rattle.wire.specs.Room.{over}
@@ -21,8 +21,6 @@ use Rattle.trace.specs.declared.Found.{Found}
 use Rattle.trace.specs.declared.Comes.{Comes}
 use Rattle.trace.specs.declared.Comes.TheVariants.{Quiet, Wrong, Met, Happens}
 use Rattle.trace.specs.declared.Judged.{Judged}
-use Rattle.trace.specs.declared.Closing.{Closing}
-use Rattle.trace.specs.declared.Closing.TheVariants as closing
 use Rattle.items.specs.declared.Stage.{Stage}
 use Rattle.items.specs.declared.Stage.TheVariants.{Bare, Ready, Started, Over}
 use Rattle.items.specs.Items.{no_item, body_length, setup_in}
@@ -86,12 +84,6 @@ abbrev pub quietly : Trace → TracePrinted
 quietly trace = record { trace = trace; count = 0 }
 
 -- ---- The start
-
-abbrev pub is_begun : StartAnswer → Bool
-is_begun (Ok tt) = true
-is_begun (Err start_error.WrongSetup) = false
-is_begun (Err start_error.NotRecords) = false
-is_begun (Err (start_error.WrongRecord i)) = false
 
 -- the record that a start names, 0 where it names none
 unfoldable pub named : StartAnswer → ℕ
@@ -180,12 +172,12 @@ page_or_refusal trace table =
     last_line begun.answer begun.panel
 
 -- the last line by how far the input has come
-unfoldable pub last_at : Stage → Trace → List ℕ → Closing
-last_at Bare trace table = closing.Says (line.Failed 15)
-last_at Ready trace table = closing.Says (page_or_refusal trace table)
-last_at Started trace table = closing.Says (page_or_refusal trace table)
-last_at Over trace table = closing.Nothing
+unfoldable pub last_at : Stage → Trace → List ℕ → Option Line
+last_at Bare trace table = Some (line.Failed 15)
+last_at Ready trace table = Some (page_or_refusal trace table)
+last_at Started trace table = Some (page_or_refusal trace table)
+last_at Over trace table = None
 
 -- what the end of the input prints
-unfoldable pub last_of : Trace → List ℕ → Closing
-last_of trace table = cond (eqb trace.have 0) (last_at trace.stage trace table) (closing.Says (line.Failed 15))
+unfoldable pub last_of : Trace → List ℕ → Option Line
+last_of trace table = cond (eqb trace.have 0) (last_at trace.stage trace table) (Some (line.Failed 15))

@@ -7,7 +7,7 @@ ghost use Rattle.trace.specs.Inner.{page_or_refusal, last_of};
 ghost use Rattle.trace.specs.Output.{end_text};
 ghost use Rattle.items.specs.Records.{table_bytes};
 
-use crate::{Closing, Trace, event, lines};
+use crate::{Trace, event, lines};
 use items::Stage;
 use text::Line;
 
@@ -20,20 +20,19 @@ fn page_or_refusal(trace: Trace, table: &[u8]) -> Line
 }
 
 // The last line of any trace; one that has failed has none.
-fn find(trace: Trace, table: &[u8]) -> Closing
+fn find(trace: Trace, table: &[u8]) -> Option<Line>
     requires { table_bytes ≤ length table.now }
     ensures { result ≡ last_of trace table.now }
 {
     if trace.have == 0 {
-        let stage = trace.stage;
-        return match stage {
-            Stage::Bare => Closing::Says(Line::Failed(15)),
-            Stage::Ready => Closing::Says(page_or_refusal(trace, table)),
-            Stage::Started => Closing::Says(page_or_refusal(trace, table)),
-            Stage::Over => Closing::Nothing,
+        return match trace.stage {
+            Stage::Bare => Some(Line::Failed(15)),
+            Stage::Ready => Some(page_or_refusal(trace, table)),
+            Stage::Started => Some(page_or_refusal(trace, table)),
+            Stage::Over => None,
         };
     }
-    Closing::Says(Line::Failed(15))
+    Some(Line::Failed(15))
 }
 
 // Writes it.
@@ -41,9 +40,8 @@ pub(crate) fn print_end(trace: Trace, table: &[u8], room: &mut [u8]) -> usize
     requires { (table_bytes ≤ length table.now) × (least_text ≤ length room.old) }
     ensures { lays result room.new ≡ prints (end_text trace table.now) room.old }
 {
-    let last = find(trace, table);
-    match last {
-        Closing::Nothing => 0,
-        Closing::Says(line) => text::put_line(line, room),
+    match find(trace, table) {
+        None => 0,
+        Some(line) => text::put_line(line, room),
     }
 }

@@ -10,7 +10,6 @@ ghost use Rattle.trace.specs.Output.{ends, ending, end_said, said_of_end};
 
 use items::{ITEM_BYTES, KEPT_RECORDS, Stage};
 use panel::Panel;
-use text::Line;
 use touch::{RECORD_BYTES, Setup};
 
 mod byte;
@@ -41,17 +40,17 @@ pub struct Trace {
     panel: Panel,
 }
 
-#[derive(Clone, Copy)]
-pub enum Answer {
-    Done,
-    // Table, words, curve area or room are not what they must be; nothing was taken.
+// Why nothing was taken.
+#[derive(Clone, Copy, Debug, PartialEq, Eq)]
+pub enum LentError {
+    // Table, words, curve area or room are not what they must be.
     NotLent,
 }
 
 // How much of the input was taken, and how many bytes of text were written.
 #[derive(Clone, Copy)]
 pub struct Stepped {
-    pub answer: Answer,
+    pub answer: Result<(), LentError>,
     pub used: usize,
     pub count: usize,
     pub trace: Trace,
@@ -59,7 +58,7 @@ pub struct Stepped {
 
 #[derive(Clone, Copy)]
 pub struct Ended {
-    pub answer: Answer,
+    pub answer: Result<(), LentError>,
     pub count: usize,
 }
 
@@ -121,13 +120,6 @@ struct Judged {
     item: [u8; ITEM_BYTES],
 }
 
-// What the end of the input prints.
-#[derive(Clone, Copy)]
-enum Closing {
-    Nothing,
-    Says(Line),
-}
-
 impl Trace {
     // A trace that has met nothing.
     pub fn new() -> Trace
@@ -142,14 +134,13 @@ impl Trace {
             height: 0,
         };
         let none = Panel::start(setup, &[0u8; 1]);
-        let panel = none.panel;
         Trace {
             stage: Stage::Bare,
             item: items::no_item(),
             have: 0,
-            setup: setup,
+            setup,
             records: 0,
-            panel: panel,
+            panel: none.panel,
         }
     }
 
@@ -157,20 +148,14 @@ impl Trace {
     pub fn is_waiting(self) -> bool
         ensures { result ≡ waits self }
     {
-        let panel = self.panel;
-        if panel.is_waiting() {
-            let stage = self.stage;
-            return items::is_started(stage);
-        }
-        false
+        items::is_started(self.stage) && self.panel.is_waiting()
     }
 
     // Whether the trace has failed, so that nothing more is printed.
     pub fn is_over(self) -> bool
         ensures { result ≡ is_over self.stage }
     {
-        let stage = self.stage;
-        items::is_over(stage)
+        items::is_over(self.stage)
     }
 
     // Hands over one report, or takes some of the input; writes the lines of it over the front of the room.
@@ -188,16 +173,15 @@ impl Trace {
         if step::is_lent(table.len(), words.len(), curves.len(), room.len()) {
             let found = front::find(self, input);
             let took = step::take_step(found, table, words, curves, room);
-            let next = took.trace;
             return Stepped {
-                answer: Answer::Done,
+                answer: Ok(()),
                 used: took.used,
                 count: took.count,
-                trace: next,
+                trace: took.trace,
             };
         }
         Stepped {
-            answer: Answer::NotLent,
+            answer: Err(LentError::NotLent),
             used: 0,
             count: 0,
             trace: self,
@@ -211,12 +195,12 @@ impl Trace {
     {
         if (TABLE_BYTES <= table.len()) & (LEAST_TEXT <= room.len()) {
             return Ended {
-                answer: Answer::Done,
+                answer: Ok(()),
                 count: last::print_end(self, table, room),
             };
         }
         Ended {
-            answer: Answer::NotLent,
+            answer: Err(LentError::NotLent),
             count: 0,
         }
     }

@@ -9,21 +9,20 @@ ghost use Rattle.trace.specs.Inner.{named, last_line};
 
 use crate::{Trace, TracePrinted};
 use items::Stage;
-use panel::{Start, StartAnswer};
+use panel::{Start, StartError};
 use text::Line;
 
 // The last line of a trace whose start is answered so: the page, or what the start is refused with.
+#[tactic(auto, unfolding(crate::specs::Inner::last_line, crate::specs::Inner::named))]
 pub(crate) fn last_line(begun: Start) -> Line
     requires { named begun.answer < 256 }
     ensures { result ≡ last_line begun.answer begun.panel }
 {
-    let answer = begun.answer;
-    let panel = begun.panel;
-    match answer {
-        StartAnswer::Started => Line::End(panel.page()),
-        StartAnswer::WrongSetup => Line::Failed(11),
-        StartAnswer::NotRecords => Line::Failed(12),
-        StartAnswer::WrongRecord(i) => Line::WrongRecord(i as u8),
+    match begun.answer {
+        Ok(()) => Line::End(begun.panel.page()),
+        Err(StartError::WrongSetup) => Line::Failed(11),
+        Err(StartError::NotRecords) => Line::Failed(12),
+        Err(StartError::WrongRecord(i)) => Line::WrongRecord(i as u8),
     }
 }
 
@@ -32,13 +31,12 @@ pub(crate) fn stop(trace: Trace, line: Line, room: &mut [u8]) -> TracePrinted
     requires { least_text ≤ length room.old }
     ensures { (result.trace ≡ stopped trace) × (lays result.count room.new ≡ prints (line_text line) room.old) }
 {
-    let stage = Stage::Over;
     let count = text::put_line(line, room);
     TracePrinted {
         trace: Trace {
-            stage: stage,
+            stage: Stage::Over,
             ..trace
         },
-        count: count,
+        count,
     }
 }

@@ -17,7 +17,6 @@ pub(crate) fn hand_over(
     requires { least_text ≤ length room.old }
     ensures { leaves_event result (remembering words.new curves.new) room.new ≡ event_printing trace (asked_once trace.panel (remembering words.old curves.old)) room.old }
 {
-    let panel = trace.panel;
-    let done = telling::tell_report(panel, words, curves, room);
+    let done = telling::tell_report(trace.panel, words, curves, room);
     event::after_told(trace, done)
 }

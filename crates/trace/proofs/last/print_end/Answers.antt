@@ -2,8 +2,8 @@
 use Rattle.trace.proofs.Ending.{nothing_printed, last_printed}
 use Rattle.trace.proofs.last.print_end.Goals as goal
 
-pub returns-in-Nothing : goal.returns-in-Nothing
-returns-in-Nothing c = search nothing_printed
+pub returns-in-None : goal.returns-in-None
+returns-in-None c = search nothing_printed
 
-pub returns-in-Says : goal.returns-in-Says
-returns-in-Says c = search last_printed
+pub returns-in-Some : goal.returns-in-Some
+returns-in-Some c = search last_printed
