@@ -1,4 +1,5 @@
-// 01's number of each answer.
+// 01's number of each answer: 0 where it is done, else that of the refusal.
+// A function for each answer: a trait over the three would say no less than the two arms that it saves.
 ghost use Rattle.std.specs.Prelude.{◌≡◌};
 ghost use Rattle.commands.specs.Outcome.{number_of_outcome};
 ghost use Rattle.panel.specs.Numbers.{contact_number, lift_number};
@@ -7,17 +8,12 @@ use commands::Refusal;
 use panel::{ContactError, LiftError};
 
 #[tactic(auto, unfolding(commands::specs::Outcome::number_of_outcome))]
-pub fn outcome_number(o: Result<(), Refusal>) -> u8
-    ensures { result ≡ number_of_outcome o }
+pub fn outcome_number(outcome: Result<(), Refusal>) -> u8
+    ensures { result ≡ number_of_outcome outcome }
 {
-    match o {
+    match outcome {
         Ok(()) => 0,
-        Err(Refusal::UnknownCommand) => 2,
-        Err(Refusal::WrongData) => 3,
-        Err(Refusal::PastEnd) => 4,
-        Err(Refusal::Unwritable) => 5,
-        Err(Refusal::WrongValue) => 6,
-        Err(Refusal::ReplyTooLong) => 7,
+        Err(why) => why.number(),
     }
 }
 
@@ -27,13 +23,7 @@ pub fn contact_number(answer: Result<(), ContactError>) -> u8
 {
     match answer {
         Ok(()) => 0,
-        Err(ContactError::NotLent) => 14,
-        Err(ContactError::WrongList) => 16,
-        Err(ContactError::Waits) => 1,
-        Err(ContactError::NotRecords) => 12,
-        Err(ContactError::WrongRecord(_)) => 13,
-        Err(ContactError::TouchOff) => 9,
-        Err(ContactError::OffScreen) => 8,
+        Err(why) => why.number(),
     }
 }
 
@@ -43,7 +33,6 @@ pub fn lift_number(answer: Result<(), LiftError>) -> u8
 {
     match answer {
         Ok(()) => 0,
-        Err(LiftError::Waits) => 1,
-        Err(LiftError::IsUp) => 10,
+        Err(why) => why.number(),
     }
 }
