@@ -1,10 +1,9 @@
 -- Laws of a step: what it finds at the front of the input, and what that leaves.
-use Rattle.std.specs.Prelude.{Ok, Err}
+use Rattle.std.specs.Prelude.{Ok, Err, replicate}
 use mathlib.Core.Path.{◌≡◌, refl, sym, ap, ◌∙◌}
 use mathlib.Core.Bool.{Bool, true, false, cond, ◌&&◌}
 use mathlib.Core.List.{List, [], ◌∷◌}
-use Prim.Native.Nat.{ℕ, ◌-◌, ◌≤◌}
-use native.Mathlib.Nat.{sub-zero}
+use Prim.Native.Nat.{ℕ, ◌≤◌}
 use native.Mathlib.Omega.{arith}
 use borrow.Author.Tests.{ne_eqb, leb-true}
 use lib.Dec.{eqb, leb}
@@ -59,12 +58,15 @@ module _ (trace : Trace) where
   no_input [] f is is_f = is_f
   no_input (b ∷ input) f is is_f = absurd (omega arith)
 
-  pub one_byte : (input : List ℕ) → (length input ≡ 0 → ⊥) → finds First 0 (get_or input 0 0) trace ≡ first_byte trace input
+  pub one_byte : (input : List ℕ) → (length input ≡ 0 → ⊥) → finds (First (get_or input 0 0)) trace ≡ first_byte trace input
   unfolding first_byte
   one_byte [] some = absurd (some refl)
   one_byte (b ∷ input) some = refl
 
-module _ (trace : Trace) (input empty run : List ℕ) (n : ℕ) (is : lays n run ≡ gathered input empty) (long : length empty ≡ longest_run) where
+module _ (trace : Trace) (input empty run : List ℕ) (n : ℕ) (is : lays n run ≡ gathered input empty) (nothing : empty ≡ replicate longest_run 0) where
+  long : length empty ≡ longest_run
+  long = ap length nothing
+
   is_run : take n run ≡ line_run longest_run input
   is_run = gathered_run input empty run n longest_run is long
 
@@ -75,20 +77,20 @@ module _ (trace : Trace) (input empty run : List ℕ) (n : ℕ) (is : lays n run
         let no_run : eqb (length (line_run longest_run input)) 0 ≡ true = ap (λ (l : List ℕ). eqb (length l) 0) (sym is_run ∙ ap (λ (k : ℕ). take k run) none) in
         rw no_run is_f
 
-    pub some_lines : (took : Took) → (n ≡ 0 → ⊥) → n ≤ length empty → took ≡ ran_bytes trace (take (n - 0) run)
+    pub some_lines : (took : Took) → (n ≡ 0 → ⊥) → n ≤ length empty → took ≡ ran_bytes trace (take n run)
         → f ≡ ran_found took.used took.trace → f ≡ first_lines trace input
     unfolding first_lines
     some_lines took some few is-took is_f =
         let long-run : length (line_run longest_run input) ≡ n = ap length (sym is_run) ∙ length-take-le n run (omega (arith, few, gathered_long input empty run n is few)) in
         let some-run : eqb (length (line_run longest_run input)) 0 ≡ false = ne_eqb (length (line_run longest_run input)) 0 (λ z. some (sym long-run ∙ z)) in
-        let same : took ≡ ran_bytes trace (line_run longest_run input) = is-took ∙ ap (λ (k : ℕ). ran_bytes trace (take k run)) (sub-zero n) ∙ ap (ran_bytes trace) is_run in
+        let same : took ≡ ran_bytes trace (line_run longest_run input) = is-took ∙ ap (ran_bytes trace) is_run in
         rw some-run (is_f ∙ ap (λ (t : Took). ran_found t.used t.trace) same)
 
 pub in_runs : (trace : Trace) (b : Bool) → b ≡ is_started trace.stage → (b && eqb trace.have 0) ≡ goes_in_runs trace
 in_runs trace b is = ap (λ (c : Bool). c && eqb trace.have 0) is
 
 module _ (trace : Trace) (input : List ℕ) (w : Bool) (is-w : w ≡ waits trace) where
-  pub finds_report : w ≡ true → finds Waits 0 0 trace ≡ found trace input
+  pub finds_report : w ≡ true → finds Waits trace ≡ found trace input
   unfolding found
   finds_report is = rw (sym is-w ∙ is)
 
@@ -106,12 +108,13 @@ module _ (trace : Trace) (input : List ℕ) (w : Bool) (is-w : w ≡ waits trace
 module _ (table : List ℕ) (memory : Memory) where
   module _ (room : List ℕ) (f : Found) where
     so : (front : AtFront) → f.front ≡ front
-        → step_printing (front_step table memory front f.used f.first f.trace) room ≡ step_printing (found_step table memory f) room
-    so front is = ap (λ (a : AtFront). step_printing (front_step table memory a f.used f.first f.trace) room) (sym is)
+        → step_printing (front_step table memory front f.trace) room ≡ step_printing (found_step table memory f) room
+    so front is = ap (λ (a : AtFront). step_printing (front_step table memory a f.trace) room) (sym is)
 
-    pub ran_lines : f.front ≡ Ran → leaves_step (record { trace = f.trace; used = f.used; count = 0 }) table memory room ≡ step_printing (found_step table memory f) room
+    pub ran_lines : (used : ℕ) → f.front ≡ Ran used
+        → leaves_step (record { trace = f.trace; used = used; count = 0 }) table memory room ≡ step_printing (found_step table memory f) room
     unfolding front_step
-    ran_lines is = ap (λ (l : List ℕ). leaves_step (record { trace = f.trace; used = f.used; count = 0 }) table memory l) (sym (over_nil room)) ∙ so Ran is
+    ran_lines used is = ap (λ (l : List ℕ). leaves_step (record { trace = f.trace; used = used; count = 0 }) table memory l) (sym (over_nil room)) ∙ so (Ran used) is
 
     module _ (done : TracePrinted) (memory' : Memory) (left : List ℕ) (took : Took) where
       pub hands_one : f.front ≡ Waits → leaves_event done memory' left ≡ event_printing f.trace (asked_once f.trace.panel memory) room → took ≡ taking_so done 0
@@ -141,14 +144,14 @@ module _ (table : List ℕ) (memory : Memory) where
 
 -- a byte, of which what is said holds whatever the curve area holds
 module _ (table words curves room : List ℕ) (f : Found) (done : TracePrinted) (table' words' left : List ℕ) (took : Took) where
-  pub takes_byte : f.front ≡ First
-      → ((area : List ℕ) → leaves_byte done table' (remembering words' area) left ≡ byte_printing (took_byte (holds f.trace table (remembering words area)) f.first) room)
+  pub takes_byte : (b : ℕ) → f.front ≡ First b
+      → ((area : List ℕ) → leaves_byte done table' (remembering words' area) left ≡ byte_printing (took_byte (holds f.trace table (remembering words area)) b) room)
       → took ≡ taking_so done 1 → leaves_step took table' (remembering words' curves) left ≡ step_printing (found_step table (remembering words curves) f) room
   unfolding front_step
-  takes_byte is e is-took =
+  takes_byte b is e is-took =
       ap (λ (t : Took). leaves_step t table' (remembering words' curves) left) is-took
       ∙ ap (λ (l : ByteLeft). leaves_step (taking_so l.printed 1) l.table l.memory l.room) (e curves)
-      ∙ so table (remembering words curves) room f First is
+      ∙ so table (remembering words curves) room f (First b) is
 
 pub lent_judged : (table words curves room : ℕ)
     → (leb table_bytes table && eqb words word_count && eqb curves curve_words && leb least_text room) ≡ lent_to table words curves room

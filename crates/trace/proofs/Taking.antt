@@ -11,6 +11,10 @@ use Rattle.wire.specs.ByteOrder.{byte_at}
 use Rattle.wire.specs.Room.{over, Laid, lays}
 use Rattle.wire.proofs.Over.{over_nil}
 use Rattle.touch.specs.declared.Setup.{Setup}
+use Rattle.items.specs.declared.Kind.{Kind}
+use Rattle.items.specs.declared.Kind.TheVariants as kinds
+use Rattle.items.specs.KindBytes.{number_of}
+use Rattle.items.proofs.KindBytes.{one_kind}
 use Rattle.text.specs.declared.Line.TheVariants as line
 use Rattle.text.specs.Text.{line_text}
 use Rattle.telling.specs.Memory.{Memory, remembering}
@@ -36,25 +40,28 @@ setup_ready trace item setup is = ap (with_setup trace) is
 pub item_ended : (trace next : Trace) (nothing : List ℕ) → nothing ≡ no_item → next ≡ gathering trace nothing 0 → next ≡ idle trace
 item_ended trace next nothing is-nothing is_next = is_next ∙ ap (λ (l : List ℕ). gathering trace l 0) is-nothing
 
-pub quiet_judged_lem : (trace : Trace) (nothing : List ℕ) → nothing ≡ no_item → judges Quiet trace nothing ≡ quiet_judged trace
-quiet_judged_lem trace nothing is = ap (judges Quiet trace) is
-
 module _ (trace : Trace) (item : List ℕ) (k : ℕ) (is-k : k ≡ byte_at item 0) where
-  pub setup_whole : (next : Trace) (j : Judged) → k ≡ 0 → next ≡ with_setup trace (setup_in item) → j ≡ quiet_judged next → j ≡ whole_judged trace item
+  module _ (kind : Kind) (number : number_of kind ≡ k) where
+    pub setup_whole : (next : Trace) (j : Judged) → kind ≡ kinds.Setup → next ≡ with_setup trace (setup_in item) → j ≡ quiet_judged next → j ≡ whole_judged trace item
+    unfolding whole_judged
+    setup_whole next j is is_next is-j = rw (← (rw is at number) ∙ is-k) (is-j ∙ ap quiet_judged is_next)
+
+    pub record_whole : kind ≡ kinds.Record → judges (Met item) trace ≡ whole_judged trace item
+    unfolding whole_judged
+    record_whole is = rw (← (rw is at number) ∙ is-k)
+
+  event_judged : (byte_at item 0 ≡ 0 → ⊥) → (byte_at item 0 ≡ 5 → ⊥) → judges (Happens item) trace ≡ whole_judged trace item
   unfolding whole_judged
-  setup_whole next j is is_next is-j = rw (sym is-k ∙ is) (is-j ∙ ap quiet_judged is_next)
+  event_judged not-0 not-5 = rw (ne_eqb (byte_at item 0) 0 not-0, ne_eqb (byte_at item 0) 5 not-5)
 
-  module _ (not-0 : k ≡ 0 → ⊥) where
-    other : eqb (byte_at item 0) 0 ≡ false
-    other = ne_eqb (byte_at item 0) 0 (λ z. not-0 (is-k ∙ z))
+  -- no kind at all goes as an event does
+  pub other_whole : (j : Judged) → 6 < k → j ≡ judges (Happens item) trace → j ≡ whole_judged trace item
+  other_whole j unknown is-j = is-j ∙ event_judged (λ z. absurd (omega arith)) (λ z. absurd (omega arith))
 
-    pub record_whole : (c : Comes) → c ≡ Met → k ≡ 5 → judges c trace item ≡ whole_judged trace item
-    unfolding whole_judged
-    record_whole c is_c is = rw (sym is-k ∙ is) (ap (λ (c : Comes). judges c trace item) is_c)
-
-    pub event_whole : (c : Comes) → c ≡ Happens → (k ≡ 5 → ⊥) → judges c trace item ≡ whole_judged trace item
-    unfolding whole_judged
-    event_whole c is_c not-5 = rw (other, ne_eqb (byte_at item 0) 5 (λ z. not-5 (is-k ∙ z))) (ap (λ (c : Comes). judges c trace item) is_c)
+  pub event_whole : (kind : Kind) (j : Judged) → number_of kind ≡ k → (kind ≡ kinds.Setup → ⊥) → (kind ≡ kinds.Record → ⊥) → j ≡ judges (Happens item) trace
+      → j ≡ whole_judged trace item
+  event_whole kind j number not-setup not-record is-j =
+      is-j ∙ event_judged (λ z. not-setup (one_kind kind kinds.Setup (number ∙ is-k ∙ z))) (λ z. not-record (one_kind kind kinds.Record (number ∙ is-k ∙ z)))
 
 module _ (trace : Trace) (item : List ℕ) (k n : ℕ) (is-k : k ≡ byte_at item 0) (is-n : n ≡ body_length k) (next : Trace) (j : Judged) where
   is_long : n ≡ body_length (byte_at item 0)
@@ -78,11 +85,11 @@ module _ (trace : Trace) (b : ℕ) (o : Bool) (is-o : o ≡ is_over trace.stage)
   over_quiet j is is-j = rw (sym is-o ∙ is) is-j
 
   module _ (going : o ≡ false) (m : Bool) (is_m : m ≡ may_come trace.stage b) where
-    pub kind_wrong : (nothing : List ℕ) → (eqb trace.have 0 && not m) ≡ true → nothing ≡ no_item → judges Wrong trace nothing ≡ byte_judged trace b
+    pub kind_wrong : (eqb trace.have 0 && not m) ≡ true → judges Wrong trace ≡ byte_judged trace b
     unfolding byte_judged
-    kind_wrong nothing is is-nothing =
+    kind_wrong is =
         let so : (eqb trace.have 0 && not (may_come trace.stage b)) ≡ true = rw is_m at is in
-        rw (sym is-o ∙ going, so) (ap (judges Wrong trace) is-nothing)
+        rw (sym is-o ∙ going, so)
 
     pub kind_right : (item : List ℕ) (j : Judged) → (eqb trace.have 0 && not m) ≡ false → item ≡ set trace.item trace.have b → j ≡ growing trace item → j ≡ byte_judged trace b
     unfolding byte_judged
@@ -104,20 +111,20 @@ quiet_left table memory room done next table' is is-table =
     ∙ ap (λ (l : List ℕ). leaves_byte (quietly next) table' memory l) (sym (over_nil room))
 
 module _ (table : List ℕ) (memory : Memory) where
-  unfoldable comes_to : Comes → Trace → List ℕ → Shown
-  comes_to Quiet next item = shows (holds next table memory) []
-  comes_to Wrong next item = fails (holds next table memory) wrong_text
-  comes_to Met next item = shows (met_record (holds next table memory) item) []
-  comes_to Happens next item = event_done (holds next table memory) item
+  unfoldable comes_to : Comes → Trace → Shown
+  comes_to Quiet next = shows (holds next table memory) []
+  comes_to Wrong next = fails (holds next table memory) wrong_text
+  comes_to (Met item) next = shows (met_record (holds next table memory) item) []
+  comes_to (Happens item) next = event_done (holds next table memory) item
 
   abbrev judged_to : Judged → Shown
-  judged_to j = comes_to j.comes j.trace j.item
+  judged_to j = comes_to j.comes j.trace
 
   either : (b : Bool) (i j : Judged) (s t : Shown) → s ≡ judged_to i → t ≡ judged_to j → cond b s t ≡ judged_to (cond b i j)
   either true i j s t is-s is-t = is-s
   either false i j s t is-s is-t = is-t
 
-  record_or_event : (b : Bool) (next : Trace) (item : List ℕ) → cond b (comes_to Met next item) (comes_to Happens next item) ≡ comes_to (cond b Met Happens) next item
+  record_or_event : (b : Bool) (next : Trace) (item : List ℕ) → cond b (comes_to (Met item) next) (comes_to (Happens item) next) ≡ comes_to (cond b (Met item) (Happens item)) next
   record_or_event true next item = refl
   record_or_event false next item = refl
 
@@ -130,10 +137,10 @@ module _ (table : List ℕ) (memory : Memory) where
       either (is_over trace.stage) _ _ _ _ refl (either (eqb trace.have 0 && not (may_come trace.stage b)) _ _ _ _ refl grows)
 
   module _ (trace : Trace) (room : List ℕ) (b : ℕ) (j : Judged) (is-j : j ≡ byte_judged trace b) where
-    so : (c : Comes) → j.comes ≡ c → byte_printing (comes_to c j.trace j.item) room ≡ byte_printing (took_byte (holds trace table memory) b) room
+    so : (c : Comes) → j.comes ≡ c → byte_printing (comes_to c j.trace) room ≡ byte_printing (took_byte (holds trace table memory) b) room
     so c is =
         ap (λ (s : Shown). byte_printing s room)
-        (ap (λ (d : Comes). comes_to d j.trace j.item) (sym is) ∙ ap (λ (k : Judged). judged_to k) is-j ∙ sym (took_judged trace b))
+        (ap (λ (d : Comes). comes_to d j.trace) (sym is) ∙ ap (λ (k : Judged). judged_to k) is-j ∙ sym (took_judged trace b))
 
     pub quiet_taken : j.comes ≡ Quiet → leaves_byte (quietly j.trace) table memory room ≡ byte_printing (took_byte (holds trace table memory) b) room
     unfolding comes_to
@@ -148,19 +155,19 @@ module _ (table : List ℕ) (memory : Memory) where
           ∙ ap (λ (t : Trace). leaves_byte (record { trace = t; count = length (line_text (line.Failed 15)) }) table memory (over (line_text (line.Failed 15)) room)) is-trace
           ∙ so Wrong is
 
-    pub record_taken : (done : TracePrinted) (table' : List ℕ) → j.comes ≡ Met → done ≡ quietly (with_records j.trace (record_counted j.trace.records))
-        → table' ≡ record_put j.trace.records j.item table
+    pub record_taken : (item : List ℕ) (done : TracePrinted) (table' : List ℕ) → j.comes ≡ Met item → done ≡ quietly (with_records j.trace (record_counted j.trace.records))
+        → table' ≡ record_put j.trace.records item table
         → leaves_byte done table' memory room ≡ byte_printing (took_byte (holds trace table memory) b) room
     unfolding comes_to
-    record_taken done table' is is_done_lem is-table =
-        quiet_left table' memory room done (with_records j.trace (record_counted j.trace.records)) (record_put j.trace.records j.item table) is_done_lem is-table
-        ∙ so Met is
+    record_taken item done table' is is_done_lem is-table =
+        quiet_left table' memory room done (with_records j.trace (record_counted j.trace.records)) (record_put j.trace.records item table) is_done_lem is-table
+        ∙ so (Met item) is
 
 -- an event, whatever the curve area holds
 module _ (table words room : List ℕ) (trace : Trace) (b : ℕ) (j : Judged) (is-j : j ≡ byte_judged trace b) where
-  pub event_taken : (done : TracePrinted) (words' left : List ℕ) → j.comes ≡ Happens
+  pub event_taken : (item : List ℕ) (done : TracePrinted) (words' left : List ℕ) → j.comes ≡ Happens item
       → ((curves : List ℕ) → leaves_byte done table (remembering words' curves) left
-      ≡ byte_printing (event_done (holds j.trace table (remembering words curves)) j.item) room)
+      ≡ byte_printing (event_done (holds j.trace table (remembering words curves)) item) room)
       → (curves : List ℕ) → leaves_byte done table (remembering words' curves) left ≡ byte_printing (took_byte (holds trace table (remembering words curves)) b) room
   unfolding comes_to
-  event_taken done words' left is e curves = e curves ∙ so table (remembering words curves) trace room b j is-j Happens is
+  event_taken item done words' left is e curves = e curves ∙ so table (remembering words curves) trace room b j is-j (Happens item) is

@@ -110,17 +110,17 @@ abbrev pub goes_in_runs : Trace → Bool
 goes_in_runs trace = is_started trace.stage && eqb trace.have 0
 
 -- what a step finds at the front of the input
-abbrev pub finds : AtFront → (used first : ℕ) → Trace → Found
-finds front used first trace = record { front = front; used = used; first = first; trace = trace }
+abbrev pub finds : AtFront → Trace → Found
+finds front trace = record { front = front; trace = trace }
 
 -- a run that took so much of the input
 abbrev pub ran_found : (used : ℕ) → Trace → Found
-ran_found used trace = finds Ran used 0 trace
+ran_found used trace = finds (Ran used) trace
 
 -- the first byte, if there is one
 unfoldable pub first_byte : Trace → List ℕ → Found
 first_byte trace [] = ran_found 0 trace
-first_byte trace (b ∷ input) = finds First 0 b trace
+first_byte trace (b ∷ input) = finds (First b) trace
 
 -- a run of line bytes, if there is one, else one byte
 unfoldable pub first_lines : Trace → List ℕ → Found
@@ -131,29 +131,29 @@ first_lines trace input =
 
 -- a report that waits; else line bytes as a run where they go so, and one byte where they do not
 unfoldable pub found : Trace → List ℕ → Found
-found trace input = cond (waits trace) (finds Waits 0 0 trace) (cond (goes_in_runs trace) (first_lines trace input) (first_byte trace input))
+found trace input = cond (waits trace) (finds Waits trace) (cond (goes_in_runs trace) (first_lines trace input) (first_byte trace input))
 
 -- what a step does with what it finds
-unfoldable pub front_step : List ℕ → Memory → AtFront → (used first : ℕ) → Trace → Step
-front_step table memory Waits used first next = takes 0 (report_shown (holds next table memory))
-front_step table memory Ran used first next = takes used (shows (holds next table memory) [])
-front_step table memory First used first next = takes 1 (took_byte (holds next table memory) first)
+unfoldable pub front_step : List ℕ → Memory → AtFront → Trace → Step
+front_step table memory Waits next = takes 0 (report_shown (holds next table memory))
+front_step table memory (Ran used) next = takes used (shows (holds next table memory) [])
+front_step table memory (First b) next = takes 1 (took_byte (holds next table memory) b)
 
 abbrev pub found_step : List ℕ → Memory → Found → Step
-found_step table memory f = front_step table memory f.front f.used f.first f.trace
+found_step table memory f = front_step table memory f.front f.trace
 
 -- what a byte comes to
-abbrev pub judges : Comes → Trace → List ℕ → Judged
-judges comes trace item = record { comes = comes; trace = trace; item = item }
+abbrev pub judges : Comes → Trace → Judged
+judges comes trace = record { comes = comes; trace = trace }
 
 -- a byte that prints nothing
 abbrev pub quiet_judged : Trace → Judged
-quiet_judged trace = judges Quiet trace no_item
+quiet_judged trace = judges Quiet trace
 
 -- an item that is whole
 unfoldable pub whole_judged : Trace → List ℕ → Judged
 whole_judged trace item =
-    cond (eqb (byte_at item 0) 0) (quiet_judged (with_setup trace (setup_in item))) (judges (cond (eqb (byte_at item 0) 5) Met Happens) trace item)
+    cond (eqb (byte_at item 0) 0) (quiet_judged (with_setup trace (setup_in item))) (judges (cond (eqb (byte_at item 0) 5) (Met item) (Happens item)) trace)
 
 -- an item that has one byte more
 unfoldable pub growing : Trace → List ℕ → Judged
@@ -163,7 +163,7 @@ growing trace item = cond (leb (body_length (byte_at item 0)) trace.have) (whole
 unfoldable pub byte_judged : Trace → ℕ → Judged
 byte_judged trace b =
     cond (is_over trace.stage) (quiet_judged trace)
-    (cond (eqb trace.have 0 && not (may_come trace.stage b)) (judges Wrong trace no_item) (growing trace (set trace.item trace.have b)))
+    (cond (eqb trace.have 0 && not (may_come trace.stage b)) (judges Wrong trace) (growing trace (set trace.item trace.have b)))
 
 -- the last line of a trace that had a setup
 unfoldable pub page_or_refusal : Trace → List ℕ → Line

@@ -2,32 +2,40 @@
 ghost use Rattle.std.specs.Prelude.{◌≡◌, List, ℕ, ◌≤◌, length};
 ghost use Rattle.telling.specs.Told.{least_text};
 ghost use Rattle.telling.specs.Memory.{remembering};
-ghost use Rattle.trace.specs.Inner.{byte_printing, leaves_byte, byte_judged, growing, whole_judged};
+ghost use Rattle.trace.specs.Inner.{byte_printing, leaves_byte, byte_judged, growing, judges, whole_judged};
+ghost use Rattle.trace.specs.declared.Comes.TheVariants.{Happens};
 ghost use Rattle.items.specs.Records.{table_bytes};
 ghost use Rattle.trace.specs.State.{holds};
 ghost use Rattle.trace.specs.Events.{took_byte};
 
 use crate::{Comes, Judged, Trace, TracePrinted, event, item, lines, records};
-use items::ITEM_BYTES;
+use items::{ITEM_BYTES, Kind};
 use text::Line;
+
+// An event that is whole.
+fn happens(trace: Trace, item: [u8; ITEM_BYTES]) -> Judged
+    ensures { result ≡ judges (Happens item) trace }
+{
+    Judged {
+        comes: Comes::Happens(item),
+        trace,
+    }
+}
 
 // What an item that is whole comes to.
 pub fn whole(trace: Trace, item: [u8; ITEM_BYTES]) -> Judged
     ensures { result ≡ whole_judged trace item }
 {
-    let kind = items::kind_of(item);
-    if kind == 0 {
-        return item::quiet(item::with_setup(trace, item));
-    }
-    let comes = if kind == 5 {
-        Comes::Met
-    } else {
-        Comes::Happens
+    let Ok(kind) = Kind::try_from(items::kind_of(item)) else {
+        return happens(trace, item);
     };
-    Judged {
-        comes: comes,
-        trace: trace,
-        item: item,
+    match kind {
+        Kind::Setup => item::quiet(item::with_setup(trace, item)),
+        Kind::Record => Judged {
+            comes: Comes::Met(item),
+            trace,
+        },
+        _ => happens(trace, item),
     }
 }
 
@@ -45,20 +53,16 @@ pub fn grow(trace: Trace, item: [u8; ITEM_BYTES]) -> Judged
 pub fn judge(trace: Trace, b: u8) -> Judged
     ensures { result ≡ byte_judged trace b }
 {
-    let stage = trace.stage;
-    if items::is_over(stage) {
+    if items::is_over(trace.stage) {
         return item::quiet(trace);
     }
-    if (trace.have == 0) & !items::may_come(stage, b) {
-        let comes = Comes::Wrong;
+    if (trace.have == 0) & !items::may_come(trace.stage, b) {
         return Judged {
-            comes: comes,
-            trace: trace,
-            item: items::no_item(),
+            comes: Comes::Wrong,
+            trace,
         };
     }
-    let old = trace.item;
-    grow(trace, items::with_byte(old, trace.have, b))
+    grow(trace, items::with_byte(trace.item, trace.have, b))
 }
 
 // One byte of the input.
@@ -73,16 +77,11 @@ pub(crate) fn take_byte(
     ensures { (curves : List ℕ) → leaves_byte result table.new (remembering words.new curves) room.new ≡ byte_printing (took_byte (holds trace table.old (remembering words.old curves)) b) room.old }
 {
     let judged = judge(trace, b);
-    let comes = judged.comes;
-    let next = judged.trace;
-    let item = judged.item;
-    match comes {
-        Comes::Quiet => TracePrinted {
-            trace: next,
-            count: 0,
-        },
-        Comes::Wrong => lines::stop(next, Line::Failed(15), room),
-        Comes::Met => records::met(next, item, table),
-        Comes::Happens => event::any_event(next, item, table, words, room),
+    let trace = judged.trace;
+    match judged.comes {
+        Comes::Quiet => TracePrinted { trace, count: 0 },
+        Comes::Wrong => lines::stop(trace, Line::Failed(15), room),
+        Comes::Met(item) => records::met(trace, item, table),
+        Comes::Happens(item) => event::any_event(trace, item, table, words, room),
     }
 }

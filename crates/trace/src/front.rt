@@ -2,14 +2,14 @@
 ghost use Rattle.std.specs.Prelude.{◌≡◌};
 ghost use Rattle.trace.specs.Inner.{goes_in_runs, ran_found, first_byte, first_lines, found};
 
-use crate::{AtFront, Found, Trace, run};
+use crate::run::{LONGEST_RUN, give_run};
+use crate::{AtFront, Found, Trace};
 
 // Whether line bytes go in a run: the panel is started, and no item is begun.
 fn goes_in_runs(trace: Trace) -> bool
     ensures { result ≡ goes_in_runs trace }
 {
-    let stage = trace.stage;
-    items::is_started(stage) & (trace.have == 0)
+    items::is_started(trace.stage) & (trace.have == 0)
 }
 
 // The first byte, if there is one.
@@ -19,12 +19,9 @@ fn first_byte(trace: Trace, input: &[u8]) -> Found
     if input.len() == 0 {
         return ran(0, trace);
     }
-    let front = AtFront::First;
     Found {
-        front: front,
-        used: 0,
-        first: input[0],
-        trace: trace,
+        front: AtFront::First(input[0]),
+        trace,
     }
 }
 
@@ -32,12 +29,9 @@ fn first_byte(trace: Trace, input: &[u8]) -> Found
 fn ran(used: usize, trace: Trace) -> Found
     ensures { result ≡ ran_found used trace }
 {
-    let front = AtFront::Ran;
     Found {
-        front: front,
-        used: used,
-        first: 0,
-        trace: trace,
+        front: AtFront::Ran(used),
+        trace,
     }
 }
 
@@ -45,14 +39,13 @@ fn ran(used: usize, trace: Trace) -> Found
 fn first_lines(trace: Trace, input: &[u8]) -> Found
     ensures { result ≡ first_lines trace input.now }
 {
-    let mut run = run::no_run();
+    let mut run = wire::zeros::<LONGEST_RUN>();
     let n = items::gather_run(input, &mut run);
     if n == 0 {
         return first_byte(trace, input);
     }
-    let took = run::give_run(trace, &run[0..n]);
-    let next = took.trace;
-    ran(took.used, next)
+    let took = give_run(trace, &run[..n]);
+    ran(took.used, took.trace)
 }
 
 // What a step finds: line bytes go as a run between two items of a panel that is started, all else byte by byte.
@@ -60,12 +53,9 @@ pub fn find(trace: Trace, input: &[u8]) -> Found
     ensures { result ≡ found trace input.now }
 {
     if trace.is_waiting() {
-        let front = AtFront::Waits;
         return Found {
-            front: front,
-            used: 0,
-            first: 0,
-            trace: trace,
+            front: AtFront::Waits,
+            trace,
         };
     }
     if goes_in_runs(trace) {

@@ -12,8 +12,8 @@ pub fn gather(trace: Trace, item: [u8; ITEM_BYTES], have: usize) -> Trace
     ensures { result ≡ gathering trace item have }
 {
     Trace {
-        item: item,
-        have: have,
+        item,
+        have,
         ..trace
     }
 }
@@ -29,11 +29,9 @@ pub fn between(trace: Trace) -> Trace
 pub fn quiet(trace: Trace) -> Judged
     ensures { result ≡ quiet_judged trace }
 {
-    let comes = Comes::Quiet;
     Judged {
-        comes: comes,
-        trace: trace,
-        item: items::no_item(),
+        comes: Comes::Quiet,
+        trace,
     }
 }
 
@@ -41,11 +39,9 @@ pub fn quiet(trace: Trace) -> Judged
 pub fn with_setup(trace: Trace, item: [u8; ITEM_BYTES]) -> Trace
     ensures { result ≡ with_setup trace (setup_in item) }
 {
-    let setup = items::setup_in(&item);
-    let stage = Stage::Ready;
     Trace {
-        stage: stage,
-        setup: setup,
+        stage: Stage::Ready,
+        setup: items::setup_in(&item),
         ..trace
     }
 }

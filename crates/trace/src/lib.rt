@@ -84,18 +84,16 @@ struct Took {
 enum AtFront {
     // A report comes before any input.
     Waits,
-    // A run of line bytes, which the panel was given; or nothing.
-    Ran,
+    // A run of line bytes, which the panel was given, and how much of the input it took; or nothing.
+    Ran(usize),
     // Any other byte.
-    First,
+    First(u8),
 }
 
-// How much of the input a run took, the first byte where that is to be taken, and the trace to go on with.
+// What stands there, and the trace to go on with.
 #[derive(Clone, Copy)]
 struct Found {
     front: AtFront,
-    used: usize,
-    first: u8,
     trace: Trace,
 }
 
@@ -106,18 +104,17 @@ enum Comes {
     Quiet,
     // A kind that may not come.
     Wrong,
-    // A touch record that is whole.
-    Met,
-    // An event that is whole.
-    Happens,
+    // A touch record, the item whole.
+    Met([u8; ITEM_BYTES]),
+    // An event, the item whole.
+    Happens([u8; ITEM_BYTES]),
 }
 
-// The trace to go on with, and the item that is whole.
+// What it comes to, and the trace to go on with.
 #[derive(Clone, Copy)]
 struct Judged {
     comes: Comes,
     trace: Trace,
-    item: [u8; ITEM_BYTES],
 }
 
 impl Trace {

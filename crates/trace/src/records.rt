@@ -25,12 +25,10 @@ pub(crate) fn met(trace: Trace, item: [u8; ITEM_BYTES], table: &mut [u8]) -> Tra
     requires { table_bytes ≤ length table.old }
     ensures { (result ≡ quietly (with_records trace (record_counted trace.records))) × (table.new ≡ record_put trace.records item table.old) }
 {
-    let old = trace.records;
-    put(old, item, table);
-    let records = items::one_more(old);
+    put(trace.records, item, table);
     TracePrinted {
         trace: Trace {
-            records: records,
+            records: items::one_more(trace.records),
             ..trace
         },
         count: 0,

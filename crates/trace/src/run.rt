@@ -8,7 +8,7 @@ use items::Stage;
 use panel::{FedBytes, Panel};
 
 // How many line bytes go to the panel at once; `longest_run` in specs/.
-const LONGEST_RUN: usize = 256;
+pub(crate) const LONGEST_RUN: usize = 256;
 
 // Gives the bytes of a run to a panel.
 fn feed_run(panel: Panel, bytes: &[u8]) -> FedBytes
@@ -18,30 +18,19 @@ fn feed_run(panel: Panel, bytes: &[u8]) -> FedBytes
     panel.give_bytes(bytes)
 }
 
-// Where a run is gathered.
-pub fn no_run() -> [u8; LONGEST_RUN]
-    ensures { length result ≡ longest_run }
-{
-    [0u8; LONGEST_RUN]
-}
-
 // Gives a run to the trace's panel; each byte of it is two of the input.
 pub(crate) fn give_run(trace: Trace, bytes: &[u8]) -> Took
     requires { length bytes.now ≤ longest_run }
     ensures { result ≡ ran_bytes trace bytes.now }
 {
-    let panel = trace.panel;
-    let fed = feed_run(panel, bytes);
-    let used = fed.used;
-    let next = fed.panel;
-    let stage = Stage::Started;
+    let fed = feed_run(trace.panel, bytes);
     Took {
         trace: Trace {
-            stage: stage,
-            panel: next,
+            stage: Stage::Started,
+            panel: fed.panel,
             ..trace
         },
-        used: used * 2,
+        used: fed.used * 2,
         count: 0,
     }
 }

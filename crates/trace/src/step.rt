@@ -21,10 +21,9 @@ pub fn is_lent(table: usize, words: usize, curves: usize, room: usize) -> bool
 fn taking(done: TracePrinted, used: usize) -> Took
     ensures { result ≡ taking_so done used }
 {
-    let trace = done.trace;
     Took {
-        trace: trace,
-        used: used,
+        trace: done.trace,
+        used,
         count: done.count,
     }
 }
@@ -40,15 +39,14 @@ pub(crate) fn take_step(
     requires { (table_bytes ≤ length table.old) × (least_text ≤ length room.old) }
     ensures { leaves_step result table.new (remembering words.new curves.new) room.new ≡ step_printing (found_step table.old (remembering words.old curves.old) found) room.old }
 {
-    let front = found.front;
-    let next = found.trace;
-    match front {
-        AtFront::Waits => taking(report::hand_over(next, words, curves, room), 0),
-        AtFront::Ran => Took {
-            trace: next,
-            used: found.used,
+    let trace = found.trace;
+    match found.front {
+        AtFront::Waits => taking(report::hand_over(trace, words, curves, room), 0),
+        AtFront::Ran(used) => Took {
+            trace,
+            used,
             count: 0,
         },
-        AtFront::First => taking(byte::take_byte(next, found.first, table, words, room), 1),
+        AtFront::First(b) => taking(byte::take_byte(trace, b, table, words, room), 1),
     }
 }

@@ -1,12 +1,15 @@
 -- `trace::byte::whole` meets its contract.
-use Rattle.trace.proofs.Taking.{setup_whole, record_whole, event_whole}
+use Rattle.trace.proofs.Taking.{setup_whole, record_whole, event_whole, other_whole}
 use Rattle.trace.proofs.byte.whole.Goals as goal
 
-pub returns-then-kind-eq0 : goal.returns-then-kind-eq0
-returns-then-kind-eq0 c = search setup_whole
+pub returns-in_default : goal.returns-in_default
+returns-in_default c = search (other_whole, c.in_default.ensures.1)
 
-pub returns-then-kind-eq5 : goal.returns-then-kind-eq5
-returns-then-kind-eq5 c = search record_whole
+pub returns-in-Setup : goal.returns-in-Setup
+returns-in-Setup c = search (setup_whole, c.in-Ok.ensures)
 
-pub returns-else-kind-eq5 : goal.returns-else-kind-eq5
-returns-else-kind-eq5 c = search event_whole
+pub returns-in-Record : goal.returns-in-Record
+returns-in-Record c = search (record_whole, c.in-Ok.ensures)
+
+pub returns-in_default-kind : goal.returns-in_default-kind
+returns-in_default-kind c = search (event_whole, c.in-Ok.ensures)
