@@ -3,7 +3,7 @@ use mathlib.Core.Path.{◌≡◌, refl, sym, ap, ◌∙◌}
 use mathlib.Core.Bool.{Bool, true, false, ◌&&◌}
 use mathlib.Core.Logic.{◌≢◌}
 use mathlib.Core.List.{List, [], ◌∷◌, ◌++◌, append_assoc}
-use Prim.Native.Nat.{ℕ, suc, ◌+◌, ◌-◌, ◌*◌, ◌/◌, ◌≤◌, ◌<◌}
+use Prim.Native.Nat.{ℕ, zero, suc, ◌+◌, ◌-◌, ◌*◌, ◌/◌, ◌≤◌, ◌<◌}
 use native.Mathlib.Omega.{arith}
 use borrow.Author.Tests.{le-leb, lt-leb, ltb-true, ltb-false}
 use lib.Dec.{leb, ltb}
@@ -11,19 +11,31 @@ use lib.ListN.{length, get_or, set, take, drop, length-drop, length-append}
 use borrow.Author.Count.{below_more}
 use borrow.Rule.Slice.PartMut.{put_mid}
 use lib.Seq.{take-suc, drop-drop, length-take-le, take_all, get_or-set_same, get_or-set_other}
-use Rattle.wire.specs.ByteOrder.{word_at, high_byte, low_byte}
+use Rattle.std.specs.Simd.{first_chunks}
+use Rattle.wire.specs.ByteOrder.{word, high_byte, low_byte}
 use Rattle.wire.specs.Room.{over, laid_at, lays}
 use Rattle.wire.proofs.Over.{over_nil, over_more, and_true, left_false, right_false, laid_not, laid_whole}
 use Rattle.words.specs.Words.{words_of, bytes_of, word_run, words_written, words_laid}
-use Rattle.words.proofs.Carried.{length_words_of, words_of_at, length_bytes_of, bytes_of_append}
+use Rattle.words.proofs.Carried.{length_words_of, length_bytes_of, bytes_of_append}
 
--- `store_run`, a law for each goal of its loop
-pub stored_more : (run bytes : List ℕ) (i word : ℕ) → ((k : ℕ) → k < i → get_or run k 0 ≡ get_or (words_of bytes) k 0) → i < length run
-    → length run ≡ length bytes / 2 → word ≡ word_at bytes (i * 2) → (k : ℕ) → k < i + 1 → get_or (set run i word) k 0 ≡ get_or (words_of bytes) k 0
-stored_more run bytes i word are inside long is =
+-- what a pair of bytes carries
+word_of_pair : (n : ℕ) (bytes : List ℕ) (i : ℕ) → i < n → n * 2 ≤ length bytes
+    → word (get_or (get_or (first_chunks 2 n bytes) i []) 0 0) (get_or (get_or (first_chunks 2 n bytes) i []) 1 0) ≡ get_or (words_of bytes) i 0
+unfolding words_of
+word_of_pair zero bytes i inside fits = absurd (omega arith)
+word_of_pair (suc n) [] i inside fits = absurd (omega arith)
+word_of_pair (suc n) (high ∷ []) i inside fits = absurd (omega arith)
+word_of_pair (suc n) (high ∷ low ∷ bytes) zero inside fits = refl
+word_of_pair (suc n) (high ∷ low ∷ bytes) (suc i) inside fits = word_of_pair n bytes i (omega arith) (omega arith)
+
+-- `store_run`, a law for the goal of its loop
+pub stored_more : (run bytes : List ℕ) (pairs : List (List ℕ)) (i w : ℕ) → ((k : ℕ) → k < i → get_or run k 0 ≡ get_or (words_of bytes) k 0) → i < length run
+    → i < length bytes / 2 → pairs ≡ first_chunks 2 (length bytes / 2) bytes → w ≡ word (get_or (get_or pairs i []) 0 0) (get_or (get_or pairs i []) 1 0)
+    → (k : ℕ) → k < i + 1 → get_or (set run i w) k 0 ≡ get_or (words_of bytes) k 0
+stored_more run bytes pairs i w are inside more these is =
     below_more _ _
     (λ k h. let other : k ≢ i = omega arith in rw get_or-set_other (are k h))
-    (get_or-set_same run i word 0 inside ∙ is ∙ sym (words_of_at bytes i (rw (length_words_of bytes) (omega arith))))
+    (get_or-set_same run i w 0 inside ∙ is ∙ rw these (word_of_pair (length bytes / 2) bytes i more (omega arith)))
 
 -- `write`, a law for each way it answers. The first holds of a shorter run, too: so an edit of the length is refused at `store_run`.
 module _ (words bytes : List ℕ) (address n : ℕ) (passes : Bool) (is-passes : passes ≡ ltb (length words) (address + n)) where

@@ -44,8 +44,8 @@ fn store_run(run: &mut [u16], bytes: &[u8])
     requires { length run.old ≡ length bytes.now / 2 }
     ensures { run.new ≡ words_of bytes.now }
 {
-    for (i, word) in run.iter_mut().enumerate() {
-        *word = wire::word(bytes[i * 2], bytes[i * 2 + 1]);
+    for (i, [high, low]) in bytes.as_chunks::<2>().0.iter().enumerate() {
+        run[i] = wire::word(*high, *low);
     }
 }
 
