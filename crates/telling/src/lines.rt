@@ -25,7 +25,7 @@ fn print_acknowledgement(acknowledged: usize, reply: &[u8], room: &mut [u8]) -> 
     requires { (written_bytes acknowledgement_bytes ≤ length room.old) × (acknowledged ≤ acknowledgement_bytes) × (length reply.now ≡ least_room) }
     ensures { (lays result room.new ≡ prints (written_text (take acknowledged reply.now)) room.old) × (result ≤ written_bytes acknowledgement_bytes) }
 {
-    text::put_written(&reply[0..acknowledged], room)
+    text::put_written(&reply[..acknowledged], room)
 }
 
 // The line of the reply behind it, where there is one.
