@@ -69,7 +69,7 @@ pub(crate) fn any_event(
     requires { (table_bytes ≤ length table.now) × (least_text ≤ length room.old) }
     ensures { (curves : List ℕ) → leaves_byte result table.now (remembering words.new curves) room.new ≡ byte_printing (event_done (holds trace table.now (remembering words.old curves)) item) room.old }
 {
-    let part = &table[0..items::table_length(trace.records)];
+    let part = &table[..items::table_length(trace.records)];
     let begun = trace.begin(part);
     match begun.answer {
         Ok(()) => started_event(trace, begun, item, part, words, room),
