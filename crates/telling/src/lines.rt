@@ -1,4 +1,5 @@
-// The lines of a report, laid over the front of a room that has space for them.
+// The lines of a report, laid over the front of a room that has space for them. The room is a lent slice with a `requires`: a struct over a `&mut` slice
+// would be taken apart and lent again at each part of it.
 ghost use Rattle.std.specs.Prelude.{◌≡◌, ◌++◌, ◌≤◌, length, take, drop};
 ghost use Rattle.wire.specs.Room.{lays};
 ghost use Rattle.frame.specs.Frame.{longest_frame};
