@@ -21,10 +21,10 @@ use Rattle.line.specs.Methods.{asked}
 use Rattle.wire.proofs.Truths.{never}
 use Rattle.wire.specs.Addresses.{word_count}
 use Rattle.words.specs.Words.{words_written}
-use Rattle.commands.specs.Outcome.{Outcome}
+use Rattle.commands.specs.Outcome.{Outcome, write_registers_outcome, read_registers_outcome, write_words_outcome, read_words_outcome, add_curves_outcome, outcome, is_done}
 use Rattle.commands.specs.Outcome as Outcome
+use Rattle.commands.specs.declared.Refusal.{Refusal}
 use Rattle.commands.specs.declared.Refusal.TheVariants.{UnknownCommand, WrongData, PastEnd, Unwritable, WrongValue, ReplyTooLong}
-use Rattle.commands.specs.Outcome.{write_registers_outcome, read_registers_outcome, write_words_outcome, read_words_outcome, add_curves_outcome, outcome, is_done}
 use Rattle.commands.specs.Effect.{words_writing, replying, registers_replying, words_replying, answered, catch_dropped, registers_writing, curves_adding}
 use Rattle.commands.specs.declared.Performed.{Performed}
 use Rattle.commands.specs.Perform.{performs, performance}
@@ -49,16 +49,21 @@ use Rattle.line.proofs.Asking.{nothing_keeps}
 use Rattle.demands.proofs.WellLent.{tested_well}
 use Rattle.demands.proofs.FrameAsked.{Asks, handed_asks, done_number, performance_leaves, part_holds}
 
--- what has number 0 is done
-zero_done : (o : Outcome) → Outcome.number_of_outcome o ≡ 0 → is_done o ≡ true
+-- "Numbers 2 to 7 are answers beside a frame's report"
+pub refused_from_2 : (why : Refusal) → 2 ≤ Outcome.number_of_outcome (Err why)
 unfolding Outcome.number_of_outcome
-zero_done (Ok tt) is = refl
-zero_done (Err UnknownCommand) is = absurd (omega arith)
-zero_done (Err WrongData) is = absurd (omega arith)
-zero_done (Err PastEnd) is = absurd (omega arith)
-zero_done (Err Unwritable) is = absurd (omega arith)
-zero_done (Err WrongValue) is = absurd (omega arith)
-zero_done (Err ReplyTooLong) is = absurd (omega arith)
+refused_from_2 UnknownCommand = omega arith
+refused_from_2 WrongData = omega arith
+refused_from_2 PastEnd = omega arith
+refused_from_2 Unwritable = omega arith
+refused_from_2 WrongValue = omega arith
+refused_from_2 ReplyTooLong = omega arith
+
+-- what has number 0 is done
+pub done_is : (o : Outcome) → Outcome.number_of_outcome o ≡ 0 → o ≡ Ok tt
+unfolding Outcome.number_of_outcome
+done_is (Ok tt) zero = refl
+done_is (Err why) zero = let above = refused_from_2 why in absurd (omega arith)
 
 -- the room behind the acknowledgement, which a command is lent, and what the command does with it
 abbrev pub part_behind : Moment → (command : ℕ) → List ℕ
@@ -92,8 +97,8 @@ module _ (now : Moment) (reached : Reachable now.panel) (content : List ℕ) (do
   pub is_done_lem : (command : ℕ) → Asks now command content
       → is_done (outcome (fixed_for now.panel.setup) word_count command content) ≡ true
   is_done_lem command asks =
-      zero_done (outcome (fixed_for now.panel.setup) word_count command content)
-      (sym (done_number now sound command content asks) ∙ done)
+      ap is_done
+      (done_is (outcome (fixed_for now.panel.setup) word_count command content) (sym (done_number now sound command content asks) ∙ done))
 
   -- what each command does that is done: what it answers, and what it leaves of what is lent, its reply over the room behind the acknowledgement
   pub does_write : Asks now 0x80 content

@@ -31,8 +31,7 @@ use Rattle.demands.proofs.Refusals.{command_refused}
 -- one report at most, and its number where it is none or a bad check
 one_report : (h : AskAnswer) (payload : List ℕ) (r : Place.Report) (rest : List Place.Report) → report_handed h payload ≡ r ∷ rest → rest ≡ []
 unfolding report_handed
-one_report (Err lent_error.NotLent) payload r rest is = never (cc)
-one_report (Err lent_error.WrongList) payload r rest is = never (cc)
+one_report (Err why) payload r rest is = never (cc)
 one_report (Ok None) payload r rest is = never (cc)
 one_report (Ok (Some (handed.BadCheck command acknowledged))) payload r rest is = cc
 one_report (Ok (Some (handed.Accepted command count o acknowledged replied))) payload r rest is = cc
@@ -47,8 +46,7 @@ none_number (Ok (Some (handed.Accepted command count o acknowledged replied))) p
 
 bad_number : (h : AskAnswer) (payload : List ℕ) (command : ℕ) → report_handed h payload ≡ bad_check command ∷ [] → report_number h ≡ 0
 unfolding report_handed report_number
-bad_number (Err lent_error.NotLent) payload command is = never (cc)
-bad_number (Err lent_error.WrongList) payload command is = never (cc)
+bad_number (Err why) payload command is = never (cc)
 bad_number (Ok None) payload command is = never (cc)
 bad_number (Ok (Some (handed.BadCheck c acknowledged))) payload command is = refl
 bad_number (Ok (Some (handed.Accepted c count o acknowledged replied))) payload command is = never (cc)

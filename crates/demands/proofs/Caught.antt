@@ -27,10 +27,9 @@ use Rattle.touch.proofs.Acts.{slider_acts_as_printed}
 use Rattle.touch.proofs.Scale.{good_slider_record}
 use Rattle.touch.proofs.GoodFields.{good_word, good_kind_lem}
 use Rattle.touch.proofs.Tables.{found_stands}
-use Rattle.contact.specs.Contact.{Catch}
+use Rattle.contact.specs.Contact.{Catch, touched}
 use Rattle.contact.specs.declared.Pad.{Pad}
 use Rattle.contact.specs.Contact as Contact
-use Rattle.contact.specs.Contact.{touched}
 use Rattle.panel.specs.declared.Panel.{Panel}
 use Rattle.panel.specs.State.{pad_of}
 use Rattle.panel.specs.Start.{new_panel}

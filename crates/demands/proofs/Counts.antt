@@ -1,5 +1,5 @@
 -- The counts that a report hands over are those of the bytes that asking lays.
-use Rattle.std.specs.Prelude.{Option, None, Some, Ok, Err}
+use Rattle.std.specs.Prelude.{Option, None, Some, Ok}
 use Rattle.line.specs.declared.Report.{Report}
 use mathlib.Core.Path.{◌≡◌, refl, sym, ap, ◌∙◌}
 use mathlib.Core.Bool.{Bool, true, false, cond}
@@ -22,10 +22,7 @@ use Rattle.line.specs.declared.Asked.{Asked}
 use Rattle.line.specs.Methods.{asked}
 use Rattle.line.specs.Reached.{report_as}
 use Rattle.wire.proofs.Truths.{never}
-use Rattle.commands.specs.Outcome.{Outcome}
-use Rattle.commands.specs.declared.Refusal.TheVariants.{UnknownCommand, WrongData, PastEnd, Unwritable, WrongValue, ReplyTooLong}
-use Rattle.commands.specs.Outcome as Outcome
-use Rattle.commands.specs.Outcome.{outcome}
+use Rattle.commands.specs.Outcome.{Outcome, outcome}
 use Rattle.commands.specs.Lent.{with_room}
 use Rattle.commands.specs.Perform.{Performance, performance}
 use Rattle.commands.proofs.Performance.{performs_outcome}
@@ -46,7 +43,7 @@ use Rattle.demands.proofs.Rooms.{acknowledged_laid}
 use Rattle.demands.proofs.WellLent.{tested_well}
 use Rattle.demands.proofs.FrameAsked.{Asks, handed_asks, done_number, performance_leaves}
 use Rattle.demands.proofs.Performs.{Performing, command_performs}
-use Rattle.demands.proofs.Access.{part_behind, answers_bad_check}
+use Rattle.demands.proofs.Access.{done_is, part_behind, answers_bad_check}
 
 -- a room over which an acknowledgement and a reply were laid
 laid_counts : (now : Moment) (acknowledged replied : ℕ) (acknowledgement reply : List ℕ) → acknowledged ≡ length acknowledgement → replied ≡ length reply
@@ -149,16 +146,6 @@ frame_counts now reached command count o a r is =
     }
 
 -- a command that is answered 0, where its reply is this frame
-done_is : (o : Outcome) → Outcome.number_of_outcome o ≡ 0 → o ≡ Ok tt
-unfolding Outcome.number_of_outcome
-done_is (Ok tt) zero = refl
-done_is (Err UnknownCommand) zero = absurd (omega arith)
-done_is (Err WrongData) zero = absurd (omega arith)
-done_is (Err PastEnd) zero = absurd (omega arith)
-done_is (Err Unwritable) zero = absurd (omega arith)
-done_is (Err WrongValue) zero = absurd (omega arith)
-done_is (Err ReplyTooLong) zero = absurd (omega arith)
-
 pub replied_by : (now : Moment) → Reachable now.panel → (command : ℕ) (content payload : List ℕ) → handed_over now ask ≡ accepted_frame command content ∷ []
     → number_given now ask ≡ 0 → reply_to now command content ≡ frame_of (checking_of now.panel.setup) (header_of now.panel.setup) command payload
     → Replied now command content payload
@@ -166,7 +153,7 @@ replied_by now reached command content payload hands done reply =
     let setup = now.panel.setup in
     let answer = acknowledgement_of setup command true in
     let number = done_number now (reachable_sound now.panel reached) command content (handed_asks now command content hands) in
-    let is : outcome (fixed_for setup) word_count command content ≡ (Ok tt) = done_is (outcome (fixed_for setup) word_count command content) (sym number ∙ done) in
+    let is = done_is (outcome (fixed_for setup) word_count command content) (sym number ∙ done) in
     record {
       done = done;
       counts = handed_as now reached command content hands

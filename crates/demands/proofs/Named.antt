@@ -8,6 +8,7 @@ use Prim.Native.Nat.{ℕ, ◌+◌, ◌≤◌, ◌<◌}
 use borrow.Author.Tests.{eqb-true, eqb-false, leb-true, leb-false}
 use lib.Dec.{eqb, leb}
 use lib.ListN.{length, take, drop}
+use Rattle.wire.proofs.Truths.{never}
 use Rattle.wire.specs.ByteOrder.{byte_at, word_at}
 use Rattle.wire.specs.Addresses.{register_count}
 use Rattle.reading.specs.Place.{accepted_frame}
@@ -15,10 +16,8 @@ use Rattle.line.specs.declared.Report.TheVariants as line
 use Rattle.line.specs.Methods.{number_of_answer, asked}
 use Rattle.registers.specs.Table.{register_at}
 use Rattle.words.specs.Words.{word_at_address, words_of}
-use Rattle.commands.specs.Outcome.{Outcome}
-use Rattle.commands.specs.declared.Refusal.TheVariants.{UnknownCommand, WrongData, PastEnd, Unwritable, WrongValue, ReplyTooLong}
+use Rattle.commands.specs.Outcome.{Outcome, outcome, is_done}
 use Rattle.commands.specs.Outcome as Outcome
-use Rattle.commands.specs.Outcome.{outcome, is_done}
 use Rattle.commands.proofs.Named as Command
 use Rattle.commands.proofs.Performance.{performs_outcome}
 use Rattle.contact.specs.Contact as Contact
@@ -45,12 +44,7 @@ use Rattle.demands.proofs.TouchedRegisters.{Touches, touched_register}
 done_is_0 : (o : Outcome) → is_done o ≡ true → Outcome.number_of_outcome o ≡ 0
 unfolding Outcome.number_of_outcome
 done_is_0 (Ok tt) done = refl
-done_is_0 (Err UnknownCommand) done = cc
-done_is_0 (Err WrongData) done = cc
-done_is_0 (Err PastEnd) done = cc
-done_is_0 (Err Unwritable) done = cc
-done_is_0 (Err WrongValue) done = cc
-done_is_0 (Err ReplyTooLong) done = cc
+done_is_0 (Err why) done = never (cc)
 
 -- an ask that hands over this command with this data, and is done
 record Handing (command : ℕ) (content : List ℕ) (r : Reporting) : Type 0 where

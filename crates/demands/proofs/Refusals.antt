@@ -20,15 +20,11 @@ use Rattle.line.specs.declared.Report.TheVariants as line
 use Rattle.line.specs.Methods as Line
 use Rattle.line.specs.Methods.{busy, given_byte, given_mark, given_bytes, gave, plus, asked, gives}
 use Rattle.wire.proofs.Truths.{never}
-use Rattle.commands.specs.Outcome.{Outcome}
-use Rattle.commands.specs.declared.Refusal.TheVariants.{UnknownCommand, WrongData, PastEnd, Unwritable, WrongValue, ReplyTooLong}
+use Rattle.commands.specs.Outcome.{Outcome, outcome}
 use Rattle.commands.specs.Outcome as Outcome
-use Rattle.commands.specs.Outcome.{outcome}
 use Rattle.commands.proofs.Refusals.{number_at_most_7}
 use Rattle.panel.specs.declared.Panel.{Panel}
-use Rattle.panel.specs.Answers.{ContactAnswer}
-use Rattle.panel.specs.declared.ContactError.TheVariants as contact_error
-use Rattle.panel.specs.Answers.{LiftAnswer}
+use Rattle.panel.specs.Answers.{ContactAnswer, LiftAnswer}
 use Rattle.panel.specs.declared.LiftError.TheVariants as lift_error
 use Rattle.panel.specs.Numbers.{report_number, contact_number, lift_number}
 use Rattle.panel.specs.State.{with_reader, fixed_for}
@@ -49,18 +45,14 @@ use Rattle.demands.proofs.Waits.{busy_waits}
 use Rattle.demands.proofs.Numbers.{one_more}
 use Rattle.commands.specs.Lent.{with_room}
 use Rattle.demands.proofs.FrameAsked.{Asks, handed_asks, done_number, performance_leaves}
-use Rattle.demands.proofs.Access.{refused_does}
+use Rattle.demands.proofs.Access.{refused_from_2, refused_does}
+use Rattle.demands.proofs.TouchEffects.{refused_contact}
 
 -- the numbers of a refused command
 refused_numbers : (o : Outcome) → 0 < Outcome.number_of_outcome o → 2 ≤ Outcome.number_of_outcome o
 unfolding Outcome.number_of_outcome
 refused_numbers (Ok tt) above = absurd (omega arith)
-refused_numbers (Err UnknownCommand) above = omega arith
-refused_numbers (Err WrongData) above = omega arith
-refused_numbers (Err PastEnd) above = omega arith
-refused_numbers (Err Unwritable) above = omega arith
-refused_numbers (Err WrongValue) above = omega arith
-refused_numbers (Err ReplyTooLong) above = omega arith
+refused_numbers (Err why) above = refused_from_2 why
 
 -- an ask that hands over an accepted frame whose command is refused
 pub record CommandRefused (now : Moment) (command : ℕ) : Type 0 where
@@ -174,13 +166,7 @@ second_refused now above =
 contact_numbers : (a : ContactAnswer) → 0 < contact_number a → (contact_number a ≡ 1) ⊎ (8 ≤ contact_number a)
 unfolding contact_number
 contact_numbers (Ok tt) above = absurd (omega arith)
-contact_numbers (Err contact_error.NotLent) above = inr (omega arith)
-contact_numbers (Err contact_error.WrongList) above = inr (omega arith)
-contact_numbers (Err contact_error.Waits) above = inl refl
-contact_numbers (Err contact_error.NotRecords) above = inr (omega arith)
-contact_numbers (Err (contact_error.WrongRecord i)) above = inr (omega arith)
-contact_numbers (Err contact_error.TouchOff) above = inr (omega arith)
-contact_numbers (Err contact_error.OffScreen) above = inr (omega arith)
+contact_numbers (Err why) above = refused_contact why
 
 lift_numbers : (a : LiftAnswer) → 0 < lift_number a → (lift_number a ≡ 1) ⊎ (8 ≤ lift_number a)
 unfolding lift_number

@@ -18,22 +18,19 @@ use Rattle.touch.specs.declared.Setup.{Setup}
 use Rattle.touch.specs.declared.SliderFields.{SliderFields}
 use Rattle.touch.specs.declared.Kind.TheVariants.{Slider}
 use Rattle.touch.specs.declared.Record.{Record}
-use Rattle.touch.specs.Judge.{Verdict}
-use Rattle.touch.specs.declared.TableError.TheVariants.{NotRecords, Wrong}
+use Rattle.touch.specs.Judge.{Verdict, good_record, wrong, judged}
 use Rattle.touch.specs.Table.{Found}
 use Rattle.touch.specs.Setup.{checking_of}
 use Rattle.touch.specs.Rounding.{sheet_of}
 use Rattle.touch.specs.Record.{slides, along, first_edge, last_edge}
-use Rattle.touch.specs.Judge.{good_record, wrong, judged}
 use Rattle.touch.specs.Find.{found}
 use Rattle.touch.specs.Act.{acted_of, dragged_of}
 use Rattle.touch.specs.Scale.{GoodSliderRecord}
 use Rattle.touch.proofs.Tables.{found_stands, found_good}
 use Rattle.touch.proofs.Scale as Scale
-use Rattle.contact.specs.Contact.{Catch}
+use Rattle.contact.specs.Contact.{Catch, Touching, touched}
 use Rattle.contact.specs.declared.Pad.{Pad}
 use Rattle.contact.specs.Contact as Touch
-use Rattle.contact.specs.Contact.{Touching, touched}
 use Rattle.wire.specs.ByteOrder.{high_first}
 use Rattle.wire.specs.Room.{over}
 use Rattle.frame.specs.Frame.{frame_of}
@@ -144,8 +141,7 @@ module _ (now : Moment) (c : Contact) (edges : EdgesOnly now c) (flags : ℕ) (s
   judged_alike : (v : Verdict) → contact_judged v (flagged flags now.panel) c now.lent ≡ reflagged flags (contact_judged v now.panel c now.lent)
   unfolding contact_judged
   judged_alike (Ok tt) = on_alike
-  judged_alike (Err NotRecords) = refl
-  judged_alike (Err (Wrong i)) = refl
+  judged_alike (Err why) = refl
 
   same_verdict : judged other c.table ≡ judged setup c.table
   unfolding judged wrong good_record

@@ -12,10 +12,8 @@ use Rattle.registers.specs.Table.{register_at}
 use Rattle.words.specs.Words.{word_at_address}
 use Rattle.contact.specs.Contact.{lifted}
 use Rattle.touch.specs.declared.Setup.{Setup}
-use Rattle.touch.specs.Judge.{Verdict}
-use Rattle.touch.specs.declared.TableError.TheVariants.{NotRecords, Wrong}
+use Rattle.touch.specs.Judge.{Verdict, judged}
 use Rattle.touch.specs.Setup.{checking_of, acknowledging_of, good_setup}
-use Rattle.touch.specs.Judge.{judged}
 use Rattle.line.specs.Methods.{asked}
 use Rattle.wire.proofs.Truths.{never}
 use Rattle.panel.specs.declared.Panel.{Panel}
@@ -126,8 +124,7 @@ started_new setup table = go (not (good_setup setup)) (judged setup table)
         → (cond b (refuses (Err start_error.WrongSetup)) (start_judged v setup)).panel ≡ new_panel setup
     go true v is = never (cc)
     go false (Ok tt) is = refl
-    go false (Err NotRecords) is = never (cc)
-    go false (Err (Wrong i)) is = never (cc)
+    go false (Err why) is = never (cc)
 
 sized : (now : Moment) → Arises now → Sized now
 unfolding new_panel

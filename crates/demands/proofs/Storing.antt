@@ -37,13 +37,12 @@ use Rattle.touch.specs.declared.Kind.TheVariants.{Key, Step, Slider, Other}
 use Rattle.touch.specs.declared.StepFields.{StepFields}
 use Rattle.touch.specs.declared.SliderFields.{SliderFields}
 use Rattle.touch.specs.Record.{step_fields, slider_fields, kind_of, record_of, is_slider, up, round, digit_mode, along, first_edge, last_edge, no_next}
-use Rattle.touch.specs.Table.{Found}
+use Rattle.touch.specs.Table.{Found, record_at}
 use Rattle.touch.specs.Find.{found}
 use Rattle.touch.proofs.Tables.{found_stands}
-use Rattle.contact.specs.Contact.{Catch}
+use Rattle.contact.specs.Contact.{Catch, showing, catching, acting, pressed, dragging, touched}
 use Rattle.contact.specs.declared.Pad.{Pad}
 use Rattle.contact.specs.Contact as Contact
-use Rattle.contact.specs.Contact.{showing, catching, acting, pressed, dragging, touched}
 use Rattle.demands.specs.Calls.{Halfwords}
 use Rattle.wire.proofs.Below.{byte_some, word_some, below_take, below_drop, below_append, below_set, below_laid, below_zeros}
 use Rattle.touch.specs.Act.{acted_by, acted_of, dragged_of}
@@ -54,7 +53,6 @@ use Rattle.commands.specs.Lent.{Lent}
 use Rattle.commands.specs.Effect.{registers_left}
 use Rattle.touch.specs.declared.Setup.{Setup}
 use Rattle.touch.specs.Rounding.{rounding_of}
-use Rattle.touch.specs.Table.{record_at}
 
 -- the registers of a start
 pub start_bytes : (h1 h2 : ℕ) (checking acknowledging : Bool) → h1 < 256 → h2 < 256 → Bytes (start_registers h1 h2 checking acknowledging).bytes

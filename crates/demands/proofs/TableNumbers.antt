@@ -1,5 +1,5 @@
 -- The numbers that go by a table, at a contact and at a start: 12, then 13; and 13 names the first wrong record.
-use Rattle.std.specs.Prelude.{None, Some, Ok, Err}
+use Rattle.std.specs.Prelude.{None, Some, is_some, Ok, Err}
 use Rattle.std.proofs.lemmas.Option.{some_pair_parts}
 use mathlib.Core.Path.{◌≡◌, refl, sym, ap, ◌∙◌}
 use mathlib.Core.Bool.{Bool, true, false, cond, not, ◌&&◌, ◌||◌}
@@ -14,12 +14,10 @@ use Rattle.wire.proofs.Truths.{never}
 use Rattle.registers.specs.Touched.{is_touch_off}
 use Rattle.touch.specs.declared.Setup.{Setup}
 use Rattle.touch.specs.declared.Record.{Record}
-use Rattle.touch.specs.Table.{Found}
-use Rattle.touch.specs.Judge.{Verdict}
+use Rattle.touch.specs.Table.{Found, first_of, records_of}
+use Rattle.touch.specs.Judge.{Verdict, good_record, wrong, named_wrong, not_records, judged}
 use Rattle.touch.specs.declared.TableError.TheVariants.{NotRecords, Wrong}
 use Rattle.touch.specs.Setup.{good_setup}
-use Rattle.touch.specs.Table.{first_of, records_of}
-use Rattle.touch.specs.Judge.{good_record, wrong, named_wrong, not_records, judged}
 use Rattle.contact.specs.Contact.{Touching}
 use Rattle.touch.proofs.Tables.{thirteen_names_first}
 use Rattle.panel.specs.declared.Panel.{Panel}
@@ -38,17 +36,13 @@ use Rattle.panel.proofs.Ways.{touched_by, told_answers}
 use Rattle.demands.proofs.Waits.{busy_waits}
 
 -- a table: 12, then 13
-abbrev is_at : Found → Bool
-is_at None = false
-is_at (Some (i, r)) = true
-
-some_wrong : (setup : Setup) (i : ℕ) (rs : List Record) → one_wrong setup rs ≡ is_at (first_of (wrong setup) i rs)
+some_wrong : (setup : Setup) (i : ℕ) (rs : List Record) → one_wrong setup rs ≡ is_some (first_of (wrong setup) i rs)
 unfolding one_wrong first_of wrong
 some_wrong setup i [] = refl
 some_wrong setup i (r ∷ rs) = go (not (good_record setup r)) (some_wrong setup (i + 1) rs)
   where
-    go : (b : Bool) → one_wrong setup rs ≡ is_at (first_of (wrong setup) (i + 1) rs)
-        → (b || one_wrong setup rs) ≡ is_at (cond b (Some (i, r)) (first_of (wrong setup) (i + 1) rs))
+    go : (b : Bool) → one_wrong setup rs ≡ is_some (first_of (wrong setup) (i + 1) rs)
+        → (b || one_wrong setup rs) ≡ is_some (cond b (Some (i, r)) (first_of (wrong setup) (i + 1) rs))
     go true ih = refl
     go false ih = ih
 
@@ -79,7 +73,7 @@ module _ (panel : Panel) (c : Contact) (lent : Lent) where
     where
       go : (b : Bool) (f : Found)
           → contact_number (contact_judged (cond b (Err NotRecords) (named_wrong f)) panel c lent).contacted.answer
-          ≡ cond b 12 (cond (is_at f) 13 (cond (is_touch_off panel.registers) 9 (cond (off_screen panel.setup c.x c.y) 8 0)))
+          ≡ cond b 12 (cond (is_some f) 13 (cond (is_touch_off panel.registers) 9 (cond (off_screen panel.setup c.x c.y) 8 0)))
       go true f = refl
       go false (Some (i, r)) = refl
       go false None = on_number
@@ -113,7 +107,7 @@ start_as_printed setup table =
   where
     go : (a b : Bool) (f : Found)
         → start_number (cond a (refuses (Err start_error.WrongSetup)) (start_judged (cond b (Err NotRecords) (named_wrong f)) setup)).answer
-        ≡ cond a 11 (cond b 12 (cond (is_at f) 13 0))
+        ≡ cond a 11 (cond b 12 (cond (is_some f) 13 0))
     go true b f = refl
     go false true f = refl
     go false false (Some (i, r)) = refl

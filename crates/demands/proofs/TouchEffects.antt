@@ -1,9 +1,10 @@
 -- What a contact and a lift that are done leave, and what the record that acts or is caught stores.
 use Rattle.std.specs.Prelude.{Some, Ok, Err}
 use mathlib.Core.Path.{◌≡◌, refl, sym, ap, ◌∙◌}
+use mathlib.Core.Logic.{◌⊎◌, inl, inr, ⊎_elim}
 use mathlib.Core.Bool.{Bool, true, false, cond, not}
 use mathlib.Core.List.{List}
-use Prim.Native.Nat.{ℕ, ◌*◌, ◌<◌}
+use Prim.Native.Nat.{ℕ, ◌*◌, ◌≤◌, ◌<◌}
 use native.Mathlib.Omega.{arith}
 use borrow.Author.Tests.{eqb-true, not-false}
 use lib.Dec.{eqb, ltb}
@@ -25,9 +26,8 @@ use Rattle.touch.specs.declared.Kind.TheVariants.{Key, Step, Slider, Other}
 use Rattle.touch.specs.declared.StepFields.{StepFields}
 use Rattle.touch.specs.declared.SliderFields.{SliderFields}
 use Rattle.touch.specs.declared.Kind.{Kind}
-use Rattle.touch.specs.Table.{Found}
+use Rattle.touch.specs.Table.{Found, record_at, record_bytes}
 use Rattle.touch.specs.Record.{step_fields, slider_fields, kind_of, record_of, up as steps_up, round as goes_round, digit_mode, along, first_edge, last_edge}
-use Rattle.touch.specs.Table.{record_at, record_bytes}
 use Rattle.touch.specs.Find.{found}
 use Rattle.touch.specs.Act.{acted_by, acted_of, dragged_of}
 use Rattle.touch.proofs.Acts.{step_acts_as_printed, slider_acts_as_printed}
@@ -35,12 +35,12 @@ use Rattle.touch.specs.Judge.{good_record, judged}
 use Rattle.watch.specs.Judge.{wrong_list}
 use Rattle.touch.proofs.GoodFields.{good_word, good_kind_lem}
 use Rattle.touch.proofs.Tables.{found_stands, found_good}
-use Rattle.contact.specs.Contact.{Catch}
+use Rattle.contact.specs.Contact.{Catch, touched}
 use Rattle.contact.specs.declared.Pad.{Pad}
 use Rattle.contact.specs.Contact as Contact
-use Rattle.contact.specs.Contact.{touched}
 use Rattle.panel.specs.declared.Panel.{Panel}
 use Rattle.panel.specs.Answers.{ContactAnswer}
+use Rattle.panel.specs.declared.ContactError.{ContactError}
 use Rattle.panel.specs.declared.ContactError.TheVariants as contact_error
 use Rattle.panel.specs.declared.LiftError.TheVariants as lift_error
 use Rattle.panel.specs.Numbers.{contact_number, lift_number}
@@ -65,17 +65,22 @@ pub record Touched (panel : Panel) (c : Contact) (lent : Lent) : Type 0 where
   pub good : judged panel.setup c.table ≡ Ok tt
   pub touches : contacting panel c lent ≡ contact_done panel c lent
 
+-- the numbers of a contact that is refused
+pub refused_contact : (why : ContactError) → (contact_number (Err why) ≡ 1) ⊎ (8 ≤ contact_number (Err why))
+unfolding contact_number
+refused_contact contact_error.NotLent = inr (omega arith)
+refused_contact contact_error.WrongList = inr (omega arith)
+refused_contact contact_error.Waits = inl refl
+refused_contact contact_error.NotRecords = inr (omega arith)
+refused_contact (contact_error.WrongRecord i) = inr (omega arith)
+refused_contact contact_error.TouchOff = inr (omega arith)
+refused_contact contact_error.OffScreen = inr (omega arith)
+
 -- only a contact that is done has number 0
 number_touches : (answer : ContactAnswer) → contact_number answer ≡ 0 → is_touch answer ≡ true
 unfolding contact_number
 number_touches (Ok tt) is = refl
-number_touches (Err contact_error.NotLent) is = absurd (omega arith)
-number_touches (Err contact_error.WrongList) is = absurd (omega arith)
-number_touches (Err contact_error.Waits) is = absurd (omega arith)
-number_touches (Err contact_error.NotRecords) is = absurd (omega arith)
-number_touches (Err (contact_error.WrongRecord i)) is = absurd (omega arith)
-number_touches (Err contact_error.TouchOff) is = absurd (omega arith)
-number_touches (Err contact_error.OffScreen) is = absurd (omega arith)
+number_touches (Err why) is = ⊎_elim (λ one. absurd (omega arith)) (λ more. absurd (omega arith)) (refused_contact why)
 
 lent_whole : (words room : ℕ) → touch_not_lent words room ≡ false → words ≡ word_count
 unfolding touch_not_lent

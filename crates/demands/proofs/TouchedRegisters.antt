@@ -19,11 +19,10 @@ use Rattle.touch.specs.declared.Record.{Record}
 use Rattle.touch.specs.Table.{Found}
 use Rattle.touch.specs.Record.{no_next}
 use Rattle.touch.specs.Find.{found}
-use Rattle.contact.specs.Contact.{Catch}
+use Rattle.contact.specs.Contact.{Catch, showing, catching, acting, pressed, touched}
 use Rattle.contact.specs.declared.Pad.{Pad}
 use Rattle.contact.specs.Contact as Contact
 use Rattle.touch.specs.declared.Setup.{Setup}
-use Rattle.contact.specs.Contact.{showing, catching, acting, pressed, touched}
 
 pub data Touches (pad : Pad) (table : List ℕ) (x y address : ℕ) : Type 0 where
   status : address ≡ 0x06 → Touches pad table x y address

@@ -1,6 +1,5 @@
 -- 01, "Reading the line": what is asked for and what is held, from a start and over any sequence of calls.
-use Rattle.std.specs.Prelude.{None, Ok}
-use Rattle.std.specs.Prelude.{ℕ, ◌≤◌, ◌≡◌, false, List, ◌++◌, length, replicate}
+use Rattle.std.specs.Prelude.{ℕ, ◌≤◌, ◌≡◌, false, List, ◌++◌, length, replicate, None, Ok}
 use Rattle.frame.specs.Frame.{longest_frame}
 use Rattle.reading.specs.Place.{Report}
 use Rattle.reading.specs.Stretch.{reports}

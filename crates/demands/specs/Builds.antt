@@ -1,8 +1,7 @@
 -- A build, as far as the idle ones are told from ours: what it hands over and what it leaves, by how it was started and by all the calls that were made of it
 -- since, so that it may go by anything that came before. Demands 2 and 3 are said of any build here; ours keeps both (proofs/Builds). Which inputs were given,
 -- which report an ask hands over and with which number, and when all reports are asked for, is as 01 says (`since`, which is our panel) and not the build's choice.
-use Rattle.std.specs.Prelude.{Ok}
-use Rattle.std.specs.Prelude.{ℕ, ◌<◌, ◌≡◌, List, [], ◌∷◌, ◌++◌}
+use Rattle.std.specs.Prelude.{ℕ, ◌<◌, ◌≡◌, List, [], ◌∷◌, ◌++◌, Ok}
 use Rattle.reading.specs.Place.{Report}
 use Rattle.reading.specs.Demand3.{accepted_of}
 use Rattle.commands.specs.Lent.{Lent}

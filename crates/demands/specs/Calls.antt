@@ -1,8 +1,7 @@
 -- Sequences of calls of one panel. Demand 1: "No sequence of line bytes, quiet marks, contacts, lifts, tables or lent buffers ..", and 02, §6: "A new input, one
 -- second".
-use Rattle.std.specs.Prelude.{None, Some, Ok, Err}
+use Rattle.std.specs.Prelude.{ℕ, ◌≤◌, ◌<◌, ◌≡◌, false, cond, List, [], ◌∷◌, ◌++◌, eqb, length, take, get_or, None, Some, Ok, Err}
 use Prim.{Unit}
-use Rattle.std.specs.Prelude.{ℕ, ◌≤◌, ◌<◌, ◌≡◌, false, cond, List, [], ◌∷◌, ◌++◌, eqb, length, take, get_or}
 use Rattle.wire.specs.Addresses.{word_count}
 use Rattle.wire.specs.Bytes.{Bytes}
 use Rattle.frame.specs.Writer.{least_room}
@@ -15,7 +14,6 @@ use Rattle.touch.specs.declared.Setup.{Setup}
 use Rattle.panel.specs.declared.Panel.{Panel}
 use Rattle.panel.specs.Answers.{AskAnswer}
 use Rattle.panel.specs.declared.Handed.TheVariants as handed
-use Rattle.panel.specs.declared.LentError.TheVariants as lent_error
 use Rattle.panel.specs.Numbers.{report_number, contact_number, lift_number}
 use Rattle.panel.specs.Start.{started}
 use Rattle.panel.specs.Inputs.{fed_byte, fed_mark, fed_second, fed_bytes}
@@ -94,8 +92,7 @@ number_given now lift = lift_number (lifting now.panel).answer
 
 -- the report that an answer hands over: of an accepted frame "its command and data", which stands beside the answer
 unfoldable pub report_handed : AskAnswer → (payload : List ℕ) → List Report
-report_handed (Err lent_error.NotLent) payload = []
-report_handed (Err lent_error.WrongList) payload = []
+report_handed (Err why) payload = []
 report_handed (Ok None) payload = []
 report_handed (Ok (Some (handed.BadCheck command acknowledged))) payload = bad_check command ∷ []
 report_handed (Ok (Some (handed.Accepted command count outcome acknowledged replied))) payload = accepted_frame command (take count payload) ∷ []

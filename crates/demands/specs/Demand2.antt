@@ -1,8 +1,7 @@
 -- Demand 2: "Frames, check values, register and word access, and touch effects are those of the public SGUS and AGUS manuals as condensed in document
 -- 01. What our frame writer writes, our reader reads back as the same command and data. No word or register changes but those the command or touch
 -- rule names." 02, §2: "Demand 2 covers channels by the whole history": that is in specs/History. The theorems are in proofs/Demand2.
-use Rattle.std.specs.Prelude.{None, Some}
-use Rattle.std.specs.Prelude.{ℕ, ◌+◌, ◌*◌, ◌≤◌, ◌<◌, ◌≡◌, ◌⊎◌, ◌≢◌, true, false, cond, List, [], ◌∷◌, ◌++◌, eqb, length, get_or, drop}
+use Rattle.std.specs.Prelude.{ℕ, ◌+◌, ◌*◌, ◌≤◌, ◌<◌, ◌≡◌, ◌⊎◌, ◌≢◌, true, false, cond, List, [], ◌∷◌, ◌++◌, eqb, length, get_or, drop, None, Some}
 use Rattle.wire.specs.ByteOrder.{high_first, byte_at, word_at}
 use Rattle.wire.specs.Room.{over}
 use Rattle.frame.specs.Frame.{frame_of}

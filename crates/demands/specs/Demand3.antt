@@ -1,7 +1,6 @@
 -- Demand 3, over a panel and any sequence of calls. The words about frames (good frames end to end, what has come of one that is not whole, no place
 -- that begins one, the frames accepted) are those of crate reading, specs/Demand3.
-use Rattle.std.specs.Prelude.{Ok}
-use Rattle.std.specs.Prelude.{ℕ, ◌≤◌, ◌≡◌, true, false, List, [], ◌∷◌, ◌++◌, map, length}
+use Rattle.std.specs.Prelude.{ℕ, ◌≤◌, ◌≡◌, true, false, List, [], ◌∷◌, ◌++◌, map, length, Ok}
 use Rattle.reading.specs.Place.{Report}
 use Rattle.reading.specs.Line as Line
 use Rattle.reading.specs.Line.{Input}

@@ -1,7 +1,6 @@
 -- 01, "Proved examples", a to j: "Examples a to j are one proved table under a single claim."; c and d as 02, §1, changes them, and j by both sheets of 02, §5.
 -- A row puts what the definitions give beside what 01 prints; the claim is that every row is right.
-use Rattle.std.specs.Prelude.{None, Some, Ok}
-use Rattle.std.specs.Prelude.{ℕ, ◌≡◌, Bool, true, false, List, [], ◌∷◌, ◌++◌, map, ℤ, pos, neg_ℤ, replicate}
+use Rattle.std.specs.Prelude.{ℕ, ◌≡◌, Bool, true, false, List, [], ◌∷◌, ◌++◌, map, ℤ, pos, neg_ℤ, replicate, None, Some, Ok}
 use Rattle.wire.specs.Addresses.{word_count}
 use Rattle.check_value.specs.CheckValue.{check_value}
 use Rattle.frame.specs.Acknowledgement.{acknowledgement}
@@ -107,7 +106,7 @@ examples =
     frame (acknowledgement header 0x81 false) (0x5A ∷ 0xA5 ∷ 0x02 ∷ 0x81 ∷ 0x00 ∷ 0x61 ∷ 0xE0 ∷ []) ∷
     -- e. "Checking on: 5A A5 40, 5A A5 05 81 00 01 E0 28, quiet: one accepted 81.": of the reading, and of a panel, which replies 9 bytes
     reading (line_reports (checked 0x5A 0xA5) (map byte noise_and_read ++ (mark ∷ []))) (accepted_frame 0x81 (0x00 ∷ 0x01 ∷ []) ∷ []) ∷
-    answered (first_asked.reported.handed ∷ second_asked.reported.handed ∷ []) (Ok (Some (handed.Accepted 0x81 2 (Ok tt) 0 9)) ∷ (Ok None) ∷ []) ∷
+    answered (first_asked.reported.handed ∷ second_asked.reported.handed ∷ []) (Ok (Some (handed.Accepted 0x81 2 (Ok tt) 0 9)) ∷ Ok None ∷ []) ∷
     -- f. "Checking off, 5A A5 05 82 00 10 01 F4: word 0010 becomes 500."
     number (word_at_address write_asked.lent.words 0x0010) 500 ∷
     -- g. "98 up 5 in 0..100: stop 100, round 0."

@@ -1,7 +1,6 @@
 -- 01, "Reading the line": which inputs a sequence of calls has given to the panel.
-use Rattle.std.specs.Prelude.{Result, Ok, Err}
+use Rattle.std.specs.Prelude.{List, [], ◌∷◌, ◌++◌, map, take, Result, Ok, Err}
 use Rattle.line.specs.declared.Waiting.{Waiting}
-use Rattle.std.specs.Prelude.{List, [], ◌∷◌, ◌++◌, map, take}
 use Rattle.reading.specs.Line as Line
 use Rattle.reading.specs.Line.{Input}
 use Rattle.line.specs.declared.Waiting.TheVariants.{ReportWaits}

@@ -1,6 +1,5 @@
 -- 01, "Reading the line": when an input is answered 1, and when asking is answered "nothing", over the reading of all that was given.
-use Rattle.std.specs.Prelude.{None, Ok}
-use Rattle.std.specs.Prelude.{ℕ, ◌≡◌, List, [], ◌∷◌, ◌++◌, map}
+use Rattle.std.specs.Prelude.{ℕ, ◌≡◌, List, [], ◌∷◌, ◌++◌, map, None, Ok}
 use Rattle.wire.specs.Bytes.{Bytes}
 use Rattle.reading.specs.Place.{Report}
 use Rattle.commands.specs.Lent.{Lent}

@@ -1,6 +1,5 @@
 -- A read that is replied to: "Reply 0x81, address, count, bytes.", "Reply 0x83, address, count, words."
-use Rattle.std.specs.Prelude.{Some, Ok}
-use Rattle.std.specs.Prelude.{◌≡◌, true, List, ℕ, length}
+use Rattle.std.specs.Prelude.{◌≡◌, true, List, ℕ, length, Some, Ok}
 use Rattle.frame.specs.Frame.{frame_of}
 use Rattle.touch.specs.Setup.{checking_of}
 use Rattle.panel.specs.declared.Handed.TheVariants.{Accepted}

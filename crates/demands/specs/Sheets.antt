@@ -1,6 +1,5 @@
 -- 02, §5, of a panel's calls: the same panel by the other scale sheet, and the contacts at which the sheet does not matter.
-use Rattle.std.specs.Prelude.{Some}
-use Rattle.std.specs.Prelude.{◌≡◌, true, false, ◌⊎◌, ℕ}
+use Rattle.std.specs.Prelude.{◌≡◌, true, false, ◌⊎◌, ℕ, Some}
 use Rattle.wire.specs.Numbers.{Said}
 use Rattle.stores.specs.Sheets.{AtEdge}
 use Rattle.touch.specs.declared.Setup.{Setup}

@@ -10,16 +10,17 @@ use Rattle.line.specs.declared.Asked.{Asked}
 use Rattle.line.specs.State.{rules_for, reader_of}
 use Rattle.line.specs.Methods.{busy, asked}
 use Rattle.line.proofs.Carried.{waiting_is, ask_carried}
-use Rattle.watch.specs.Watched.{watching, none_watched}
+use Rattle.watch.specs.declared.WatchList.{WatchList}
+use Rattle.watch.specs.Watched.{Watched, watching, list_of, none_watched}
 use Rattle.watch.specs.Judge.{wrong_list}
-use Rattle.watch.proofs.Judged.{none_watched_good}
+use Rattle.watch.proofs.Judged.{good_lengths, none_watched_good}
 use Rattle.commands.specs.Lent.{Lent, lending}
 use Rattle.panel.specs.declared.Panel.{Panel}
 use Rattle.panel.specs.declared.LentError.TheVariants as lent_error
 use Rattle.panel.specs.declared.Reported.{Reported}
 use Rattle.panel.specs.Start.{started}
 use Rattle.panel.specs.Inputs.{fed_byte}
-use Rattle.panel.specs.Reporting.{enough, enough_lent, well_lent, reports, handing, reporting}
+use Rattle.panel.specs.Reporting.{enough, enough_lent, well_lent, Reporting, reports, handing, reporting}
 use Rattle.panel.specs.Sound.{line_of}
 use Rattle.panel.proofs.Soundness.{report_sound}
 use Rattle.panel.proofs.Lengths.{reported_words_long, reported_area_long, reported_room_long, reported_list_judged}
@@ -70,12 +71,27 @@ none_streamed bytes words curves room b is badly =
 
 -- ---- A report is asked for with no words watched, and none are left
 
+-- a list with no addresses that is not refused has no values either
+no_values : (values : List ℕ) → wrong_list (watching [] [] values) ≡ false → values ≡ []
+no_values [] good = refl
+no_values (v ∷ values) good = absurd (omega (arith, (good_lengths (watching [] [] (v ∷ values)) good).2))
+
 module _ (panel : Panel) (words curves room words' curves' room' : List ℕ) (r : Reported) where
-  pub none_left : (values : List ℕ) → length values ≡ 0
-      → reports r (lending words' curves' room' (watching [] [] values)) ≡ reporting panel (lending words curves room none_watched)
+  none_in_values : (values : List ℕ) → reports r (lending words' curves' room' (watching [] [] values)) ≡ reporting panel (lending words curves room none_watched)
       → reports r (lending words' curves' room' none_watched) ≡ reporting panel (lending words curves room none_watched)
-  none_left [] none is = is
-  none_left (v ∷ values) none is = absurd (omega arith)
+  none_in_values values is =
+      let good : wrong_list (watching [] [] values) ≡ false =
+      ap (λ (d : Reporting). wrong_list d.lent.watched) is
+      ∙ reported_list_judged panel (lending words curves room none_watched)
+      ∙ none_watched_good in
+      ap (λ (v : List ℕ). reports r (lending words' curves' room' (watching [] [] v))) (sym (no_values values good)) ∙ is
+
+  -- of the list that was lent only the values can be others
+  pub none_left : (after : WatchList) → list_of after ≡ watching [] [] after.values.now
+      → reports r (lending words' curves' room' (list_of after)) ≡ reporting panel (lending words curves room none_watched)
+      → reports r (lending words' curves' room' none_watched) ≡ reporting panel (lending words curves room none_watched)
+  none_left after kept is =
+      none_in_values after.values.now (ap (λ (w : Watched). reports r (lending words' curves' room' w)) (sym kept) ∙ is)
 
 -- ---- A report that waits is handed over, and leaves fewer bytes
 
