@@ -62,7 +62,7 @@ fn put_report<W: Write>(
 fn put_answer<W: Write>(out: &mut W, answer: Result<(), Waiting>) -> io::Result<()> {
     match answer {
         Ok(()) => Ok(()),
-        Err(Waiting::ReportWaits) => writeln!(out, "1"),
+        Err(why) => writeln!(out, "{}", why.number()),
     }
 }
 

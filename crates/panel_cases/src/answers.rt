@@ -19,10 +19,8 @@ pub fn say_input<W: Write>(
     letter: &str,
     answer: Result<(), Waiting>,
 ) -> io::Result<()> {
-    match answer {
-        Ok(()) => writeln!(out, "{letter} 0"),
-        Err(Waiting::ReportWaits) => writeln!(out, "{letter} 1"),
-    }
+    let number = answer.err().map_or(0, Waiting::number);
+    writeln!(out, "{letter} {number}")
 }
 
 pub fn say_lift<W: Write>(out: &mut W, answer: Result<(), LiftError>) -> io::Result<()> {

@@ -56,6 +56,7 @@ pub struct Stepped {
     pub trace: Trace,
 }
 
+// The count stands beside the answer, here and in `Stepped`, since `ending` and `stepping` promise it beside a refusal too.
 #[derive(Clone, Copy)]
 pub struct Ended {
     pub answer: Result<(), LentError>,
