@@ -3,6 +3,8 @@ use mathlib.Core.Path.{sym, ap, ◌∙◌}
 use Rattle.wire.specs.OneAnswer.{OneAnswer, OneAnswerLeft}
 use Rattle.wire.specs.Room.{Laid}
 use Rattle.frame.specs.Writer.{Writing}
+use Rattle.frame.proofs.WriteError.number.Reads as write_error_number
+use Rattle.frame.proofs.WriteError.number.Kinds as write_error_number_kinds
 use Rattle.frame.proofs.Header.length.Reads as length
 use Rattle.frame.proofs.Header.length.Kinds as length_kinds
 use Rattle.frame.proofs.check_length.Reads as check_length
@@ -17,6 +19,9 @@ use Rattle.frame.proofs.close_frame.Reads as close_frame
 use Rattle.frame.proofs.close_frame.Kinds as close_frame_kinds
 use Rattle.frame.proofs.write_frame.Reads as write_frame
 use Rattle.frame.proofs.write_frame.Kinds as write_frame_kinds
+
+pub writeerror_number_determined : OneAnswer 0 write_error_number_kinds.ps write_error_number_kinds.r write_error_number.Post
+writeerror_number_determined κs a x y s t p q = p ∙ sym q
 
 pub length_determined : OneAnswer 0 length_kinds.ps length_kinds.r length.Post
 length_determined κs a x y s t p q = cc

@@ -3,11 +3,11 @@
 // bytes it laid, 0 where none: callers go on behind them (`&mut room[k..]`), and of an Option they would take that number again.
 #![tactic(auto)]
 
-ghost use Rattle.std.specs.Prelude.{◌≡◌, [], ◌∷◌, ◌++◌, ◌+◌, ◌≤◌, length, take};
+ghost use Rattle.std.specs.Prelude.{◌≡◌, [], ◌∷◌, ◌++◌, ◌+◌, ◌≤◌, length, take, Err};
 ghost use Rattle.wire.specs.Room.{over, lays};
 ghost use Rattle.frame.specs.Frame.{header_bytes, check_length, check_bytes, enclosed, most_payload, most_data};
 ghost use Rattle.frame.specs.Acknowledgement.{verdict};
-ghost use Rattle.frame.specs.Writer.{written_said, writer_said, answers, writing, frame_laid, acknowledgement_laid, closed_laid};
+ghost use Rattle.frame.specs.Writer.{number_of_written, written_said, writer_said, answers, writing, frame_laid, acknowledgement_laid, closed_laid};
 
 // The header set up for the line.
 #[derive(Clone, Copy, Debug, PartialEq, Eq)]
@@ -23,6 +23,19 @@ pub enum WriteError {
     DataTooLong,
     // The room is below 265 bytes.
     RoomTooSmall,
+}
+
+impl WriteError {
+    // 01's number.
+    #[tactic(auto, unfolding(crate::specs::Writer::number_of_written))]
+    pub fn number(self) -> u8
+        ensures { result ≡ number_of_written (Err self) }
+    {
+        match self {
+            WriteError::DataTooLong => 3,
+            WriteError::RoomTooSmall => 14,
+        }
+    }
 }
 
 // "reply or writer's room below 265" is refused.

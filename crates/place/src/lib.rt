@@ -1,5 +1,5 @@
 // What stands at one place of a stretch, and where going on from place to place stops: 01, "Reading the line", its four bullets.
-// Each function looks at the front of a lent part of the stretch.
+// Each function looks at the front of a lent part of the stretch. Header and checking choice stay apart, as in frame.
 #![tactic(auto)]
 
 ghost use Rattle.std.specs.Prelude.{◌≡◌, ◌∷◌, [], ◌-◌, length};
