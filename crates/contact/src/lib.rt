@@ -17,14 +17,14 @@ pub struct Pad {
 }
 
 #[tactic(auto, unfolding(crate::specs::Contact::showing))]
-fn show(r: Record, registers: Registers, catch: Option<Record>) -> Pad
-    ensures { result ≡ showing r registers catch }
+fn show(r: Record, pad: Pad) -> Pad
+    ensures { result ≡ showing r pad.registers pad.catch }
 {
     if touch::no_next(r) {
-        Pad { registers, catch }
+        pad
     } else {
         Pad {
-            registers: registers.with_page(r.next),
+            registers: pad.registers.with_page(r.next),
             catch: None,
         }
     }
@@ -37,27 +37,29 @@ fn catch_with(r: Record, catch: Option<Record>) -> Option<Record>
     if touch::is_slider(r) { Some(r) } else { catch }
 }
 
+// Words are lent and setup is the caller's: a struct would only be taken apart again.
 #[tactic(auto, unfolding(crate::specs::Contact::acting))]
 fn act(
     setup: Setup,
     found: Option<(usize, Record)>,
-    registers: Registers,
-    catch: Option<Record>,
+    pad: Pad,
     words: &mut [u16],
     point: Point,
 ) -> Pad
-    ensures { touching result words.new ≡ acting setup found registers catch words.old point.x point.y }
+    ensures { touching result words.new ≡ acting setup found pad.registers pad.catch words.old point.x point.y }
 {
     match found {
-        None => Pad { registers, catch },
+        None => pad,
         Some((_, r)) => {
+            // Twice, since `acting` and `dragging` each say their own word.
             let old = words::at(words, WordAddress(r.word));
             words::set(
                 words,
                 WordAddress(r.word),
                 touch::acted(setup, r, old, point),
             );
-            show(r, registers, catch_with(r, catch))
+            let catch = catch_with(r, pad.catch);
+            show(r, Pad { catch, ..pad })
         }
     }
 }
@@ -66,10 +68,9 @@ fn act(
 fn press(setup: Setup, pad: Pad, table: &[u8], words: &mut [u16], point: Point) -> Pad
     ensures { touching result words.new ≡ pressed setup pad table.now words.old point.x point.y }
 {
-    let before = pad.registers;
-    let found = touch::find(table, before.page(), point);
-    let after = before.with_status(0x01).with_place(point.x, point.y);
-    act(setup, found, after, pad.catch, words, point)
+    let found = touch::find(table, pad.registers.page(), point);
+    let registers = pad.registers.with_status(0x01).with_place(point.x, point.y);
+    act(setup, found, Pad { registers, ..pad }, words, point)
 }
 
 #[tactic(auto, unfolding(crate::specs::Contact::dragging))]
@@ -93,7 +94,7 @@ fn hold_down(setup: Setup, pad: Pad, words: &mut [u16], point: Point) -> Pad
     drag(setup, pad.catch, words, point);
     Pad {
         registers: pad.registers.with_status(0x03).with_place(point.x, point.y),
-        catch: pad.catch,
+        ..pad
     }
 }
 

@@ -85,7 +85,7 @@ fn step_from(up: bool, mode: u8, old: u16, step: u16) -> i32
 fn fence(up: bool, round: bool, least: i32, greatest: i32, t: i32) -> i32
     ensures { result ≡ fenced up round least greatest t }
 {
-    if (least <= t) & (t <= greatest) {
+    if (least..=greatest).contains(&t) {
         return t;
     }
     let to_least = if round { up } else { t < least };
@@ -193,7 +193,7 @@ fn slide(sheet: Sheet, begin: u16, end: u16, first: u16, last: u16, at: u16) -> 
 }
 
 // The word after a slider acted on it, rounding by a sheet: begin and end stand at the first and the last edge, and the point lies
-// at a place along the axis.
+// at a place along the axis. No struct for the parameters, as at `step_stores`.
 #[tactic(auto, unfolding(crate::specs::Slider::slider_stores))]
 pub fn slider_stores(
     sheet: Sheet,

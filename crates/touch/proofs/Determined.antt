@@ -15,6 +15,8 @@ use Rattle.touch.proofs.records.is_slider.Reads as is_slider
 use Rattle.touch.proofs.records.is_slider.Kinds as is_slider_kinds
 use Rattle.touch.proofs.judging.good_record.Reads as good_record
 use Rattle.touch.proofs.judging.good_record.Kinds as good_record_kinds
+use Rattle.touch.proofs.TableError.number.Reads as table_error_number
+use Rattle.touch.proofs.TableError.number.Kinds as table_error_number_kinds
 use Rattle.touch.proofs.judging.judge.Reads as judge
 use Rattle.touch.proofs.judging.judge.Kinds as judge_kinds
 use Rattle.touch.proofs.finding.find.Reads as find
@@ -44,6 +46,9 @@ is_slider_determined κs a x y s t p q = cc
 
 pub good_record_determined : OneAnswer 0 good_record_kinds.ps good_record_kinds.r good_record.Post
 good_record_determined κs a x y s t p q = cc
+
+pub tableerror_number_determined : OneAnswer 0 table_error_number_kinds.ps table_error_number_kinds.r table_error_number.Post
+tableerror_number_determined κs a x y s t p q = p ∙ sym q
 
 pub judge_determined : OneAnswer 1 judge_kinds.ps judge_kinds.r judge.Post
 judge_determined κs a x y s t p q = p.0 ∙ sym q.0

@@ -2,12 +2,24 @@
 ghost use Rattle.std.specs.Prelude.{◌≡◌};
 ghost use Rattle.stores.specs.Store.{good_end};
 ghost use Rattle.touch.specs.Table.{records_of};
-ghost use Rattle.touch.specs.Judge.{good_area, good_step, same_area, good_slider, good_kind, good_record, first_wrong, judged, verdict_said, table_said};
+ghost use Rattle.touch.specs.Judge.{good_area, good_step, same_area, good_slider, good_kind, good_record, first_wrong, judged, number_of_verdict, verdict_said, table_said};
 
 use crate::{
     Area, Kind, MOST_RECORDS, RECORD_BYTES, Record, Setup, SliderFields, StepFields, TableError,
     records,
 };
+
+impl TableError {
+    // 01's number.
+    pub fn number(self) -> u8
+        ensures { result ≡ number_of_verdict (Err self) }
+    {
+        match self {
+            TableError::NotRecords => 12,
+            TableError::Wrong(_) => 13,
+        }
+    }
+}
 
 // How many modes there are: "mode 0 whole word, 1 high byte, 2 low byte".
 const MODES: u8 = 3;

@@ -87,6 +87,7 @@ pub(crate) fn first_of<F: Fn(Record) -> bool>(table: &[u8], picks: F) -> Option<
     requires { F.IsAlwaysCallable picks }
     ensures { (test : Record → Bool) → ((r : Record) (b : Bool) → F.post picks r b → b ≡ test r) → result ≡ first_of test 0 (records_of table.now) }
 {
+    // By number, since the loop's invariant and the edit second_record_acts count records.
     for i in 0..table.len() / RECORD_BYTES {
         let r = record_at(table, i);
         if r.page == END_PAGE {
