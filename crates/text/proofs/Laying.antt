@@ -10,7 +10,7 @@ use lib.ListN.{length, get_or, set, take, drop, length-append}
 use borrow.Rule.Slice.PartMut.{put_mid}
 use lib.Seq.{take-suc, length-take-le}
 use Rattle.wire.specs.Room.{over, lays, laid}
-use Rattle.wire.proofs.Over.{over_nil, over_more, over_part, over_mid, laid_not, laid_whole}
+use Rattle.wire.proofs.Over.{over_nil, over_more, over_part, laid_not, laid_whole}
 use Rattle.text.specs.Text.{hex_digit, hex_byte, spaced, lined, written_text, blank, line_feed}
 use Rattle.text.proofs.Lengths.{length_spaced, written_text_length}
 
@@ -78,21 +78,18 @@ module _ (frame room : List ℕ) (empty : Bool) (is : empty ≡ eqb (length fram
   pub written_no_room : (free : ℕ) → free ≡ length room - 2 → free / 3 < length frame → lays 0 room ≡ laid (leb (length text) (length room)) text room
   written_no_room free is-free small = laid_not (leb (length text) (length room)) text room (lt-leb (length text) (length room) (omega (arith, long)))
 
-  -- `O` laid, the bytes over the part behind it, the line feed over the part behind these
-  module _ (o r : List ℕ) where
+  -- `O` set, the bytes over the part behind it, the line feed set behind these
+  module _ (r : List ℕ) where
     abbrev begun : List ℕ
-    begun = o ++ drop 1 room
+    begun = set room 0 79
 
-    pub written_laid : (q : List ℕ) (k free : ℕ) → free ≡ length room - 2 → length frame ≤ free / 3 → o ≡ 79 ∷ []
-        → r ≡ over (spaced frame) (take (length begun - 1) (drop 1 begun)) → k ≡ 3 * length frame → q ≡ 10 ∷ []
-        → lays (1 + k + 1) (put_mid (1 + k) (1 + k + 1 - (1 + k)) (put_mid 1 (length begun - 1) begun r) q)
-        ≡ laid (leb (length text) (length room)) text room
-    unfolding over
-    written_laid q k free is-free fits is-o is-r is-k is-q =
+    pub written_laid : (k free : ℕ) → free ≡ length room - 2 → length frame ≤ free / 3 → r ≡ over (spaced frame) (take (length begun - 1) (drop 1 begun))
+        → k ≡ 3 * length frame → lays (1 + k + 1) (set (put_mid 1 (length begun - 1) begun r) (1 + k) 10) ≡ laid (leb (length text) (length room)) text room
+    written_laid k free is-free fits is-r is-k =
         let bytes : length (79 ∷ spaced frame) ≡ 1 + k = omega (arith, length_spaced frame) in
-        let first : put_mid 1 (length begun - 1) begun r ≡ over (79 ∷ spaced frame) room =
-        over_part (79 ∷ []) (spaced frame) room begun r 1 refl (ap (λ (l : List ℕ). l ++ drop 1 room) is-o) is-r in
+        let o : begun ≡ over (79 ∷ []) room = ap (λ (l : List ℕ). set l 0 79) (sym (over_nil room)) ∙ over_more [] room 79 0 refl (omega (arith, some)) in
+        let first : put_mid 1 (length begun - 1) begun r ≡ over (79 ∷ spaced frame) room = over_part (79 ∷ []) (spaced frame) room begun r 1 refl o is-r in
         laid_whole (leb (length text) (length room)) ((79 ∷ spaced frame) ++ (10 ∷ [])) text room _ (1 + k + 1)
         (le-leb (length text) (length room) (omega (arith, long, some))) (some_text frame some)
         (omega (arith, length-append (79 ∷ spaced frame) (10 ∷ []), length_spaced frame))
-        (rw is-q (over_mid (79 ∷ spaced frame) (10 ∷ []) room _ (1 + k) (1 + k + 1 - (1 + k)) bytes (omega arith) first))
+        (ap (λ (l : List ℕ). set l (1 + k) 10) first ∙ over_more (79 ∷ spaced frame) room 10 (1 + k) bytes (omega (arith, some)))

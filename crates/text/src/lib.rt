@@ -134,6 +134,7 @@ fn put_spaced(frame: &[u8], room: &mut [u8]) -> usize
     ensures value { result ≡ 3 * length frame.now }
     ensures room_after { room.new ≡ over (spaced frame.now) room.old }
 {
+    // By index: behind `as_chunks_mut` or a zip the room is not known.
     for (i, b) in frame.iter().enumerate() {
         let [high, low] = hex_byte(*b);
         room[3 * i] = b' ';
@@ -154,8 +155,8 @@ pub fn put_written(frame: &[u8], room: &mut [u8]) -> usize
     if room.len().saturating_sub(2) / 3 < frame.len() {
         return 0;
     }
-    room[..1].copy_from_slice(b"O");
+    room[0] = b'O';
     let n = 1 + put_spaced(frame, &mut room[1..]);
-    room[n..n + 1].copy_from_slice(b"\n");
+    room[n] = b'\n';
     n + 1
 }
