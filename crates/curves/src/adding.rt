@@ -8,14 +8,13 @@ use crate::{CHANNEL_COUNT, CHANNEL_WORDS, CURVE_WORDS, Counts, Numbers, rounds};
 
 impl Numbers<'_> {
     // Adds the numbers at one place of the rounds to a channel.
-    fn add_channel(&self, place: usize, n: usize, counts: Counts, area: &mut [u16]) -> Counts
+    fn add_channel(&self, place: usize, n: usize, mut counts: Counts, area: &mut [u16]) -> Counts
         requires { (place < self.now.size) × (n < channel_count) × (length area.old ≡ curve_words) }
         ensures { draws result area.new ≡ on_channel n (column self.now place) (draws counts area.old) }
     {
         let from = n * CHANNEL_WORDS;
-        let mut each = counts.each;
-        each[n] = self.add_to(place, each[n], &mut area[from..from + CHANNEL_WORDS]);
-        Counts { each }
+        counts.each[n] = self.add_to(place, counts.each[n], &mut area[from..from + CHANNEL_WORDS]);
+        counts
     }
 }
 
@@ -25,6 +24,7 @@ fn add_all(mut counts: Counts, mode: u8, bytes: &[u8], area: &mut [u16]) -> Coun
     ensures { draws result area.new ≡ added_from (mode ∷ bytes.now) 0 channel_count (draws counts area.old) }
 {
     let numbers = Numbers::behind(mode, bytes);
+    // `place` is counted by hand, since the invariant ties it to the channels named so far.
     let mut place = 0;
     for n in 0..CHANNEL_COUNT {
         if rounds::names(mode, n) {

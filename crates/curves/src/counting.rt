@@ -27,15 +27,14 @@ impl Counts {
 
 // The counts behind a value of register EB: 55 clears all channels, 56 to 5D one, any other none.
 #[tactic(auto, unfolding(crate::specs::Clearing::cleared))]
-pub fn cleared(counts: Counts, value: u8) -> Counts
+pub fn cleared(mut counts: Counts, value: u8) -> Counts
     ensures { result ≡ cleared value counts }
 {
     match value {
         0x55 => none(),
         0x56..=0x5D => {
-            let mut each = counts.each;
-            each[usize::from(value - 0x56)] = 0;
-            Counts { each }
+            counts.each[usize::from(value - 0x56)] = 0;
+            counts
         }
         _ => counts,
     }

@@ -26,7 +26,7 @@ pub struct Counts {
     pub each: [u16; CHANNEL_COUNT],
 }
 
-// The 16-bit numbers behind a mode byte, in so many whole rounds of this size.
+// The 16-bit numbers behind a mode byte, in so many whole rounds of this size. `place` is no ghost field: it changes with each channel of the same numbers.
 #[derive(Clone, Copy)]
 struct Numbers<'a> {
     bytes: &'a [u8],

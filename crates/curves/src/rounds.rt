@@ -19,6 +19,7 @@ pub(crate) fn size_of(mode: u8) -> usize
     ensures value { result ≡ round_size mode }
     ensures upper_bound { result ≤ channel_count }
 {
+    // `as`, since usize has no From<u32>.
     mode.count_ones() as usize
 }
 
@@ -55,5 +56,5 @@ pub fn is_wrong(content: &[u8]) -> bool
 {
     let size = size_of(wire::byte_at(content, 0));
     let n = content.len().saturating_sub(1);
-    size == 0 || n == 0 || n % (size + size) != 0
+    size == 0 || n == 0 || !n.is_multiple_of(size + size)
 }

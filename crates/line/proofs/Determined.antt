@@ -1,6 +1,8 @@
 -- One answer fits each public function.
 use mathlib.Core.Path.{sym, ◌∙◌}
 use Rattle.wire.specs.OneAnswer.{OneAnswer}
+use Rattle.line.proofs.Waiting.number.Reads as waiting_number
+use Rattle.line.proofs.Waiting.number.Kinds as waiting_number_kinds
 use Rattle.line.proofs.Reader.new.Reads as new
 use Rattle.line.proofs.Reader.new.Kinds as new_kinds
 use Rattle.line.proofs.Reader.none.Reads as none
@@ -15,6 +17,9 @@ use Rattle.line.proofs.Reader.ask.Reads as ask
 use Rattle.line.proofs.Reader.ask.Kinds as ask_kinds
 use Rattle.line.proofs.Reader.give_bytes.Reads as give_bytes
 use Rattle.line.proofs.Reader.give_bytes.Kinds as give_bytes_kinds
+
+pub waiting_number_determined : OneAnswer 0 waiting_number_kinds.ps waiting_number_kinds.r waiting_number.Post
+waiting_number_determined κs a x y s t p q = p ∙ sym q
 
 pub new_determined : OneAnswer 0 new_kinds.ps new_kinds.r new.Post
 new_determined κs a x y s t p q = p ∙ sym q

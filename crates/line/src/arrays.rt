@@ -22,6 +22,7 @@ fn copy_held(reader: Reader, from: usize, to: usize, out: &mut [u8])
     requires { (from ≤ to) × (to ≤ longest_frame) × (to - from ≤ length out.old) }
     ensures { out.new ≡ over (take (to - from) (drop from reader.held)) out.old }
 {
+    // A local, since to lend a part of a reader copies all of it.
     let held = reader.held;
     out[..to - from].copy_from_slice(&held[from..to]);
 }

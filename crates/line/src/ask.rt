@@ -1,4 +1,5 @@
-// Asking: the next report is handed over with its data, and what is behind it settles.
+// Asking: the next report is handed over with its data, and what is behind it settles. That the arrays are empty is a premise of each: `ask` makes
+// them once and all write in place (docs/PROVING.md, "Speed of the program").
 ghost use Rattle.std.specs.Prelude.{◌≡◌, [], ◌+◌, ◌-◌, ◌≤◌, length, take, drop, None};
 ghost use Rattle.frame.specs.Frame.{header_bytes, content_of, longest_frame, most_payload};
 ghost use Rattle.line.specs.State.{padded};
@@ -53,6 +54,7 @@ fn put_payload(reader: Reader, out: &mut [u8])
     let l = head::body_length(reader.head);
     let end = l.saturating_sub(frame::check_length(reader.line.checking));
     if end < 5 {
+        // A local, since to lend a part of a reader copies all of it.
         let held = reader.held;
         put_short(&held[from..from + l], end, out);
         return;
@@ -81,6 +83,7 @@ fn hand_report(reader: Reader, k: usize, payload: &mut [u8], left: &mut [u8]) ->
     requires { (k ≡ span (header_bytes reader.line.header) reader.head) × (k ≤ reader.len) × (reader.len ≤ longest_frame) × (payload.old ≡ padded most_payload []) × (left.old ≡ padded longest_frame []) }
     ensures { asked_with reader.line result payload.new left.new ≡ answer_with_report reader }
 {
+    // A local, since to lend a part of a reader copies all of it.
     let held = reader.held;
     let from = reader.line.header.length() + 1;
     let report = report_on(
@@ -92,6 +95,7 @@ fn hand_report(reader: Reader, k: usize, payload: &mut [u8], left: &mut [u8]) ->
     let rest = settle::settle_left(reader, k, left);
     Handover {
         report,
+        // `&` and no `&&`: one equation of truth values (docs/PROVING.md, Loops).
         closed: reader.closed & (0 < rest.len),
         rest,
     }

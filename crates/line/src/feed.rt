@@ -56,6 +56,7 @@ pub(crate) fn feed(line: Line, held: &mut [u8], count: usize, bytes: &[u8]) -> F
     // Below this length the bytes held decide nothing. No `for` goes over the bytes: a turn takes one, a block, or all the noise in front.
     let mut need = 0;
     let mut i = 0;
+    // `&` and no `&&`: one equation of truth values (docs/PROVING.md, Loops).
     while (i < bytes.len()) & head::can_take(n, head) {
         if n + 1 < need {
             let k = take_block(held, n, need, &bytes[i..]);

@@ -1,4 +1,5 @@
 // What stands at the first byte held: whether it is a report, how long its frame is, how much goes with its report.
+// Functions and no methods: `Look` is place's type.
 ghost use Rattle.std.specs.Prelude.{◌≡◌, ◌≤◌};
 ghost use Rattle.frame.specs.Frame.{header_bytes, longest_frame};
 ghost use Rattle.line.specs.Inner.{decided_at};
@@ -18,7 +19,7 @@ fn is_report(look: Look) -> bool
 pub fn can_take(n: usize, head: Look) -> bool
     ensures { result ≡ takes n head }
 {
-    (n < LONGEST_FRAME) & !is_report(head)
+    n < LONGEST_FRAME && !is_report(head)
 }
 
 // The L of an accepted frame.
@@ -44,13 +45,13 @@ pub fn span_of(header: Header, look: Look) -> usize
 }
 
 // How long the bytes must be before the frame that the first begins is whole; 0 where the length byte has not come.
+#[tactic(auto, unfolding(crate::specs::Inner::decided_at))]
 pub fn whole_at(header: Header, s: &[u8]) -> usize
     ensures { (result ≡ decided_at (header_bytes header) s.now) × (result ≤ longest_frame) }
 {
     let h = header.length();
-    if h < s.len() {
-        h + 1 + usize::from(s[h])
-    } else {
-        0
+    match s.get(h) {
+        Some(l) => h + 1 + usize::from(*l),
+        None => 0,
     }
 }

@@ -1,11 +1,11 @@
 // A new reader, none, and the inputs that one is given: bytes, one or many, and quiet marks.
-ghost use Rattle.std.specs.Prelude.{◌≡◌, []};
+ghost use Rattle.std.specs.Prelude.{◌≡◌, [], Err};
 ghost use Rattle.frame.specs.Frame.{longest_frame};
 ghost use Rattle.reading.specs.Moves.{fresh};
 ghost use Rattle.place.specs.declared.Look.TheVariants.{Wait};
 ghost use Rattle.line.specs.State.{padded, reader_of, no_reader};
 ghost use Rattle.line.specs.Inner.{opened};
-ghost use Rattle.line.specs.Methods.{busy, answer_said, input_said, given_byte, given_mark, given_bytes};
+ghost use Rattle.line.specs.Methods.{number_of_answer, busy, answer_said, input_said, given_byte, given_mark, given_bytes};
 
 use crate::{Gave, Given, Line, Reader, Waiting, arrays, feed, head, settle};
 use frame::{Header, LONGEST_FRAME};
@@ -21,6 +21,18 @@ fn empty(line: Line, len: usize) -> Reader
         len,
         closed: false,
         head: Look::Wait,
+    }
+}
+
+impl Waiting {
+    // 01's number.
+    #[tactic(auto, unfolding(crate::specs::Methods::number_of_answer))]
+    pub fn number(self) -> u8
+        ensures { result ≡ number_of_answer (Err self) }
+    {
+        match self {
+            Waiting::ReportWaits => 1,
+        }
     }
 }
 
@@ -78,6 +90,7 @@ impl Reader {
         ensures answer_value { answer_said result.answer ≡ input_said self }
     {
         if head::can_take(self.len, self.head) {
+            // A local, since to lend a part of a reader copies all of it.
             let held = self.held;
             let next = settle::settle(self.line, true, &held[..self.len]);
             Given {

@@ -2,7 +2,7 @@
 // A reader is a value: a method takes it and hands back the next one.
 #![tactic(auto)]
 
-// Reader: new, none, is_waiting, give_byte, give_bytes, give_mark.
+// Reader: new, none, is_waiting, give_byte, give_bytes, give_mark. Waiting: number.
 mod inputs;
 // Reader: ask.
 mod ask;
@@ -25,6 +25,7 @@ pub struct Line {
     pub checking: bool,
 }
 
+// No heap: an array and a count; the promises speak of the whole array, zeros behind the bytes.
 // The bytes held stand at the front of the array; `closed` says whether a mark has closed their stretch, `head` what stands at the first.
 #[derive(Clone, Copy)]
 pub struct Reader {
@@ -62,6 +63,7 @@ pub enum Report {
     BadCheck(u8),
 }
 
+// No heap: an array and a count; the promises speak of the whole array, zeros behind the bytes.
 #[derive(Clone, Copy)]
 pub struct Asked {
     pub report: Option<Report>,

@@ -41,6 +41,7 @@ pub(crate) fn settle(line: Line, closed: bool, s: &[u8]) -> Reader
         line,
         held,
         len,
+        // `&` and no `&&`: one equation of truth values (docs/PROVING.md, Loops).
         closed: closed & (0 < len),
         head: stop.look,
     }
@@ -51,10 +52,14 @@ fn stop_behind(reader: Reader, k: usize) -> Stop
     requires { (k ≤ reader.len) × (reader.len ≤ longest_frame) }
     ensures { result ≡ stop_of (rules_for reader.line) reader.closed (take (reader.len - k) (drop k reader.held)) }
 {
-    let line = reader.line;
+    // A local, since to lend a part of a reader copies all of it.
     let held = reader.held;
-    let n = reader.len;
-    place::first_stop(line.header, line.checking, reader.closed, &held[k..n])
+    place::first_stop(
+        reader.line.header,
+        reader.line.checking,
+        reader.closed,
+        &held[k..reader.len],
+    )
 }
 
 // Lays what is left behind the first k bytes held.

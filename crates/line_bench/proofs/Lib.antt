@@ -1,4 +1,3 @@
-pub mod Weights
 pub mod Summing
 pub mod Examples
 pub mod Determined

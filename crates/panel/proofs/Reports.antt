@@ -48,10 +48,6 @@ use Rattle.panel.specs.declared.Reported.{Reported}
 use Rattle.panel.specs.State.{header_for, header_of, fixed_for, answering}
 use Rattle.panel.specs.Reporting.{enough, acknowledged, Effects, effects, accepting, HandingOver, overs, only_handed, accepted_over, handing_over, length_of, catch_after, drawing, noting, Reporting, reports, handing, refused, reporting}
 
-pub lent_judged : (words curves room : ℕ) → (eqb words word_count && eqb curves curve_words && leb least_room room) ≡ enough words curves room
-unfolding enough
-lent_judged words curves room = refl
-
 module _ (setup : Setup) (command : ℕ) (good : Bool) (room : List ℕ) (c k : Bool) (is_c : c ≡ checking_of setup) (is-k : k ≡ acknowledging_of setup) where
   both : (c && k) ≡ answering setup
   both = rw (is_c, is-k)

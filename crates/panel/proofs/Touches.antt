@@ -43,10 +43,10 @@ module _ (panel : Panel) (table words : List ℕ) (x y : ℕ) (r : Contacted) wh
     number_9 is is-r rest = rw (sym is-off ∙ is, is-r)
 
     module _ (live : off ≡ false) where
-      pub number_8 : on_screen panel.setup x y ≡ false → r ≡ only_answers (Err contact_error.OffScreen) panel → (rest : Lent)
+      pub number_8 : (on : Bool) → on ≡ on_screen panel.setup x y → on ≡ false → r ≡ only_answers (Err contact_error.OffScreen) panel → (rest : Lent)
           → contacts r (with_words rest words) ≡ contact_on panel at (with_words rest words)
       unfolding contact_on
-      number_8 is is-r rest = rw (sym is-off ∙ live, is, is-r)
+      number_8 on is-on is is-r rest = rw (sym is-off ∙ live, sym is-on ∙ is, is-r)
 
   module _ (verdict : Verdict) (is-verdict : verdict ≡ judged panel.setup table) where
     judged_so : (given : Verdict) → verdict ≡ given → (lent : Lent) → contact_judged given panel at lent ≡ contact_judged (judged panel.setup table) panel at lent
@@ -65,12 +65,12 @@ module _ (panel : Panel) (table words : List ℕ) (x y : ℕ) (r : Contacted) wh
 
 -- the touch is done
 pub contact_done_lem : (panel : Panel) (table words : List ℕ) (x y : ℕ) (off : Bool) → off ≡ is_touch_off panel.registers → off ≡ false → (before pad : Pad)
-    (next : Panel) (left : List ℕ) → on_screen panel.setup x y ≡ true → before ≡ pad_of panel → touching pad left ≡ touched panel.setup before table words x y
+    (next : Panel) (left : List ℕ) (on : Bool) → on ≡ on_screen panel.setup x y → on ≡ true → before ≡ pad_of panel → touching pad left ≡ touched panel.setup before table words x y
     → next ≡ with_pad panel pad
     → (rest : Lent) → silent (Ok tt) next (with_words rest left) ≡ contact_on panel (contact_at table x y) (with_words rest words)
 unfolding contact_on
-contact_done_lem panel table words x y off is-off live before pad next left is is-before e is_next rest =
-    rw (sym is-off ∙ live, is, is_next)
+contact_done_lem panel table words x y off is-off live before pad next left on is-on is is-before e is_next rest =
+    rw (sym is-off ∙ live, sym is-on ∙ is, is_next)
     (ap (λ (t : Touching). silent (Ok tt) (with_pad panel t.pad) (with_words rest t.words)) (rw is-before at e))
 
 -- where 14 is not given, the room holds every reply

@@ -44,6 +44,7 @@ impl Panel {
         // a local of their own: to lend a part of self copies all of self
         let mut registers = self.registers;
         let done = hand_over(self.setup, &registers.bytes, &asked, words, room);
+        let catch = catch_after(done.drops, self.catch);
         let content = &asked.payload[..content_length(asked.report)];
         let counts = draw(done.writes, done.adds, self.counts, content, curves);
         watching::note(done.notes, content, words, list);
@@ -55,7 +56,7 @@ impl Panel {
             payload: asked.payload,
             panel: Panel {
                 registers,
-                catch: catch_after(done.drops, self.catch),
+                catch,
                 counts,
                 reader: asked.reader,
                 ..self
@@ -65,10 +66,11 @@ impl Panel {
 }
 
 // Words, curve area and room are what they must be.
+#[tactic(auto, unfolding(crate::specs::Reporting::enough))]
 fn is_lent(words: usize, curves: usize, room: usize) -> bool
     ensures { result ≡ enough words curves room }
 {
-    (words == WORD_COUNT) & (curves == CURVE_WORDS) & (LEAST_ROOM <= room)
+    words == WORD_COUNT && curves == CURVE_WORDS && LEAST_ROOM <= room
 }
 
 // Why no report is handed over: 14, then 16.
@@ -111,6 +113,7 @@ fn fixed_for(setup: Setup) -> Fixed
 fn acknowledge(setup: Setup, command: u8, good: bool, room: &mut [u8]) -> usize
     ensures { lays result room.new ≡ acknowledged setup command good room.old }
 {
+    // `&` and no `&&`: the law goes by one equation of truth values
     if touch::checking(setup) & touch::acknowledging(setup) {
         frame::put_acknowledgement(starting::header_for(setup), command, good, room)
     } else {
@@ -193,7 +196,7 @@ fn accepted(command: u8, count: usize, done: Effected) -> HandedOver
     }
 }
 
-// A write of registers: a channel that it clears has no numbers any more. The area's words stay.
+// A write of registers: a channel that it clears has no numbers any more. The area's words stay: it is lent so that `clear_zeroes_words` is refused here.
 fn clear(counts: Counts, content: &[u8], area: &mut [u16]) -> Counts
     ensures value { result ≡ counts_left counts content.now }
     ensures area_unchanged { area.new ≡ area.old }

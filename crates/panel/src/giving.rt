@@ -8,6 +8,7 @@ use line::{Given, Waiting};
 
 impl Panel {
     // The reader took an input or refused it; nothing else of the panel changes.
+    #[inline(always)]
     fn fed_by(self, given: Given) -> Fed
         ensures { result ≡ fed_by self given }
     {

@@ -26,7 +26,7 @@ pub struct Panel {
     reader: Reader,
 }
 
-// Why a start is refused.
+// Why a start is refused. Flat, as the other errors: one variant for each of 01's numbers.
 #[derive(Clone, Copy, Debug, PartialEq, Eq)]
 pub enum StartError {
     WrongSetup,
@@ -105,7 +105,7 @@ pub enum ContactError {
 #[derive(Clone, Copy)]
 pub struct Contacted {
     pub answer: Result<(), ContactError>,
-    // How long an unasked reply was written.
+    // How long an unasked reply was written; beside the answer, since `contact_said` takes both.
     pub written: usize,
     pub panel: Panel,
 }
@@ -130,7 +130,7 @@ struct Effected {
     acknowledged: usize,
 }
 
-// What is handed over; whether the frame's data is to be written into the registers; whether the catch is to be dropped; whether the data is to be
+// The flags stand here once more, since a bad check and no report have them too, and no `Performed`. What is handed over; whether the frame's data is to be written into the registers; whether the catch is to be dropped; whether the data is to be
 // added to the curves; whether its words are to be noted in the watch list.
 #[derive(Clone, Copy)]
 struct HandedOver {

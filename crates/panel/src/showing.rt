@@ -11,16 +11,14 @@ impl Panel {
     pub fn register(self, address: RegisterAddress) -> u8
         ensures { result ≡ panel_register self address.0 }
     {
-        let registers = self.registers;
-        registers.at(address)
+        self.registers.at(address)
     }
 
     // The page that is shown.
     pub fn page(self) -> u16
         ensures { result ≡ page_of self.registers }
     {
-        let registers = self.registers;
-        registers.page()
+        self.registers.page()
     }
 
     pub fn backlight(self) -> u8
@@ -40,15 +38,13 @@ impl Panel {
     pub fn moment(self) -> Moment
         ensures { result ≡ panel_moment self }
     {
-        let registers = self.registers;
-        registers.moment()
+        self.registers.moment()
     }
 
     // How many numbers a channel of the curves has; past the last channel, 0.
     pub fn curve_count(self, channel: usize) -> u16
         ensures { result ≡ panel_count self channel }
     {
-        let counts = self.counts;
-        counts.of(channel)
+        self.counts.of(channel)
     }
 }

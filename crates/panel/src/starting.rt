@@ -11,6 +11,7 @@ use line::Reader;
 use registers::Registers;
 use touch::{Setup, TableError};
 
+// A start and a contact refuse a wrong table alike, and otherwise for different reasons.
 impl From<TableError> for StartError {
     ghost from_gives = { λ why error. error ≡ start_error_of why };
 

@@ -7,15 +7,16 @@ ghost use Rattle.panel.specs.State.{pad_of, with_pad};
 ghost use Rattle.panel.specs.Numbers.{contact_said, lift_said};
 ghost use Rattle.panel.specs.Listed.{contact_answered, lift_listed, said_by};
 ghost use Rattle.panel.specs.Inner.{before_table};
-ghost use Rattle.panel.specs.Contacts.{contact_at, contacts, contact_error_of, only_answers, contact_on, contact_judged, touch_not_lent, contacting, lifting};
+ghost use Rattle.panel.specs.Contacts.{contact_at, on_screen, contacts, contact_error_of, only_answers, contact_on, contact_judged, touch_not_lent, contacting, lifting};
 
 use crate::{ContactError, Contacted, LiftError, Lifted, Panel, watching};
 use contact::Pad;
 use frame::LEAST_ROOM;
-use touch::{Point, TableError};
+use touch::{Point, Setup, TableError};
 use watch::WatchList;
 use wire::WORD_COUNT;
 
+// A start and a contact refuse a wrong table alike, and otherwise for different reasons.
 impl From<TableError> for ContactError {
     ghost from_gives = { λ why error. error ≡ contact_error_of why };
 
@@ -114,12 +115,10 @@ impl Panel {
         if self.registers.is_touch_off() {
             return refuse(ContactError::TouchOff, self);
         }
-        let setup = self.setup;
-        let on_screen = (point.x < setup.width) & (point.y < setup.height);
-        if !on_screen {
+        if !is_on_screen(self.setup, point) {
             return refuse(ContactError::OffScreen, self);
         }
-        let pad = contact::touch_down(setup, self.pad(), table, words, point);
+        let pad = contact::touch_down(self.setup, self.pad(), table, words, point);
         Contacted {
             answer: Ok(()),
             written: 0,
@@ -128,11 +127,18 @@ impl Panel {
     }
 }
 
-// Words or room are not what they must be.
+// Words or room are not what they must be. A contact is lent no curve area, and its list goes on with 1: so test and judge are its own.
+#[tactic(auto, unfolding(crate::specs::Contacts::touch_not_lent))]
 fn is_not_lent(words: usize, room: usize) -> bool
     ensures { result ≡ touch_not_lent words room }
 {
-    (words != WORD_COUNT) | (room < LEAST_ROOM)
+    words != WORD_COUNT || room < LEAST_ROOM
+}
+
+fn is_on_screen(setup: Setup, point: Point) -> bool
+    ensures { result ≡ on_screen setup point.x point.y }
+{
+    point.x < setup.width && point.y < setup.height
 }
 
 // What a contact is refused with before its table is looked at.

@@ -13,7 +13,7 @@ use Rattle.wire.specs.Bytes.{Bytes}
 use Rattle.wire.specs.Room.{over}
 use Rattle.wire.proofs.Parts.{part_whole, part_end}
 use Rattle.reading.proofs.ByteLists.{bytes_drop}
-use Rattle.wire.proofs.Truths.{never, and_left, and_right}
+use Rattle.wire.proofs.Truths.{never, and_left, and_right, or_left, or_right}
 use Rattle.telling.specs.Memory.{Memory}
 use Rattle.telling.specs.Told.{least_text}
 use Rattle.trace.specs.declared.Stepped.{Stepped}
@@ -155,14 +155,6 @@ and_none : (a b : Bool) → (a && b) ≡ false → (a ≡ false) ⊎ (b ≡ fals
 and_none true b is = inr is
 and_none false b is = inl refl
 
-pub or_none_left : (a b : Bool) → (a || b) ≡ false → a ≡ false
-or_none_left true b is = is
-or_none_left false b is = refl
-
-pub or_none_right : (a b : Bool) → (a || b) ≡ false → b ≡ false
-or_none_right true b is = never (cc)
-or_none_right false b is = is
-
 pub fills : (before : Held) (input : List ℕ) (trace : Trace) (table : List ℕ) (memory : Memory) (room : List ℕ) (at filled : ℕ) → Going before input (holds trace table memory) at filled room
     → least_text ≤ length room → (waiting : Bool) → waiting ≡ waits trace → (leb least_text (length room - filled) && (ltb at (length input) || waiting)) ≡ false
     → Filling before input (holds trace table memory) at (take filled room)
@@ -179,6 +171,6 @@ fills before input trace table memory room at filled going enough waiting is_wai
         idle task (inl full) = omega (arith, leb-false least_text (length room - filled) full, first.1, enough)
         idle (inl is) (inr nothing) =
             let z : ◌≡◌ {A = Bool} true false =
-            sym is ∙ ap (λ (h : Held). waits h.trace) (sym first.2) ∙ sym is_waiting ∙ or_none_right (ltb at (length input)) waiting nothing in
+            sym is ∙ ap (λ (h : Held). waits h.trace) (sym first.2) ∙ sym is_waiting ∙ or_right (ltb at (length input)) waiting nothing in
             never (cc)
-        idle (inr long) (inr nothing) = omega (arith, ltb-false at (length input) (or_none_left (ltb at (length input)) waiting nothing), first.0, long)
+        idle (inr long) (inr nothing) = omega (arith, ltb-false at (length input) (or_left (ltb at (length input)) waiting nothing), first.0, long)

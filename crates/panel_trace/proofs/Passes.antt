@@ -14,6 +14,7 @@ use Rattle.std.proofs.Common.{Result, Ok, Err, is_ok}
 use Rattle.wire.specs.Addresses.{word_count}
 use Rattle.curves.specs.Area.{curve_words}
 use Rattle.wire.proofs.Parts.{part_whole}
+use Rattle.wire.proofs.Truths.{or_left, or_right}
 use Rattle.telling.specs.Memory.{Memory, remembering, new_memory}
 use Rattle.trace.specs.declared.Trace.{Trace}
 use Rattle.items.specs.Records.{table_bytes}
@@ -24,7 +25,7 @@ use Rattle.printing.proofs.HeldSound.{new_quiet, new_held_sound}
 use Rattle.printing.proofs.Outputs.{quiet_output}
 use Rattle.panel_trace.specs.Inner.{calls_left, Filling, Passing}
 use Rattle.panel_trace.specs.Program.{ReadSoFar}
-use Rattle.panel_trace.proofs.Going.{or_some, or_none_left, or_none_right}
+use Rattle.panel_trace.proofs.Going.{or_some}
 
 -- so much of the input is taken, and the texts that stood in the room one after the other are this text
 pub record Passes (before : Held) (input : List ℕ) (after : Held) (at : ℕ) : Type 0 where
@@ -76,12 +77,12 @@ module _ (before : Held) (input : List ℕ) (trace : Trace) (table : List ℕ) (
 
   pub passes_all : (waiting : Bool) → waiting ≡ waits trace → (ltb at (length input) || waiting) ≡ false → Passing before input (holds trace table memory)
   passes_all waiting is_waiting nothing =
-      let past : length input ≤ at = omega (arith, ltb-false at (length input) (or_none_left (ltb at (length input)) waiting nothing)) in
+      let past : length input ≤ at = omega (arith, ltb-false at (length input) (or_left (ltb at (length input)) waiting nothing)) in
       let all : drop at input ≡ [] = drop_of_length-le input past in
       record {
         text = so_far.text;
         prints = λ rest. so_far.prints rest ∙ ap (λ (l : List ℕ). so_far.text ++ output_from held (l ++ rest)) all;
-        quiet = sym is_waiting ∙ or_none_right (ltb at (length input)) waiting nothing;
+        quiet = sym is_waiting ∙ or_right (ltb at (length input)) waiting nothing;
       }
 
 -- ---- Reading
@@ -114,15 +115,6 @@ reads_on before chunk after so_far passing =
           ∙ sym (append_assoc so_far.text passing.text (output_from after rest));
       quiet = passing.quiet;
     }
-
-pub reads_if_well : (well : Bool) (before : Held) (chunk : List ℕ) (after : Held) → ReadSoFar before → (well ≡ true → Passing before chunk after) → well ≡ true → ReadSoFar after
-reads_if_well well before chunk after so_far passing is = reads_on before chunk after so_far (passing is)
-
-pub reads_kept : (well : Bool) (before : Held) → ReadSoFar before → well ≡ true → ReadSoFar before
-reads_kept well before so_far is = so_far
-
-pub reads_none : (before : Held) → false ≡ true → ReadSoFar before
-reads_none before is = cc
 
 -- what stands on Ok, where there is Ok
 pub ok_gives : {T E P : Type 0} (r : Result T E) → true ≡ is_ok r → OnOk r P → P

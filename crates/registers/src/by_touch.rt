@@ -32,6 +32,7 @@ impl Registers {
         matches!(self.at(RegisterAddress(0x06)), 0x01 | 0x03)
     }
 
+    // Any byte and no enum: the promise is for every status.
     #[tactic(auto, unfolding(crate::specs::Touched::with_status))]
     pub fn with_status(mut self, status: u8) -> Registers
         ensures { result ≡ with_status self status }
@@ -47,7 +48,8 @@ impl Registers {
         self.at(RegisterAddress(0x0B)) == 0x00
     }
 
-    // With the place of a touch, unless the master has not cleared the flag of the last one.
+    // With the place of a touch, unless the master has not cleared the flag of the last one. Two numbers and no `touch::Point`: registers
+    // know nothing of touch (crates.txt).
     #[tactic(auto, unfolding(crate::specs::Touched::with_place))]
     pub fn with_place(mut self, x: u16, y: u16) -> Registers
         ensures { result ≡ with_place self x y }

@@ -11,6 +11,7 @@ fn read_run(registers: &[u8], a: usize, room: &mut [u8])
     requires { a + length room.old ≤ register_count }
     ensures { room.new ≡ register_run (holding registers.now) a (length room.old) }
 {
+    // Byte by byte and no copy: a slice shorter than 256 reads 0 past its end.
     for (i, place) in room.iter_mut().enumerate() {
         *place = wire::byte_at(registers, a + i);
     }

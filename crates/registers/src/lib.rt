@@ -41,7 +41,8 @@ pub struct Registers {
     pub bytes: [u8; REGISTER_COUNT],
 }
 
-// What is to be written: these bytes from the address on.
+// What is to be written: these bytes from the address on. Inside this crate: the public functions take address and bytes apart, as
+// docs/CONTRACTS.md names them.
 #[derive(Clone, Copy)]
 struct Run<'a> {
     address: RegisterAddress,

@@ -54,6 +54,7 @@ impl Registers {
         }
         let weekday = Run { address, bytes }.weekday();
         let first = usize::from(address.0);
+        // By index, as the check knows it.
         for (i, b) in bytes.iter().enumerate() {
             self.bytes[first + i] = read_as(weekday, first + i, *b);
         }

@@ -3,7 +3,6 @@ use Rattle.std.specs.Prelude.{Option, None, Some, Ok, Err}
 use mathlib.Core.Path.{◌≡◌, sym, ap, ◌∙◌}
 use mathlib.Core.List.{List, [], ◌++◌}
 use Prim.Native.Nat.{ℕ, ◌+◌, ◌-◌, ◌≤◌}
-use native.Mathlib.Nat.{sub-zero}
 use native.Mathlib.Omega.{arith}
 use borrow.Author.Tests.{le-leb}
 use lib.Dec.{leb}
@@ -57,9 +56,9 @@ module _ (a : ℕ) (reply room left : List ℕ) (k : ℕ) (short : a ≤ acknowl
   acknowledgement_short : length (written_text (take a reply)) ≤ written_bytes acknowledgement_bytes
   acknowledgement_short = omega (arith, written_text_length_le (take a reply), length-take-le a reply (omega arith))
 
-  module _ (wide : written_bytes acknowledgement_bytes ≤ length room) (is : lays k left ≡ laid (leb (length (written_text (take (a - 0) reply))) (length room)) (written_text (take (a - 0) reply)) room) where
+  module _ (wide : written_bytes acknowledgement_bytes ≤ length room) (is : lays k left ≡ laid (leb (length (written_text (take a reply))) (length room)) (written_text (take a reply)) room) where
     pub acknowledgement_printed : lays k left ≡ prints (written_text (take a reply)) room
-    acknowledgement_printed = (rw (sub-zero a) at is) ∙ fitting (written_text (take a reply)) room (omega (arith, acknowledgement_short))
+    acknowledgement_printed = is ∙ fitting (written_text (take a reply)) room (omega (arith, acknowledgement_short))
 
     pub acknowledgement_count : k ≤ written_bytes acknowledgement_bytes
     acknowledgement_count =

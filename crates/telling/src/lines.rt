@@ -1,4 +1,5 @@
-// The lines of a report, laid over the front of a room that has space for them.
+// The lines of a report, laid over the front of a room that has space for them. The room is a lent slice with a `requires`: a struct over a `&mut` slice
+// would be taken apart and lent again at each part of it.
 ghost use Rattle.std.specs.Prelude.{◌≡◌, ◌++◌, ◌≤◌, length, take, drop};
 ghost use Rattle.wire.specs.Room.{lays};
 ghost use Rattle.frame.specs.Frame.{longest_frame};
@@ -25,7 +26,7 @@ fn print_acknowledgement(acknowledged: usize, reply: &[u8], room: &mut [u8]) -> 
     requires { (written_bytes acknowledgement_bytes ≤ length room.old) × (acknowledged ≤ acknowledgement_bytes) × (length reply.now ≡ least_room) }
     ensures { (lays result room.new ≡ prints (written_text (take acknowledged reply.now)) room.old) × (result ≤ written_bytes acknowledgement_bytes) }
 {
-    text::put_written(&reply[0..acknowledged], room)
+    text::put_written(&reply[..acknowledged], room)
 }
 
 // The line of the reply behind it, where there is one.

@@ -1,9 +1,4 @@
-<<<<<<< HEAD
-// 01's number of each answer: 0, or that of the refusal.
-=======
-// 01's number of each answer: 0 where it is done, else that of the refusal.
-// A function for each answer: a trait over the three would say no less than the two arms that it saves.
->>>>>>> 8e810387d5c28d3223fe6cb967906ed18c3f2b8e
+// 01's number of each answer: 0, or that of the refusal. A function for each: a trait over the three would say no less than the arms that it saves.
 ghost use Rattle.std.specs.Prelude.{◌≡◌};
 ghost use Rattle.commands.specs.Outcome.{number_of_outcome};
 ghost use Rattle.panel.specs.Numbers.{contact_number, lift_number};
@@ -15,40 +10,19 @@ use panel::{ContactError, LiftError};
 pub fn outcome_number(outcome: Result<(), Refusal>) -> u8
     ensures { result ≡ number_of_outcome outcome }
 {
-<<<<<<< HEAD
     outcome.map_or_else(Refusal::number, |()| 0)
-=======
-    match outcome {
-        Ok(()) => 0,
-        Err(why) => why.number(),
-    }
->>>>>>> 8e810387d5c28d3223fe6cb967906ed18c3f2b8e
 }
 
 #[tactic(auto, unfolding(panel::specs::Numbers::contact_number))]
 pub fn contact_number(answer: Result<(), ContactError>) -> u8
     ensures { result ≡ contact_number answer }
 {
-<<<<<<< HEAD
     answer.map_or_else(ContactError::number, |()| 0)
-=======
-    match answer {
-        Ok(()) => 0,
-        Err(why) => why.number(),
-    }
->>>>>>> 8e810387d5c28d3223fe6cb967906ed18c3f2b8e
 }
 
 #[tactic(auto, unfolding(panel::specs::Numbers::lift_number))]
 pub fn lift_number(answer: Result<(), LiftError>) -> u8
     ensures { result ≡ lift_number answer }
 {
-<<<<<<< HEAD
     answer.map_or_else(LiftError::number, |()| 0)
-=======
-    match answer {
-        Ok(()) => 0,
-        Err(why) => why.number(),
-    }
->>>>>>> 8e810387d5c28d3223fe6cb967906ed18c3f2b8e
 }

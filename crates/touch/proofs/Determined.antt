@@ -47,8 +47,8 @@ is_slider_determined κs a x y s t p q = cc
 pub good_record_determined : OneAnswer 0 good_record_kinds.ps good_record_kinds.r good_record.Post
 good_record_determined κs a x y s t p q = cc
 
-pub table_error_number_determined : OneAnswer 0 table_error_number_kinds.ps table_error_number_kinds.r table_error_number.Post
-table_error_number_determined κs a x y s t p q = p ∙ sym q
+pub tableerror_number_determined : OneAnswer 0 table_error_number_kinds.ps table_error_number_kinds.r table_error_number.Post
+tableerror_number_determined κs a x y s t p q = p ∙ sym q
 
 pub judge_determined : OneAnswer 1 judge_kinds.ps judge_kinds.r judge.Post
 judge_determined κs a x y s t p q = p.0 ∙ sym q.0

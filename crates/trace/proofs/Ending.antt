@@ -69,8 +69,8 @@ answered_line (Err start_error.NotRecords) panel = refl
 answered_line (Err (start_error.WrongRecord i)) panel = refl
 
 module _ (trace : Trace) (table : List ℕ) (long : ℕ) (is_long : long ≡ min trace.records kept_records * record_bytes) (begun : Start)
-    (is-begun : begun ≡ started_by trace (take (long - 0) table)) where
-  the_part : take (long - 0) table ≡ table_of trace.records table
+    (is-begun : begun ≡ started_by trace (take long table)) where
+  the_part : take long table ≡ table_of trace.records table
   the_part = table_part trace.records table long is_long
 
   pub page_said : (l : Line) → l ≡ last_line begun.answer begun.panel → l ≡ page_or_refusal trace table
@@ -91,13 +91,15 @@ module _ (trace : Trace) (table : List ℕ) where
     unfolding last_at
     no_setup is = at_stage Bare is
 
-    pub no_event : (l : Line) → trace.stage ≡ Ready → l ≡ page_or_refusal trace table → Some l ≡ last_of trace table
+    pub last_page : (l : Line) → (trace.stage ≡ Bare → ⊥) → (trace.stage ≡ Over → ⊥) → l ≡ page_or_refusal trace table → Some l ≡ last_of trace table
     unfolding last_at
-    no_event l is is-l = ap Some is-l ∙ at_stage Ready is
-
-    pub last_page : (l : Line) → trace.stage ≡ Started → l ≡ page_or_refusal trace table → Some l ≡ last_of trace table
-    unfolding last_at
-    last_page l is is-l = ap Some is-l ∙ at_stage Started is
+    last_page l some going is-l = ap Some is-l ∙ go trace.stage refl
+      where
+        go : (stage : Stage) → trace.stage ≡ stage → Some (page_or_refusal trace table) ≡ last_of trace table
+        go Bare is = absurd (some is)
+        go Ready is = at_stage Ready is
+        go Started is = at_stage Started is
+        go Over is = absurd (going is)
 
     pub after_failure : trace.stage ≡ Over → None ≡ last_of trace table
     unfolding last_at

@@ -95,15 +95,15 @@ event_left trace begun part item words words' room left done r wide e is curves 
     wide (e curves) is
 
 module _ (trace : Trace) (table : List ℕ) (n : ℕ) (is-n : n ≡ min trace.records kept_records * record_bytes) (begun : Start)
-    (is-begun : begun ≡ started_by trace (take (n - 0) table)) where
-  the_part : take (n - 0) table ≡ table_of trace.records table
+    (is-begun : begun ≡ started_by trace (take n table)) where
+  the_part : take n table ≡ table_of trace.records table
   the_part = table_part trace.records table n is-n
 
   pub named_below : n ≤ table_bytes → named begun.answer < 256
   named_below few =
-      let short : length (take (n - 0) table) ≤ table_bytes = omega (arith, length-take (n - 0) table, min-le_left (n - 0) (length table)) in
-      let same : named begun.answer ≡ named (started_by trace (take (n - 0) table)).answer = ap (λ (s : Start). named s.answer) is-begun in
-      omega (arith, begun_below trace (take (n - 0) table) short)
+      let short : length (take n table) ≤ table_bytes = omega (arith, length-take n table, min-le_left n (length table)) in
+      let same : named begun.answer ≡ named (started_by trace (take n table)).answer = ap (λ (s : Start). named s.answer) is-begun in
+      omega (arith, begun_below trace (take n table) short)
 
   module _ (memory : Memory) (item room : List ℕ) where
     answered_so : byte_printing (event_answered begun.answer begun.panel (holds trace table memory) item) room ≡ byte_printing (event_done (holds trace table memory) item) room
@@ -123,7 +123,7 @@ module _ (trace : Trace) (table : List ℕ) (n : ℕ) (is-n : n ≡ min trace.re
 
   pub event_told : (item room words words' left : List ℕ) → begun.answer ≡ Ok tt → (done : TracePrinted)
       → ((curves : List ℕ) → leaves_event done (remembering words' curves) left
-      ≡ event_printing trace (event begun.panel (take (n - 0) table) (remembering words curves) item) room)
+      ≡ event_printing trace (event begun.panel (take n table) (remembering words curves) item) room)
       → (curves : List ℕ) → leaves_byte done table (remembering words' curves) left ≡ byte_printing (event_done (holds trace table (remembering words curves)) item) room
   unfolding event_answered
   event_told item room words words' left is done e curves =

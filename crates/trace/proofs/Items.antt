@@ -2,7 +2,6 @@
 use mathlib.Core.Path.{◌≡◌, ap}
 use mathlib.Core.List.{List, ◌++◌}
 use Prim.Native.Nat.{ℕ, ◌+◌, ◌*◌, ◌-◌, ◌≤◌, ◌<◌, min}
-use native.Mathlib.Nat.{sub-zero}
 use native.Mathlib.Omega.{arith}
 use borrow.Rule.Slice.PartMut.{put_mid}
 use borrow.Author.Tests.{lt-ltb, le-ltb}
@@ -16,9 +15,9 @@ use Rattle.trace.specs.Events.{record_put}
 
 module _ (records : ℕ) where
   -- the table of the records met, as the code cuts it out
-  pub table_part : (table : List ℕ) (n : ℕ) → n ≡ min records kept_records * record_bytes → take (n - 0) table ≡ table_of records table
+  pub table_part : (table : List ℕ) (n : ℕ) → n ≡ min records kept_records * record_bytes → take n table ≡ table_of records table
   unfolding table_of
-  table_part table n is = rw (sub-zero n, is)
+  table_part table n is = rw is
 
   pub not_put : (item table : List ℕ) → kept_records ≤ records → table ≡ record_put records item table
   unfolding record_put

@@ -40,6 +40,10 @@ setup_ready trace item setup is = ap (with_setup trace) is
 pub item_ended : (trace next : Trace) (nothing : List ℕ) → nothing ≡ no_item → next ≡ gathering trace nothing 0 → next ≡ idle trace
 item_ended trace next nothing is-nothing is_next = is_next ∙ ap (λ (l : List ℕ). gathering trace l 0) is-nothing
 
+-- a byte that prints nothing
+pub quiet_judged_lem : (trace : Trace) → judges Quiet trace ≡ quiet_judged trace
+quiet_judged_lem trace = refl
+
 module _ (trace : Trace) (item : List ℕ) (k : ℕ) (is-k : k ≡ byte_at item 0) where
   module _ (kind : Kind) (number : number_of kind ≡ k) where
     pub setup_whole : (next : Trace) (j : Judged) → kind ≡ kinds.Setup → next ≡ with_setup trace (setup_in item) → j ≡ quiet_judged next → j ≡ whole_judged trace item

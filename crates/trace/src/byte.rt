@@ -30,7 +30,7 @@ pub fn whole(trace: Trace, item: [u8; ITEM_BYTES]) -> Judged
         return happens(trace, item);
     };
     match kind {
-        Kind::Setup => item::quiet(item::with_setup(trace, item)),
+        Kind::Setup => item::quiet(trace.with_setup(item)),
         Kind::Record => Judged {
             comes: Comes::Met(item),
             trace,
@@ -44,9 +44,9 @@ pub fn grow(trace: Trace, item: [u8; ITEM_BYTES]) -> Judged
     ensures { result ≡ growing trace item }
 {
     if items::body_length(items::kind_of(item)) <= trace.have {
-        return whole(item::between(trace), item);
+        return whole(trace.between(), item);
     }
-    item::quiet(item::gather(trace, item, trace.have + 1))
+    item::quiet(trace.gather(item, trace.have + 1))
 }
 
 // What one byte comes to.

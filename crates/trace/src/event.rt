@@ -13,17 +13,19 @@ use items::{ITEM_BYTES, Stage};
 use panel::{Panel, Start};
 use telling::PanelPrinted;
 
-// The panel with which an event or the end is answered: started now, unless it was.
-pub fn begin(trace: Trace, part: &[u8]) -> Start
-    ensures { result ≡ started_by trace part.now }
-{
-    if items::is_started(trace.stage) {
-        return Start {
-            answer: Ok(()),
-            panel: trace.panel,
-        };
+impl Trace {
+    // The panel with which an event or the end is answered: started now, unless it was.
+    pub(crate) fn begin(self, part: &[u8]) -> Start
+        ensures { result ≡ started_by self part.now }
+    {
+        if items::is_started(self.stage) {
+            return Start {
+                answer: Ok(()),
+                panel: self.panel,
+            };
+        }
+        Panel::start(self.setup, part)
     }
-    Panel::start(trace.setup, part)
 }
 
 // The trace behind what was told of its panel.
@@ -67,8 +69,8 @@ pub(crate) fn any_event(
     requires { (table_bytes ≤ length table.now) × (least_text ≤ length room.old) }
     ensures { (curves : List ℕ) → leaves_byte result table.now (remembering words.new curves) room.new ≡ byte_printing (event_done (holds trace table.now (remembering words.old curves)) item) room.old }
 {
-    let part = &table[0..items::table_length(trace.records)];
-    let begun = begin(trace, part);
+    let part = &table[..items::table_length(trace.records)];
+    let begun = trace.begin(part);
     match begun.answer {
         Ok(()) => started_event(trace, begun, item, part, words, room),
         Err(_) => lines::stop(trace, lines::last_line(begun), room),

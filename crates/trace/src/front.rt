@@ -5,11 +5,13 @@ ghost use Rattle.trace.specs.Inner.{goes_in_runs, ran_found, first_byte, first_l
 use crate::run::{LONGEST_RUN, give_run};
 use crate::{AtFront, Found, Trace};
 
-// Whether line bytes go in a run: the panel is started, and no item is begun.
-fn goes_in_runs(trace: Trace) -> bool
-    ensures { result ≡ goes_in_runs trace }
-{
-    items::is_started(trace.stage) & (trace.have == 0)
+impl Trace {
+    // Whether line bytes go in a run: the panel is started, and no item is begun.
+    fn goes_in_runs(self) -> bool
+        ensures { result ≡ goes_in_runs self }
+    {
+        items::is_started(self.stage) & (self.have == 0)
+    }
 }
 
 // The first byte, if there is one.
@@ -58,7 +60,7 @@ pub fn find(trace: Trace, input: &[u8]) -> Found
             trace,
         };
     }
-    if goes_in_runs(trace) {
+    if trace.goes_in_runs() {
         return first_lines(trace, input);
     }
     first_byte(trace, input)

@@ -7,22 +7,31 @@ ghost use Rattle.trace.specs.Inner.{quiet_judged};
 use crate::{Comes, Judged, Trace};
 use items::{ITEM_BYTES, Stage};
 
-// The trace with another item, and how many of its bytes have come.
-pub fn gather(trace: Trace, item: [u8; ITEM_BYTES], have: usize) -> Trace
-    ensures { result ≡ gathering trace item have }
-{
-    Trace {
-        item,
-        have,
-        ..trace
+impl Trace {
+    // The trace with another item, and how many of its bytes have come.
+    pub(crate) fn gather(self, item: [u8; ITEM_BYTES], have: usize) -> Trace
+        ensures { result ≡ gathering self item have }
+    {
+        Trace { item, have, ..self }
     }
-}
 
-// The trace between two items.
-pub fn between(trace: Trace) -> Trace
-    ensures { result ≡ idle trace }
-{
-    gather(trace, items::no_item(), 0)
+    // The trace between two items.
+    pub(crate) fn between(self) -> Trace
+        ensures { result ≡ idle self }
+    {
+        self.gather(items::no_item(), 0)
+    }
+
+    // The trace is ready with the setup that a whole item carries.
+    pub(crate) fn with_setup(self, item: [u8; ITEM_BYTES]) -> Trace
+        ensures { result ≡ with_setup self (setup_in item) }
+    {
+        Trace {
+            stage: Stage::Ready,
+            setup: items::setup_in(&item),
+            ..self
+        }
+    }
 }
 
 // A byte that prints nothing.
@@ -32,16 +41,5 @@ pub fn quiet(trace: Trace) -> Judged
     Judged {
         comes: Comes::Quiet,
         trace,
-    }
-}
-
-// The trace is ready with the setup that a whole item carries.
-pub fn with_setup(trace: Trace, item: [u8; ITEM_BYTES]) -> Trace
-    ensures { result ≡ with_setup trace (setup_in item) }
-{
-    Trace {
-        stage: Stage::Ready,
-        setup: items::setup_in(&item),
-        ..trace
     }
 }

@@ -7,7 +7,7 @@ ghost use Rattle.trace.specs.Inner.{page_or_refusal, last_of};
 ghost use Rattle.trace.specs.Output.{end_text};
 ghost use Rattle.items.specs.Records.{table_bytes};
 
-use crate::{Trace, event, lines};
+use crate::{Trace, lines};
 use items::Stage;
 use text::Line;
 
@@ -16,7 +16,7 @@ fn page_or_refusal(trace: Trace, table: &[u8]) -> Line
     requires { table_bytes ≤ length table.now }
     ensures { result ≡ page_or_refusal trace table.now }
 {
-    lines::last_line(event::begin(trace, &table[0..items::table_length(trace.records)]))
+    lines::last_line(trace.begin(&table[..items::table_length(trace.records)]))
 }
 
 // The last line of any trace; one that has failed has none.
@@ -27,9 +27,8 @@ fn find(trace: Trace, table: &[u8]) -> Option<Line>
     if trace.have == 0 {
         return match trace.stage {
             Stage::Bare => Some(Line::Failed(15)),
-            Stage::Ready => Some(page_or_refusal(trace, table)),
-            Stage::Started => Some(page_or_refusal(trace, table)),
             Stage::Over => None,
+            _ => Some(page_or_refusal(trace, table)),
         };
     }
     Some(Line::Failed(15))

@@ -77,7 +77,8 @@ struct Took {
     count: usize,
 }
 
-// The types below say what is to be done, which is found before anything lent is touched: a function that hands on what is lent is then short.
+// The types below say what is to be done, which is found before anything lent is touched: a function that hands on what is lent is then short. Table and
+// room go on as lent slices with a `requires`: a struct over `&mut` slices would be taken apart and lent again at each call.
 
 // What stands at the front of the input.
 #[derive(Clone, Copy)]

@@ -11,7 +11,7 @@ pub use judging::is_wrong;
 pub const MOST_WATCHED: usize = 16;
 
 // The list as it is lent: entry i is what stands at place i of each slice; a place past a slice's end reads 0. Three slices and no slice of entries, since
-// tests/watch_lists.py and `is_wrong` promise 16 where they differ in length.
+// `is_wrong` promises 16 where they differ in length, and tests/watch_lists.py tries it.
 #[derive(Drop)]
 pub struct WatchList<'s, 'v> {
     pub addresses: &'s [u16],

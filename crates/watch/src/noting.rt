@@ -13,6 +13,7 @@ fn is_in_run(first: WordAddress, n: usize, address: WordAddress) -> bool
 {
     let a = usize::from(address.0);
     let f = usize::from(first.0);
+    // No range: f + n may pass the greatest usize.
     f <= a && a - f < n
 }
 

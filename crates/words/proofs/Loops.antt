@@ -1,48 +1,59 @@
 -- Laws of the loops that store and read a run of words, one for each way the functions answer.
 use mathlib.Core.Path.{◌≡◌, refl, sym, ap, ◌∙◌}
-use mathlib.Core.Bool.{Bool, ◌&&◌}
+use mathlib.Core.Bool.{Bool, true, false, ◌&&◌}
 use mathlib.Core.Logic.{◌≢◌}
 use mathlib.Core.List.{List, [], ◌∷◌, ◌++◌, append_assoc}
-use Prim.Native.Nat.{ℕ, suc, ◌+◌, ◌-◌, ◌*◌, ◌/◌, ◌≤◌, ◌<◌}
+use Prim.Native.Nat.{ℕ, zero, suc, ◌+◌, ◌-◌, ◌*◌, ◌/◌, ◌≤◌, ◌<◌}
 use native.Mathlib.Omega.{arith}
-use borrow.Author.Tests.{le-leb, lt-leb}
-use lib.Dec.{leb}
+use borrow.Author.Tests.{le-leb, lt-leb, ltb-true, ltb-false}
+use lib.Dec.{leb, ltb}
 use lib.ListN.{length, get_or, set, take, drop, length-drop, length-append}
 use borrow.Author.Count.{below_more}
 use borrow.Rule.Slice.PartMut.{put_mid}
 use lib.Seq.{take-suc, drop-drop, length-take-le, take_all, get_or-set_same, get_or-set_other}
-use Rattle.wire.specs.ByteOrder.{word_at, high_byte, low_byte}
+use Rattle.std.specs.Simd.{first_chunks}
+use Rattle.wire.specs.ByteOrder.{word, high_byte, low_byte}
 use Rattle.wire.specs.Room.{over, laid_at, lays}
 use Rattle.wire.proofs.Over.{over_nil, over_more, and_true, left_false, right_false, laid_not, laid_whole}
 use Rattle.words.specs.Words.{words_of, bytes_of, word_run, words_written, words_laid}
-use Rattle.words.proofs.Carried.{length_words_of, words_of_at, length_bytes_of, bytes_of_append}
+use Rattle.words.proofs.Carried.{length_words_of, length_bytes_of, bytes_of_append}
 
--- `store_run`, a law for each goal of its loop
-pub stored_more : (run bytes : List ℕ) (i word : ℕ) → ((k : ℕ) → k < i → get_or run k 0 ≡ get_or (words_of bytes) k 0) → i < length run
-    → length run ≡ length bytes / 2 → word ≡ word_at bytes (i * 2) → (k : ℕ) → k < i + 1 → get_or (set run i word) k 0 ≡ get_or (words_of bytes) k 0
-stored_more run bytes i word are inside long is =
+-- what a pair of bytes carries
+word_of_pair : (n : ℕ) (bytes : List ℕ) (i : ℕ) → i < n → n * 2 ≤ length bytes
+    → word (get_or (get_or (first_chunks 2 n bytes) i []) 0 0) (get_or (get_or (first_chunks 2 n bytes) i []) 1 0) ≡ get_or (words_of bytes) i 0
+unfolding words_of
+word_of_pair zero bytes i inside fits = absurd (omega arith)
+word_of_pair (suc n) [] i inside fits = absurd (omega arith)
+word_of_pair (suc n) (high ∷ []) i inside fits = absurd (omega arith)
+word_of_pair (suc n) (high ∷ low ∷ bytes) zero inside fits = refl
+word_of_pair (suc n) (high ∷ low ∷ bytes) (suc i) inside fits = word_of_pair n bytes i (omega arith) (omega arith)
+
+-- `store_run`, a law for the goal of its loop
+pub stored_more : (run bytes : List ℕ) (pairs : List (List ℕ)) (i w : ℕ) → ((k : ℕ) → k < i → get_or run k 0 ≡ get_or (words_of bytes) k 0) → i < length run
+    → i < length bytes / 2 → pairs ≡ first_chunks 2 (length bytes / 2) bytes → w ≡ word (get_or (get_or pairs i []) 0 0) (get_or (get_or pairs i []) 1 0)
+    → (k : ℕ) → k < i + 1 → get_or (set run i w) k 0 ≡ get_or (words_of bytes) k 0
+stored_more run bytes pairs i w are inside more these is =
     below_more _ _
     (λ k h. let other : k ≢ i = omega arith in rw get_or-set_other (are k h))
-    (get_or-set_same run i word 0 inside ∙ is ∙ sym (words_of_at bytes i (rw (length_words_of bytes) (omega arith))))
+    (get_or-set_same run i w 0 inside ∙ is ∙ rw these (word_of_pair (length bytes / 2) bytes i more (omega arith)))
 
--- `write`, a law for each goal
-module _ (words bytes : List ℕ) (address a : ℕ) (is_a : a ≡ address) where
-  pub run_long : a + length bytes / 2 ≤ length words → length (take (a + length bytes / 2 - a) (drop a words)) ≡ length bytes / 2
-  run_long fits = length-take-le (a + length bytes / 2 - a) (drop a words) (simp length-drop (omega arith)) ∙ omega arith
-
-  pub stored : a + length bytes / 2 ≤ length words → (run : List ℕ) → run ≡ words_of bytes
-      → put_mid a (a + length bytes / 2 - a) words run ≡ words_written words address bytes
-  unfolding words_written laid_at
-  stored fits run is =
-      let fits' : address + length (words_of bytes) ≤ length words = omega (arith, length_words_of bytes) in
-      let long : a + length bytes / 2 - a ≡ length (words_of bytes) = omega (arith, length_words_of bytes) in
-      rw (le-leb (address + length (words_of bytes)) (length words) fits', is, long, is_a, drop-drop) refl
-
-  pub not_stored : length words < a + length bytes / 2 → words ≡ words_written words address bytes
+-- `write`, a law for each way it answers. The first holds of a shorter run, too: so an edit of the length is refused at `store_run`.
+module _ (words bytes : List ℕ) (address n : ℕ) (passes : Bool) (is-passes : passes ≡ ltb (length words) (address + n)) where
+  pub not_stored : n ≤ length bytes / 2 → passes ≡ true → words ≡ words_written words address bytes
   unfolding words_written
-  not_stored past =
-      let past' : length words < address + length (words_of bytes) = omega (arith, length_words_of bytes) in
-      rw (lt-leb (address + length (words_of bytes)) (length words) past')
+  not_stored short past =
+      let far : length words < address + n = ltb-true (length words) (address + n) (sym is-passes ∙ past) in
+      let far' : length words < address + length (words_of bytes) = omega (arith, length_words_of bytes) in
+      rw (lt-leb (address + length (words_of bytes)) (length words) far')
+
+  pub stored : (a : ℕ) (run : List ℕ) → a ≡ address → n ≡ length bytes / 2 → passes ≡ false → run ≡ words_of bytes
+      → put_mid a (a + n - a) words run ≡ words_written words address bytes
+  unfolding words_written laid_at
+  stored a run is_a all inside is =
+      let near : address + n ≤ length words = ltb-false (length words) (address + n) (sym is-passes ∙ inside) in
+      let near' : address + length (words_of bytes) ≤ length words = omega (arith, length_words_of bytes) in
+      let long : a + n - a ≡ length (words_of bytes) = omega (arith, length_words_of bytes) in
+      rw (le-leb (address + length (words_of bytes)) (length words) near', is, long, is_a, drop-drop) refl
 
 pub length_word_run : (words : List ℕ) (at n : ℕ) → at + n ≤ length words → length (word_run words at n) ≡ n
 unfolding word_run
@@ -75,28 +86,17 @@ pub run_whole : (run room₀ room : List ℕ) (i : ℕ) → room ≡ over (bytes
 run_whole run room₀ room i is all = rw (take_all i run all) at is
 
 -- `read`, a law for each way it answers
-module _ (words room : List ℕ) (address n a m : ℕ) (is_a : a ≡ address) (is_m : m ≡ n) where
+module _ (words room : List ℕ) (address n m : ℕ) (passes : Bool) (is_m : m ≡ n) (is-passes : passes ≡ ltb (length words) (address + m)) where
   abbrev within : Bool
   within = leb (address + n) (length words)
 
   abbrev holds : Bool
   holds = leb (n + n) (length room)
 
-  abbrev run : List ℕ
-  run = take (a + m - a) (drop a words)
-
-  run_same : run ≡ word_run words address n
-  unfolding word_run
-  run_same =
-      let long : a + m - a ≡ n = omega arith in
-      rw (long, is_a) refl
-
-  long_run : a + m ≤ length words → length run ≡ m
-  long_run inside = rw run_same (length_word_run words address n (omega arith) ∙ sym is_m)
-
-  pub read_past : length words < a + m → lays 0 room ≡ words_laid words address n room
+  pub read_past : passes ≡ true → lays 0 room ≡ words_laid words address n room
   unfolding words_laid
   read_past past =
+      let far : length words < address + m = ltb-true (length words) (address + m) (sym is-passes ∙ past) in
       laid_not (within && holds) (bytes_of (word_run words address n)) room (left_false within holds (lt-leb (address + n) (length words) (omega arith)))
 
   pub read_no_room : length room < m * 2 → lays 0 room ≡ words_laid words address n room
@@ -104,11 +104,21 @@ module _ (words room : List ℕ) (address n a m : ℕ) (is_a : a ≡ address) (i
   read_no_room small =
       laid_not (within && holds) (bytes_of (word_run words address n)) room (right_false within holds (lt-leb (n + n) (length room) (omega arith)))
 
-  pub read_done : a + m ≤ length words → m * 2 ≤ length room → (left : List ℕ) → left ≡ over (bytes_of run) room
+  run_same : (a : ℕ) → a ≡ address → take (a + m - a) (drop a words) ≡ word_run words address n
+  unfolding word_run
+  run_same a is_a =
+      let long : a + m - a ≡ n = omega arith in
+      rw (long, is_a) refl
+
+  pub read_done : (a : ℕ) (left : List ℕ) → a ≡ address → passes ≡ false → m * 2 ≤ length room → left ≡ over (bytes_of (take (a + m - a) (drop a words))) room
       → lays (m * 2) left ≡ words_laid words address n room
   unfolding words_laid
-  read_done inside small left is =
-      let long : m * 2 ≡ length (bytes_of run) = rw (length_bytes_of run, long_run inside) (omega arith) in
+  read_done a left is_a inside small is =
+      let near : address + m ≤ length words = ltb-false (length words) (address + m) (sym is-passes ∙ inside) in
+      let run = take (a + m - a) (drop a words) in
+      let same : run ≡ word_run words address n = run_same a is_a in
+      let run_long : length run ≡ n = rw same (length_word_run words address n (omega arith)) in
+      let long : m * 2 ≡ length (bytes_of run) = rw (length_bytes_of run, run_long) (omega arith) in
       laid_whole (within && holds) (bytes_of run) (bytes_of (word_run words address n)) room left (m * 2)
       (and_true within holds (le-leb (address + n) (length words) (omega arith)) (le-leb (n + n) (length room) (omega arith)))
-      (ap bytes_of run_same) long is
+      (ap bytes_of same) long is

@@ -44,8 +44,8 @@ fn store_run(run: &mut [u16], bytes: &[u8])
     requires { length run.old ≡ length bytes.now / 2 }
     ensures { run.new ≡ words_of bytes.now }
 {
-    for (i, word) in run.iter_mut().enumerate() {
-        *word = wire::word(bytes[i * 2], bytes[i * 2 + 1]);
+    for (i, [high, low]) in bytes.as_chunks::<2>().0.iter().enumerate() {
+        run[i] = wire::word(*high, *low);
     }
 }
 
@@ -53,11 +53,12 @@ fn store_run(run: &mut [u16], bytes: &[u8])
 pub fn write(words: &mut [u16], address: WordAddress, bytes: &[u8])
     ensures { words.new ≡ words_written words.old address.0 bytes.now }
 {
-    let a = usize::from(address.0);
     let n = bytes.len() / 2;
-    if a + n <= words.len() {
-        store_run(&mut words[a..a + n], bytes);
+    if address.passes_end(n, words.len()) {
+        return;
     }
+    let a = usize::from(address.0);
+    store_run(&mut words[a..a + n], bytes);
 }
 
 // Lays a run of words as bytes over the room's front.
@@ -76,11 +77,11 @@ fn lay_run(run: &[u16], room: &mut [u8])
 pub fn read(words: &[u16], address: WordAddress, n: u8, room: &mut [u8]) -> usize
     ensures { lays result room.new ≡ words_laid words.now address.0 n room.old }
 {
-    let a = usize::from(address.0);
     let m = usize::from(n);
-    if words.len() < a + m || room.len() < m * 2 {
+    if address.passes_end(m, words.len()) || room.len() < m * 2 {
         return 0;
     }
+    let a = usize::from(address.0);
     lay_run(&words[a..a + m], room);
     m * 2
 }

@@ -1,12 +1,14 @@
 -- `words::write` meets its contract.
-use Rattle.words.proofs.Loops.{run_long, stored, not_stored}
+use native.Mathlib.Omega.{arith}
+use borrow.Author.Rules.{rules}
+use Rattle.words.proofs.Loops.{stored, not_stored}
 use Rattle.words.proofs.write.Goals as goal
 
+pub returns-then-passes_end : goal.returns-then-passes_end
+returns-then-passes_end c = search (arith, not_stored)
+
 pub store_run-requires : goal.store_run-requires
-store_run-requires c = search run_long
+store_run-requires c = search (rules, arith)
 
-pub returns-then-a-n : goal.returns-then-a-n
-returns-then-a-n c = search stored
-
-pub returns-else-a-n : goal.returns-else-a-n
-returns-else-a-n c = search not_stored
+pub returns : goal.returns
+returns c = search (arith, stored)

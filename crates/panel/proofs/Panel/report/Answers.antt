@@ -24,7 +24,7 @@ returns c =
     let both = report_said _ _ _ _
     (reported_behind a.self a.words.now a.curves.now a.room.now list c.is_lent-enough.result c.is_lent-enough.ensures c.is_wrong.result c.is_wrong.ensures
     c.judge.result c.judge.ensures c.in_default.not-Err c.ask-asked.result c.ask-asked.ensures.value done.result _ _
-    (done.ensures (lending a.words.now a.curves.now a.room.now list)) c.catch_after.result c.catch_after.ensures c.content_length.result
+    (done.ensures (lending a.words.now a.curves.now a.room.now list)) c.catch_after-catch.result c.catch_after-catch.ensures c.content_length.result
     (content_is c.ask-asked.result.report c.ask-asked.result.payload c.content_length.result c.content_length.ensures (search rules)) c.if-done.registers
     (elim c.if-done.branch [
       | then-done w ↦ behind_written a.self.registers done.result.writes _ c.if-done.registers w.if-done.true (w.registers-is ∙ w.registers_left-registers.ensures)

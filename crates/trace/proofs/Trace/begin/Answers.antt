@@ -1,6 +1,6 @@
--- `trace::event::begin` meets its contract.
+-- `trace::Trace::begin` meets its contract.
 use Rattle.trace.proofs.Events.{begun_before, begun_now}
-use Rattle.trace.proofs.event.begin.Goals as goal
+use Rattle.trace.proofs.Trace.begin.Goals as goal
 
 pub returns-then-is_started : goal.returns-then-is_started
 returns-then-is_started c = search begun_before
