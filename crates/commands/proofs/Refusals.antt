@@ -23,12 +23,7 @@ use Rattle.commands.specs.Perform.{performs, on_words, on_room, performance}
 pub number_refuses : (o : Outcome) → 0 < number_of_outcome o → is_done o ≡ false
 unfolding number_of_outcome
 number_refuses (Ok tt) above = absurd (omega arith)
-number_refuses (Err UnknownCommand) above = refl
-number_refuses (Err WrongData) above = refl
-number_refuses (Err PastEnd) above = refl
-number_refuses (Err Unwritable) above = refl
-number_refuses (Err WrongValue) above = refl
-number_refuses (Err ReplyTooLong) above = refl
+number_refuses (Err why) above = refl
 
 -- "Numbers 2 to 7 are answers beside a frame's report"
 pub number_at_most_7 : (o : Outcome) → number_of_outcome o ≤ 7

@@ -19,7 +19,7 @@ fn judge_write(end: usize, content: &[u8]) -> Result<(WordAddress, &[u8]), Refus
     let [high, low, bytes @ ..] = content else {
         return Err(Refusal::WrongData);
     };
-    if bytes.is_empty() | (bytes.len() % 2 == 1) {
+    if bytes.is_empty() || !bytes.len().is_multiple_of(2) {
         return Err(Refusal::WrongData);
     }
     let address = WordAddress(wire::word(*high, *low));

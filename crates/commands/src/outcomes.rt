@@ -23,7 +23,7 @@ impl Refusal {
     }
 }
 
-// Registers, catch and curves stay, and nothing is noted.
+// Registers, catch and curves stay, and nothing is noted. No `?` in its callers: a refusal is a `Performed` too, whose outcome it is.
 pub(crate) fn answer(outcome: Result<(), Refusal>, replied: usize) -> Performed
     ensures { result ≡ answered outcome replied }
 {

@@ -12,6 +12,7 @@ use crate::{
 
 // A command with its data takes effect on what is lent, or is refused with nothing changed; a reply is laid over the front of the room. The
 // registers are only read, the curves and the watch list not at all: what is to be written into them is answered.
+// A byte and no enum: `perform` answers for every byte, 2 where it is no command.
 pub fn perform(
     fixed: Fixed,
     registers: &[u8],

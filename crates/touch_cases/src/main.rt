@@ -34,10 +34,13 @@ fn say_setup<W: Write>(out: &mut W, s: Setup) -> io::Result<()> {
 }
 
 fn say_verdict<W: Write>(out: &mut W, judged: Result<(), TableError>) -> io::Result<()> {
-    match judged {
-        Ok(()) => write!(out, "0"),
-        Err(TableError::NotRecords) => write!(out, "12"),
-        Err(TableError::Wrong(i)) => write!(out, "13 {i}"),
+    let Err(why) = judged else {
+        return write!(out, "0");
+    };
+    write!(out, "{}", why.number())?;
+    match why {
+        TableError::NotRecords => Ok(()),
+        TableError::Wrong(i) => write!(out, " {i}"),
     }
 }
 
