@@ -26,8 +26,7 @@ fn print_answer<W: Write>(
 ) -> io::Result<()> {
     let (number, length) = match written {
         Ok(n) => (0, n),
-        Err(WriteError::DataTooLong) => (3, 0),
-        Err(WriteError::RoomTooSmall) => (14, 0),
+        Err(why) => (why.number(), 0),
     };
     let value = check_value::check_value(room);
     writeln!(out, "{n} {} {number} {length} {value:04x}", room.len())

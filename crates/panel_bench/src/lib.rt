@@ -20,7 +20,7 @@ use wire::WORD_COUNT;
 // How many bytes are given at once.
 const PIECE: usize = 4096;
 
-// What one report adds to the sum.
+// What one report adds to the sum. `as`, since u64 has no From<usize>.
 #[tactic(auto, unfolding(crate::specs::Stream::weight_of))]
 fn weight(handed: Result<Option<Handed>, LentError>) -> u64
     ensures { result ≡ wrapped (weight_of handed) }

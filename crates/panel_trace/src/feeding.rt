@@ -12,7 +12,8 @@ use std::io;
 use std::time::Clock;
 use trace::{LEAST_TEXT, Trace};
 
-// Takes the input, and lays the lines of it over the front of the room, while the lines of a report fit behind them.
+// Takes the input, and lays the lines of it over the front of the room, while the lines of a report fit behind them. No `for`: a step takes as much of the
+// input as it likes, and none of it while a report waits.
 fn fill(
     trace: Trace,
     input: &[u8],

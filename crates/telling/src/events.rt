@@ -36,7 +36,8 @@ fn do_second(panel: Panel) -> Panel
     panel.give_second().panel
 }
 
-// A contact is lent a reply room and no watched words, so that nothing is written there.
+// A contact is lent a reply room and no watched words, so that nothing is written there. The list of none is made here and where a report is asked for: what
+// it borrows cannot be handed out of a function.
 fn do_contact(
     panel: Panel,
     table: &[u8],

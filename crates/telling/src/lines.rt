@@ -21,7 +21,8 @@ pub(crate) fn print_line(line: Line, room: &mut [u8]) -> usize
     text::put_line(line, room)
 }
 
-// The line of an acknowledgement, where there is one.
+// The line of an acknowledgement, where there is one. What was written goes on as two counts and the reply room: a struct of the three would carry in ghost
+// fields just what `print_report`, its one maker, is required.
 fn print_acknowledgement(acknowledged: usize, reply: &[u8], room: &mut [u8]) -> usize
     requires { (written_bytes acknowledgement_bytes ≤ length room.old) × (acknowledged ≤ acknowledgement_bytes) × (length reply.now ≡ least_room) }
     ensures { (lays result room.new ≡ prints (written_text (take acknowledged reply.now)) room.old) × (result ≤ written_bytes acknowledgement_bytes) }
