@@ -15,11 +15,11 @@ fn is_report(look: Look) -> bool
     matches!(look, Look::Bad(_) | Look::Good(_))
 }
 
-// Whether an input can be taken with n bytes held.
+// Whether an input can be taken with n bytes held. `&` and no `&&`: it is asked for each byte, and a branch costs more than it saves.
 pub fn can_take(n: usize, head: Look) -> bool
     ensures { result ≡ takes n head }
 {
-    n < LONGEST_FRAME && !is_report(head)
+    (n < LONGEST_FRAME) & !is_report(head)
 }
 
 // The L of an accepted frame.
