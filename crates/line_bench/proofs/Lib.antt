@@ -1,3 +1,4 @@
+pub mod Weights
 pub mod Summing
 pub mod Examples
 pub mod Determined

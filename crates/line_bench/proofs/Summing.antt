@@ -1,7 +1,5 @@
 -- Laws of the sum over a reading: bytes that are given and reports that are handed over lead nearer to it.
-use Rattle.std.proofs.Common.{◌≡◌, ℕ, suc, ◌+◌, ◌-◌, ◌*◌, ◌^◌, ◌<◌, ◌≤◌, min, Bool, true, false, cond, List, [], ◌∷◌, ◌++◌, map, length, get_or, take, drop, sym, refl, ap, ◌∙◌, subst, add-zero, zero-add, arith, length-drop, take-append-drop, drop_of_length-le, take_all, length-take, drop-cons}
-use Rattle.std.proofs.lemmas.Bool.Decides.{nat_tests}
-use Rattle.std.specs.Bool.{◌==◌}
+use Rattle.std.proofs.Common.{◌≡◌, ℕ, suc, ◌+◌, ◌-◌, ◌*◌, ◌^◌, ◌<◌, ◌≤◌, min, Bool, true, false, cond, List, [], ◌∷◌, ◌++◌, map, length, get_or, take, drop, sym, refl, ap, ◌∙◌, subst, add-zero, zero-add, arith, length-drop, take-append-drop, drop_of_length-le, length-take, drop-cons, drop-drop}
 use native.Mathlib.Nat.{mod-mod}
 use lib.Seq.{drop-append-le}
 use Rattle.wire.specs.Bytes.{Bytes}
@@ -109,30 +107,32 @@ abbrev line_of : Header → Bool → Line
 line_of header checking = record { header = header; checking = checking }
 
 -- what is left to be read of the input, and what has been added up, make up the whole sum
-pub record Summing (header : Header) (checking : Bool) (input : List ℕ) (reader : Reader) (sum : ℕ) (rest : List ℕ) : Type 0 where
+pub record Summing (header : Header) (checking : Bool) (input : List ℕ) (reader : Reader) (sum i : ℕ) : Type 0 where
   pub kept : Kept
   pub stands : Standing (line_of header checking) kept reader
-  pub are_bytes : Bytes rest
+  pub are_bytes : Bytes input
+  pub inside : i ≤ length input
   pub fits : wrapped sum ≡ sum
-  pub left : wrapped (sum + sum_of (read_on (rules_of header checking) kept (map byte rest))) ≡ bench_sum header checking input
+  pub left : wrapped (sum + sum_of (read_on (rules_of header checking) kept (map byte (drop i input)))) ≡ bench_sum header checking input
 
 -- how many turns there can be still: each byte is given once, and leaves no more than the longest frame to be asked for
-abbrev pub turns_left : List ℕ → Reader → ℕ
-turns_left rest reader = length rest * (longest_frame + 1) + reader.len
+abbrev pub turns_left : List ℕ → Reader → ℕ → ℕ
+turns_left input reader i = (length input - i) * (longest_frame + 1) + reader.len
 
 pub summing_new : (header : Header) (checking : Bool) (input : List ℕ) (reader : Reader) → Bytes input → reader ≡ reader_of (line_of header checking) fresh
-    → Summing header checking input reader 0 input
+    → Summing header checking input reader 0 0
 unfolding bench_sum read_on closing line_reports
 summing_new header checking input reader are is =
     record {
       kept = fresh;
       stands = record { reached = reached_new (line_of header checking); settled = fresh_settled (rules_of header checking); is = is };
       are_bytes = are;
+      inside = omega arith;
       fits = refl;
       left = ap (λ (these : List Report). wrapped (0 + sum_of these)) (open_line (rules_of header checking) input) ∙ ap (λ (n : ℕ). wrapped n) (zero-add _);
     }
 
-module _ (header : Header) (checking : Bool) (input : List ℕ) (reader : Reader) (sum : ℕ) (rest : List ℕ) (so_far : Summing header checking input reader sum rest)
+module _ (header : Header) (checking : Bool) (input : List ℕ) (reader : Reader) (sum i : ℕ) (so_far : Summing header checking input reader sum i)
     (w : Bool) (is-w : w ≡ busy reader) where
   abbrev line : Line
   line = line_of header checking
@@ -154,11 +154,11 @@ module _ (header : Header) (checking : Bool) (input : List ℕ) (reader : Reader
     answer : a ≡ record { report = report_as (handed (rules_for line) kept); payload = payload_as (handed (rules_for line) kept); reader = reader_of line (after_report (rules_for line) kept) }
     answer = is-a ∙ ap (λ (r : Reader). asked r) stands.is ∙ ask_carried line kept stands.reached.few
 
-    pub summing_asked : (v s : ℕ) → v ≡ wrapped (weight_told a.report (get_or a.payload 0 0)) → s ≡ wrapped (sum + v) → Summing header checking input a.reader s rest
+    pub summing_asked : (v s : ℕ) → v ≡ wrapped (weight_told a.report (get_or a.payload 0 0)) → s ≡ wrapped (sum + v) → Summing header checking input a.reader s i
     unfolding handed
     summing_asked v s is-v is-s =
         let rules = rules_for line in
-        let more = map byte rest in
+        let more = map byte (drop i input) in
         let weighs : weight_told a.report (get_or a.payload 0 0) ≡ sum_of (handed rules kept) =
         ap (λ (x : Asked). weight_told x.report (get_or x.payload 0 0)) answer ∙ told_weighs rules (look rules kept.closed kept.bytes) in
         let after = read_on rules (after_report rules kept) more in
@@ -172,6 +172,7 @@ module _ (header : Header) (checking : Bool) (input : List ℕ) (reader : Reader
             is = ap (λ (x : Asked). x.reader) answer;
           };
           are_bytes = so_far.are_bytes;
+          inside = so_far.inside;
           fits = ap (λ (n : ℕ). wrapped n) is-s ∙ mod-mod (sum + v) (2 ^ 64) ∙ sym is-s;
           left = ap (λ (n : ℕ). wrapped (n + sum_of after)) (is-s ∙ ap (λ (n : ℕ). wrapped (sum + n)) (is-v ∙ ap (λ (n : ℕ). wrapped n) weighs))
               ∙ wraps_later sum (sum_of (handed rules kept)) (sum_of after)
@@ -179,24 +180,25 @@ module _ (header : Header) (checking : Bool) (input : List ℕ) (reader : Reader
               ∙ so_far.left;
         }
 
-    pub fewer_turns_asked : w ≡ true → turns_left rest a.reader < turns_left rest reader
+    pub fewer_turns_asked : w ≡ true → turns_left input a.reader i < turns_left input reader i
     fewer_turns_asked waits =
         let next : a.reader.len ≡ length (after_report (rules_for line) kept).bytes = ap (λ (x : Asked). x.reader.len) answer in
         omega (arith, len_is, next, report_shorter (rules_for line) kept (is_waiting ∙ waits))
 
   -- where nothing waits and no byte is left
-  pub summed : (e : Bool) → e ≡ (length rest == 0) → w ≡ false → e ≡ true → sum ≡ bench_sum header checking input
+  pub summed : w ≡ false → length input - i ≡ 0 → sum ≡ bench_sum header checking input
   unfolding sum_of
-  summed e is-e quiet none =
-      let past : length rest ≤ 0 = grind (arith, nat_tests) in
-      let nothing : read_on (rules_for line) kept (map byte rest) ≡ [] =
-      ap (λ (bs : List ℕ). read_on (rules_for line) kept (map byte bs)) (drop_of_length-le rest past) ∙ quiet_no_report (rules_for line) kept stands.settled (is_waiting ∙ quiet) in
+  summed quiet none =
+      let past : length input ≤ i = omega arith in
+      let over : drop i input ≡ [] = drop_of_length-le input past in
+      let nothing : read_on (rules_for line) kept (map byte (drop i input)) ≡ [] =
+      ap (λ (bs : List ℕ). read_on (rules_for line) kept (map byte bs)) over ∙ quiet_no_report (rules_for line) kept stands.settled (is_waiting ∙ quiet) in
       sym so_far.fits ∙ ap (λ (n : ℕ). wrapped n) (sym (add-zero sum)) ∙ ap (λ (these : List Report). wrapped (sum + sum_of these)) (sym nothing) ∙ so_far.left
 
   -- up to k of the bytes left are given
-  module _ (given : Gave) (k : ℕ) (is-given : given ≡ given_bytes reader (take k rest)) where
+  module _ (given : Gave) (k : ℕ) (is-given : given ≡ given_bytes reader (take k (drop i input))) where
     abbrev part : List ℕ
-    part = take k rest
+    part = take k (drop i input)
 
     there : Standing line kept (reader_of line kept)
     there = record { reached = stands.reached; settled = stands.settled; is = refl }
@@ -204,67 +206,55 @@ module _ (header : Header) (checking : Bool) (input : List ℕ) (reader : Reader
     gone : Took line kept part given
     gone =
         subst (λ (g : Gave). Took line kept part g) (sym (is-given ∙ ap (λ (r : Reader). given_bytes r part) stands.is))
-        (took line kept part there (bytes_take k rest so_far.are_bytes))
+        (took line kept part there (bytes_take k (drop i input) (bytes_drop i input so_far.are_bytes)))
 
-    part_long : length part ≤ length rest
-    part_long = simp length-take (omega arith)
+    part_long : length part ≤ length input - i
+    part_long = simp (length-take, length-drop) (omega arith)
 
-    pub given_inside : given.used ≤ length rest
-    given_inside = omega (arith, gone.within, part_long)
-
-    -- what is left behind the bytes that were taken, as the code cuts it out
-    abbrev onward : List ℕ
-    onward = take (length rest - given.used) (drop given.used rest)
-
-    all_onward : onward ≡ drop given.used rest
-    all_onward = take_all (length rest - given.used) (drop given.used rest) (simp length-drop (omega arith))
-
-    pub summing_given : Summing header checking input given.reader sum onward
+    pub summing_given : Summing header checking input given.reader sum (i + given.used)
     summing_given =
         let rules = rules_for line in
-        let split : part ++ drop k rest ≡ rest = take-append-drop k rest in
-        let behind : drop given.used part ++ drop k rest ≡ drop given.used rest =
-        sym (drop-append-le given.used part (drop k rest) gone.within) ∙ ap (drop given.used) split in
-        let reads : read_on rules kept (map byte rest) ≡ read_on rules gone.next (map byte (drop given.used rest)) =
-        ap (λ (bs : List ℕ). read_on rules kept (map byte bs)) (sym split)
-        ∙ gone.reads (drop k rest)
+        let rest = drop k (drop i input) in
+        let whole : part ++ rest ≡ drop i input = take-append-drop k (drop i input) in
+        let behind : drop given.used part ++ rest ≡ drop (i + given.used) input =
+        sym (drop-append-le given.used part rest gone.within) ∙ ap (drop given.used) whole ∙ drop-drop given.used i input in
+        let reads : read_on rules kept (map byte (drop i input)) ≡ read_on rules gone.next (map byte (drop (i + given.used) input)) =
+        ap (λ (bs : List ℕ). read_on rules kept (map byte bs)) (sym whole)
+        ∙ gone.reads rest
         ∙ ap (λ (bs : List ℕ). read_on rules gone.next (map byte bs)) behind in
-        rw all_onward
-        (record {
+        record {
           kept = gone.next;
           stands = gone.stands;
-          are_bytes = bytes_drop given.used rest so_far.are_bytes;
+          are_bytes = so_far.are_bytes;
+          inside = omega (arith, gone.within, part_long, so_far.inside);
           fits = so_far.fits;
           left = ap (λ (these : List Report). wrapped (sum + sum_of these)) (sym reads) ∙ so_far.left;
-        })
+        }
 
-    fewer_turns_given : w ≡ false → 0 < k → 0 < length rest → turns_left onward given.reader < turns_left rest reader
+    pub given_inside : i + given.used ≤ length input
+    given_inside = summing_given.inside
+
+    pub fewer_turns_given : w ≡ false → 0 < k → (length input - i ≡ 0 → ⊥) → turns_left input given.reader (i + given.used) < turns_left input reader i
     fewer_turns_given quiet some more =
-        let long : 0 < length part = simp length-take (omega arith) in
+        let long : 0 < length part = simp (length-take, length-drop) (omega arith) in
         let next : given.reader.len ≡ length gone.next.bytes = ap (λ (r : Reader). r.len) gone.stands.is in
-        let fewer : length onward ≡ length rest - given.used = ap length all_onward ∙ length-drop given.used rest in
-        omega (arith, fewer, next, gone.stands.reached.few, gone.within, part_long, gone.some (is_waiting ∙ quiet) long)
+        omega (arith, next, gone.stands.reached.few, gone.within, part_long, gone.some (is_waiting ∙ quiet) long)
 
-    pub fewer_turns_chunk : (chunk : ℕ) (e : Bool) → e ≡ (length rest == 0) → k ≡ min (length rest) chunk → w ≡ false → e ≡ false → (chunk ≡ 0 → ⊥)
-        → turns_left onward given.reader < turns_left rest reader
-    fewer_turns_chunk chunk e is-e is-k quiet more some =
-        let long : 0 < length rest = grind (arith, nat_tests) in
-        fewer_turns_given quiet (omega arith) long
+  -- a chunk of them is given
+  pub fewer_turns_chunk : (given : Gave) (chunk n : ℕ) → n ≡ min chunk (length input - i) → given ≡ given_bytes reader (take (i + n - i) (drop i input)) → w ≡ false
+      → (chunk ≡ 0 → ⊥) → (length input - i ≡ 0 → ⊥) → turns_left input given.reader (i + given.used) < turns_left input reader i
+  fewer_turns_chunk given chunk n is-n is-given quiet some more = fewer_turns_given given (i + n - i) is-given quiet (omega arith) more
 
   -- one byte is given
-  module _ (given : Given) (is-given : given ≡ given_byte reader (get_or rest 0 0)) (quiet : w ≡ false) (e : Bool) (is-e : e ≡ (length rest == 0)) (more : e ≡ false) where
-    pub some_left : 0 < length rest
-    some_left = grind (arith, nat_tests)
-
-    first_taken : take 1 rest ≡ get_or rest 0 0 ∷ []
-    first_taken = ap (take 1) (drop-cons rest 0 0 some_left)
-
-    one_given : gave 1 given.reader ≡ given_bytes reader (take 1 rest)
+  module _ (given : Given) (is-given : given ≡ given_byte reader (get_or input i 0)) (quiet : w ≡ false) (more : length input - i ≡ 0 → ⊥) where
+    one_given : gave 1 given.reader ≡ given_bytes reader (take 1 (drop i input))
     unfolding given_bytes
-    one_given = rw (first_taken, sym is-w ∙ quiet, is-given)
+    one_given =
+        let inside : i < length input = omega (arith, so_far.inside) in
+        rw (drop-cons input i 0 inside, sym is-w ∙ quiet, is-given)
 
-    pub summing_one : Summing header checking input given.reader sum (take (length rest - 1) (drop 1 rest))
+    pub summing_one : Summing header checking input given.reader sum (i + 1)
     summing_one = summing_given (gave 1 given.reader) 1 one_given
 
-    pub fewer_turns_one : turns_left (take (length rest - 1) (drop 1 rest)) given.reader < turns_left rest reader
-    fewer_turns_one = fewer_turns_given (gave 1 given.reader) 1 one_given quiet (omega arith) some_left
+    pub fewer_turns_one : turns_left input given.reader (i + 1) < turns_left input reader i
+    fewer_turns_one = fewer_turns_given (gave 1 given.reader) 1 one_given quiet (omega arith) more
