@@ -44,16 +44,14 @@ pub fn span_of(header: Header, look: Look) -> usize
     }
 }
 
-// How long the bytes must be before the frame that the first begins is whole; 0 where the length byte has not come. No `get`: short frames, as rt builds
-// them, were read a tenth slower by it.
+// How long the bytes must be before the frame that the first begins is whole; 0 where the length byte has not come.
 #[tactic(auto, unfolding(crate::specs::Inner::decided_at))]
 pub fn whole_at(header: Header, s: &[u8]) -> usize
     ensures { (result ≡ decided_at (header_bytes header) s.now) × (result ≤ longest_frame) }
 {
     let h = header.length();
-    if h < s.len() {
-        h + 1 + usize::from(s[h])
-    } else {
-        0
+    match s.get(h) {
+        Some(l) => h + 1 + usize::from(*l),
+        None => 0,
     }
 }
