@@ -24,7 +24,8 @@ use watch::WatchList;
 use wire::WORD_COUNT;
 
 impl Panel {
-    // Asks for a report: hands it over, acknowledges it, and does what an accepted frame says.
+    // Asks for a report: hands it over, acknowledges it, and does what an accepted frame says. Words, curve area and room each go on as a lent slice: 01 has the
+    // words so, commands are lent no curve area, and the reply has a part of the room alone.
     pub fn report(
         self,
         words: &mut [u16],

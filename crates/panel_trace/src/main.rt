@@ -55,7 +55,7 @@ const PIECE: usize = 65536;
 
 const ROOM: usize = 65536;
 
-// Reads standard input to its end, or until the trace has failed.
+// Reads standard input to its end, or until the trace has failed. Table, words, curve area and room go on as `Trace::step` is lent them.
 fn read_all(
     rt: &(impl Input + Print + Clock),
     table: &mut [u8],
