@@ -13,10 +13,10 @@
 //                           the second behind the last of a day is not the first of one; there is no such line
 #![tactic(auto)]
 
-use clock::{Date, Moment};
+use clock::Date;
 use say::Shown;
 use std::io::{self, BufWriter, Write};
-use walking::{MIDNIGHT, Walk};
+use walking::Walk;
 
 mod ends;
 mod judging;
@@ -52,11 +52,11 @@ fn walk<W: Write>(out: &mut W) -> io::Result<()> {
         days += walk.days;
         date = walk.date;
     }
-    let come = Moment {
-        date,
-        time: MIDNIGHT,
-    };
-    writeln!(out, "walked {days} days, to{}", Shown(come))?;
+    writeln!(
+        out,
+        "walked {days} days, to{}",
+        Shown(walking::midnight(date))
+    )?;
     let walk = walking::through_year(out, date)?;
     say_year(out, date, walk)
 }

@@ -1,6 +1,6 @@
 // From day to day by the clock: over the last second of each.
 ghost use Rattle.std.specs.Prelude.{◌≡◌, ◌≤◌, IfOk};
-ghost use Rattle.clock.specs.Passing.{tomorrow};
+ghost use Rattle.clock.specs.Passing.{timed, moment, tomorrow};
 
 use crate::say::Shown;
 use crate::sums;
@@ -10,7 +10,7 @@ use std::io::{self, Write};
 // More days than a year has. A walk ends behind so many whatever the clock does, since a proved loop has to end.
 const MANY_DAYS: usize = 400;
 
-pub const MIDNIGHT: Time = Time {
+const MIDNIGHT: Time = Time {
     hour: 0,
     minute: 0,
     second: 0,
@@ -30,15 +30,30 @@ pub struct Walk {
     pub value: u64,
 }
 
+pub fn midnight(date: Date) -> Moment
+    ensures { result ≡ moment date (timed 0 0 0) }
+{
+    Moment {
+        date,
+        time: MIDNIGHT,
+    }
+}
+
+fn last_second(date: Date) -> Moment
+    ensures { result ≡ moment date (timed 23 59 59) }
+{
+    Moment {
+        date,
+        time: LAST_SECOND,
+    }
+}
+
 // The day that the clock comes to behind the last second of a date; where it is not midnight then, that is said.
 #[tactic(auto, unfolding(clock::specs::Passing::next_second, clock::specs::Passing::ends_day))]
 fn day_behind<W: Write>(out: &mut W, date: Date) -> io::Result<Date>
     ensures { IfOk result (λ next. next ≡ tomorrow date) }
 {
-    let last = Moment {
-        date,
-        time: LAST_SECOND,
-    };
+    let last = last_second(date);
     let next = last.next();
     if next.time != MIDNIGHT {
         writeln!(out, "no midnight:{},{}", Shown(last), Shown(next))?;
