@@ -6,7 +6,7 @@ use native.Mathlib.Nat.{mul-le-mul_left, add-mul, div-add-mod', mod-lt, pos_of_n
 use native.Mathlib.Omega.{arith}
 use lib.IntN.{ℤ, pos, nat_abs, ◌+ℤ◌, ◌-ℤ◌}
 use lib.Signed.{le_z}
-use mir.Syntax.{w32}
+use mir.Syntax.{w64}
 use mir.Val.{Fits}
 use mir.Facts.{to_z-of_z}
 use Rattle.stores.specs.declared.Sheet.{Sheet}
@@ -33,8 +33,8 @@ module _ (product w : ℕ) (some : w ≡ 0 → ⊥) where
       let one : (product / w + 1) * w ≡ product / w * w + 1 * w = add-mul (product / w) 1 w in
       sym (nearest_is product w (pos_of_ne-zero some) (product / w + 1) (omega (arith, divided.0)) (omega (arith, divided.0, divided.1)))
 
-  -- w is 2 or more there, so that the quotient is at most half of what 32 bits hold
-  pub onward_fits : Fits w32 product → w - product % w ≤ product % w → Fits w32 (product / w + 1)
+  -- w is 2 or more there, so that the quotient is at most half of what 64 bits hold
+  pub onward_fits : Fits w64 product → w - product % w ≤ product % w → Fits w64 (product / w + 1)
   onward_fits fits h =
       let twice : product / w * 2 ≤ product / w * w = mul-le-mul_left (product / w) (omega (arith, divided.1)) in
       record { fits = omega (arith, divided.0, fits.fits) }

@@ -125,7 +125,7 @@ pub enum Sheet {
 
 impl Sheet {
     #[tactic(auto, unfolding(crate::specs::Slider::rounded_by))]
-    fn rounded(self, product: u32, w: u32) -> u32
+    fn rounded(self, product: u64, w: u64) -> u64
         ensures { result ≡ rounded_by self product w }
     {
         match self {
@@ -136,7 +136,7 @@ impl Sheet {
 }
 
 #[tactic(auto, unfolding(crate::specs::Slider::rounded_down))]
-fn rounded_down(product: u32, w: u32) -> u32
+fn rounded_down(product: u64, w: u64) -> u64
     ensures { result ≡ rounded_down product w }
 {
     product.checked_div(w).unwrap_or(0)
@@ -144,7 +144,7 @@ fn rounded_down(product: u32, w: u32) -> u32
 
 // What is left of the product is held against what is wanting, so that no product is too great.
 #[tactic(auto, using(crate::proofs::SliderAnswers::nearest_laws))]
-fn rounded_to_nearest(product: u32, w: u32) -> u32
+fn rounded_to_nearest(product: u64, w: u64) -> u64
     ensures { result ≡ rounded_to_nearest product w }
 {
     if w == 0 {
@@ -174,7 +174,7 @@ fn moved(sheet: Sheet, way: u16, first: u16, last: u16, at: u16) -> u16
 {
     let d = nearest_to(first, last, at).saturating_sub(first);
     let w = last.saturating_sub(first);
-    sheet.rounded(u32::from(way) * u32::from(d), u32::from(w)) as u16
+    sheet.rounded(u64::from(way) * u64::from(d), u64::from(w)) as u16
 }
 
 // Where a slider stands.
