@@ -38,7 +38,9 @@ fn take_block(held: &mut [u8], n: usize, need: usize, bytes: &[u8]) -> usize
     k
 }
 
-// How many bytes at the front are not the first header byte.
+// How many bytes at the front are not the first header byte. Not inlined: its loop is then so short that it is as fast wherever it lies. Inlined, it takes
+// up to half as long again where its last jump comes to lie across 32 bytes (docs/PROVING.md, "Speed of the program").
+#[inline(never)]
 #[tactic(auto, unfolding(crate::specs::Inner::noise_length))]
 fn noise_length(h1: u8, bytes: &[u8]) -> usize
     ensures { result ≡ noise_length h1 bytes.now }
