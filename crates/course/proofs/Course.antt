@@ -30,7 +30,6 @@ stride_is rules wait decided = true_is_not_false decided
 stride_is rules (bad body) decided = refl
 stride_is rules (accepted body) decided = omega arith
 
--- a place that does not report gives no report
 -- a step whose place is so many bytes further on
 abbrev pub further : ℕ → Step → Step
 further d step = step_at (d + step.place) step.seen
